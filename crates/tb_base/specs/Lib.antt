@@ -1,0 +1,5 @@
+pub mod Cells
+pub mod Numbers
+pub mod Persons
+pub mod Records
+pub mod Statuses

@@ -1,0 +1,37 @@
+// Numbers in decimal digits.
+
+ghost use Rattle.std.specs.Prelude.{◌≡◌, ◌≤◌, length, take, drop, decimal};
+ghost use Rattle.tb_base.specs.Numbers.{number_of};
+
+use itoa::Buffer;
+
+/// The number that the text spells in 1 to 10 decimal digits; leading zeros are allowed. None where
+/// the text is no such number or its value is above `u32::MAX`.
+pub fn read_number(text: &[u8]) -> Option<u32>
+    ensures { result ≡ number_of text.now }
+{
+    if text.is_empty() || text.len() > 10 {
+        return None;
+    }
+    let mut value: u32 = 0;
+    for c in text {
+        if !c.is_ascii_digit() {
+            return None;
+        }
+        value = value.checked_mul(10)?.checked_add(u32::from(*c - b'0'))?;
+    }
+    Some(value)
+}
+
+/// Writes the decimal digits of `value`, without leading zeros, at the start of `buf`, and answers
+/// how many they are. What stands after them stays.
+pub fn print_number(value: u32, buf: &mut [u8; 10]) -> usize
+    ensures digits { take result buf.new ≡ decimal value }
+    ensures rest { drop result buf.new ≡ drop result buf.old }
+    ensures within { result ≤ 10 }
+{
+    let mut digits = Buffer::new();
+    let text = digits.format(value).as_bytes();
+    buf[..text.len()].copy_from_slice(text);
+    text.len()
+}

@@ -1,0 +1,22 @@
+-- A release of the microdata.
+use Rattle.std.specs.Prelude.{ℕ, List, refl}
+use Rattle.std.specs.Coded.{Coded, code_by, coded×, coded_ℕ, coded_list}
+use Rattle.std.specs.FinMap as finmap
+use Rattle.std.specs.Ordering.{nat_cmp}
+use Rattle.tb_base.specs.declared.records.Record.{Record}
+use Rattle.tb_base.specs.Records.{record_code}
+
+-- the records, the key of each person who ever stood among them, the release's number, and how many changes led to it
+pub record ReleaseValue : Type 0 where
+  pub records : List Record
+  pub key_book : finmap.FinMap nat_cmp ℕ
+  pub number : ℕ
+  pub changes : ℕ
+
+-- how a release is stored, for the type that is seen as one
+abbrev pub release_code : Coded ReleaseValue
+release_code =
+    code_by (List Record × (finmap.FinMap nat_cmp ℕ × (ℕ × ℕ))) (coded× (coded_list record_code) (coded× (finmap.code coded_ℕ coded_ℕ) (coded× coded_ℕ coded_ℕ)))
+    (λ r. (r.records, (r.key_book, (r.number, r.changes))))
+    (λ p. record { records = p.0; key_book = p.1.0; number = p.1.1.0; changes = p.1.1.1 })
+    (λ _. refl)

@@ -1,0 +1,43 @@
+-- Two worlds that agree at a cell.
+use Rattle.std.specs.Prelude.{◌≡◌, ℕ, ℤ, List, sum_by, length, ◌%◌}
+use Rattle.tb_base.specs.declared.records.Record.{Record}
+use Rattle.tb_base.specs.Cells.{cell_of, key_range}
+use Rattle.tb_model.specs.Schemas.{SchemaValue}
+use Rattle.tb_model.specs.Perturbations.{shown, shown_text, perturbation}
+use Rattle.tb_model.specs.Queries.{QueryValue}
+use Rattle.tb_model.specs.Places.{Place, own_records}
+
+-- a schema, the pvalue at each row and cell key, a threshold, the records of a release, a query and a place of its table
+pub record World : Type 0 where
+  pub schema : SchemaValue
+  pub pvalues : ℕ → ℕ → ℤ
+  pub threshold : ℕ
+  pub records : List Record
+  pub query : QueryValue
+  pub place : Place
+
+-- the own records of the world's place
+abbrev pub own_of : World → List Record
+own_of w = own_records w.schema w.query w.place w.records
+
+-- their number, and the sum of their keys modulo the key range
+abbrev pub own_count : World → ℕ
+own_count w = length (own_of w)
+
+abbrev pub own_key : World → ℕ
+own_key w = sum_by (λ r. r.key) (own_of w) % key_range
+
+-- equally many own records with equal keys modulo the key range, equal thresholds, and one perturbation for that count and key
+pub record AgreeAt (v w : World) : Type 0 where
+  pub count : own_count v ≡ own_count w
+  pub key : own_key v ≡ own_key w
+  pub threshold : v.threshold ≡ w.threshold
+  pub same_perturbation : perturbation v.pvalues (own_count v) (own_key v) ≡ perturbation w.pvalues (own_count v) (own_key v)
+
+-- the text that is shown at the world's place
+abbrev pub text_at : World → List ℕ
+text_at w = shown_text (shown w.pvalues w.threshold (cell_of (own_of w)))
+
+-- where two worlds agree, the shown text is the same
+abbrev pub SameShown : Type 0
+SameShown = (v w : World) → AgreeAt v w → text_at v ≡ text_at w
