@@ -2,4 +2,5 @@ pub mod Cells
 pub mod Numbers
 pub mod Persons
 pub mod Records
+pub mod Sets
 pub mod Statuses
