@@ -1,4 +1,4 @@
-ghost use Rattle.std.specs.Prelude.{◌≡◌, ◌+◌};
+ghost use Rattle.std.specs.Prelude.{◌≡◌, ◌+◌, ◌<◌};
 
 use std::marker::Model;
 use std::sync::ledger::{Blank, Book, Ledger, Share};
@@ -26,7 +26,7 @@ impl<L: Ledger> Steps<L> {
     pub fn new(blank: Blank) -> Steps<L>
         requires name { blank.name ≡ L.name }
         requires parts { blank.parts ≡ L.parts }
-        requires one { L.parts ≡ 1 }
+        requires some { 0 < L.parts }
         ensures { result ≡ 0 }
     {
         let (book, share) = blank.open::<L>();
