@@ -3,43 +3,52 @@ use Rattle.std.specs.Prelude.{◌≡◌, refl, ℕ, List, [], ◌∷◌, codes, 
 use Rattle.std.specs.List.{range_with_len}
 use Rattle.tb_model.specs.declared.names.PerturbationLine.{PerturbationLine}
 use Rattle.tb_base.specs.declared.records.Record.{Record}
-use Rattle.tb_model.specs.Perturbations.{row_of_count, pvalue_at}
+use Rattle.tb_model.specs.Perturbations.{row_of_count}
+use Rattle.tb_model.specs.Releases.{first_release}
 use Rattle.tb_model.specs.Queries.{QueryValue}
-use Rattle.tb_model.specs.Places.{cells_of}
-use Rattle.tb_model.specs.Texts.{text_of_cells}
-use Rattle.tb_model.proofs.SetupS1.{person, line, schema, lines, records, sex, age, area, age2, table, with_totals, with_labels, where_in, where_not_in}
+use Rattle.tb_model.specs.Texts.{table_text}
+use Rattle.tb_model.proofs.SmallSetup.{person, line, setup, lines, records, sex, age, area, age2, table, with_totals, with_labels, where_in, where_not_in}
 use Rattle.tb_model.proofs.OnLiterals.{tables_on_literals}
 
+-- the table at release 0, above a threshold
 abbrev printed : ℕ → QueryValue → List ℕ
-printed threshold query = text_of_cells schema (pvalue_at lines) threshold query 0 (cells_of schema query records)
+printed threshold query = table_text (setup lines threshold) (first_release records) query
 
 one_variable : printed 0 (table (sex ∷ [])) ≡ codes "release 0\nSEX,count\n1,1\n2,2\n.\n"
 unfolding tables_on_literals
 one_variable = refl
 
-below_threshold : printed 2 (table (sex ∷ [])) ≡ codes "release 0\nSEX,count\n1,c\n2,2\n.\n"
+threshold_on_shown_count : printed 2 (table (sex ∷ [])) ≡ codes "release 0\nSEX,count\n1,c\n2,2\n.\n"
 unfolding tables_on_literals
-below_threshold = refl
+threshold_on_shown_count = refl
 
-margins : printed 0 (with_totals (table (sex ∷ []))) ≡ codes "release 0\nSEX,count\n1,1\n2,2\nTotal,6\n.\n"
+totals_are_cells_of_their_own : printed 0 (with_totals (table (sex ∷ []))) ≡ codes "release 0\nSEX,count\n1,1\n2,2\nTotal,6\n.\n"
 unfolding tables_on_literals
-margins = refl
+totals_are_cells_of_their_own = refl
 
-recode : printed 0 (table (age2 ∷ [])) ≡ codes "release 0\nAGE2,count\nyoung,1\nold,6\n.\n"
+same_records_by_a_recode : printed 0 (table (age2 ∷ [])) ≡ codes "release 0\nAGE2,count\nyoung,1\nold,6\n.\n"
 unfolding tables_on_literals
-recode = refl
+same_records_by_a_recode = refl
 
-filter_on_recode : printed 0 (with_totals (where_in (table (area ∷ [])) age2 (1 ∷ []))) ≡ codes "release 0\nAREA,count\nE1,1\nE2,1\nTotal,6\n.\n"
+same_records_by_a_filter : printed 0 (with_totals (where_in (table (area ∷ [])) age2 (1 ∷ []))) ≡ codes "release 0\nAREA,count\nE1,1\nE2,1\nTotal,6\n.\n"
 unfolding tables_on_literals
-filter_on_recode = refl
+same_records_by_a_filter = refl
 
-filter_negated : printed 0 (with_totals (where_not_in (table (sex ∷ [])) age (0 ∷ []))) ≡ codes "release 0\nSEX,count\n1,2\n2,2\nTotal,6\n.\n"
+same_records_by_a_negated_filter : printed 0 (with_totals (where_not_in (table (sex ∷ [])) age (0 ∷ []))) ≡ codes "release 0\nSEX,count\n1,2\n2,2\nTotal,6\n.\n"
 unfolding tables_on_literals
-filter_negated = refl
+same_records_by_a_negated_filter = refl
 
-labels_and_quotes : printed 0 (with_labels (with_totals (table (area ∷ sex ∷ [])))) ≡ codes "release 0\nAREA,SEX,count\n\"North, rural\",Male,2\n\"North, rural\",Female,0\n\"North, rural\",Total,2\nSouth,Male,1\nSouth,Female,2\nSouth,Total,1\nTotal,Male,1\nTotal,Female,2\nTotal,Total,6\n.\n"
+labels_with_commas : printed 0 (with_labels (with_totals (table (area ∷ sex ∷ [])))) ≡ codes "release 0\nAREA,SEX,count\n\"North, rural\",Male,2\n\"North, rural\",Female,0\n\"North, rural\",Total,2\nSouth,Male,1\nSouth,Female,2\nSouth,Total,1\nTotal,Male,1\nTotal,Female,2\nTotal,Total,6\n.\n"
 unfolding tables_on_literals
-labels_and_quotes = refl
+labels_with_commas = refl
+
+no_records : table_text (setup lines 0) (first_release []) (table (sex ∷ [])) ≡ codes "release 0\nSEX,count\n1,0\n2,0\n.\n"
+unfolding tables_on_literals
+no_records = refl
+
+no_records_below_threshold : table_text (setup lines 10) (first_release []) (table (sex ∷ [])) ≡ codes "release 0\nSEX,count\n1,c\n2,c\n.\n"
+unfolding tables_on_literals
+no_records_below_threshold = refl
 
 row_750 : row_of_count 750 ≡ Some 750
 row_750 = refl
@@ -57,21 +66,22 @@ row_1001 = refl
 abbrev crowd : ℕ → List Record
 crowd n = map (λ i. person i 1 (0 ∷ 0 ∷ 0 ∷ [])) (range_with_len 1 n)
 
-abbrev printed_of : List PerturbationLine → ℕ → List ℕ
-printed_of listed n = text_of_cells schema (pvalue_at listed) 0 (table (sex ∷ [])) 0 (cells_of schema (table (sex ∷ [])) (crowd n))
+-- their table, with one line of the perturbation table
+abbrev printed_of : PerturbationLine → ℕ → List ℕ
+printed_of listed n = table_text (setup (listed ∷ []) 0) (first_release (crowd n)) (table (sex ∷ []))
 
-crowd_750 : printed_of (line 750 238 (pos 3) ∷ []) 750 ≡ codes "release 0\nSEX,count\n1,753\n2,0\n.\n"
+shown_at_750 : printed_of (line 750 238 (pos 3)) 750 ≡ codes "release 0\nSEX,count\n1,753\n2,0\n.\n"
 unfolding tables_on_literals
-crowd_750 = refl
+shown_at_750 = refl
 
-crowd_751 : printed_of (line 501 239 (negsuc 0) ∷ []) 751 ≡ codes "release 0\nSEX,count\n1,750\n2,0\n.\n"
+shown_at_751 : printed_of (line 501 239 (negsuc 0)) 751 ≡ codes "release 0\nSEX,count\n1,750\n2,0\n.\n"
 unfolding tables_on_literals
-crowd_751 = refl
+shown_at_751 = refl
 
-crowd_1000 : printed_of (line 750 232 (pos 4) ∷ []) 1000 ≡ codes "release 0\nSEX,count\n1,1004\n2,0\n.\n"
+shown_at_1000 : printed_of (line 750 232 (pos 4)) 1000 ≡ codes "release 0\nSEX,count\n1,1004\n2,0\n.\n"
 unfolding tables_on_literals
-crowd_1000 = refl
+shown_at_1000 = refl
 
-crowd_1001 : printed_of (line 501 233 (pos 5) ∷ []) 1001 ≡ codes "release 0\nSEX,count\n1,1006\n2,0\n.\n"
+shown_at_1001 : printed_of (line 501 233 (pos 5)) 1001 ≡ codes "release 0\nSEX,count\n1,1006\n2,0\n.\n"
 unfolding tables_on_literals
-crowd_1001 = refl
+shown_at_1001 = refl

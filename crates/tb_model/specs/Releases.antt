@@ -1,5 +1,5 @@
 -- A release of the microdata.
-use Rattle.std.specs.Prelude.{ℕ, List, refl}
+use Rattle.std.specs.Prelude.{ℕ, List, map, refl}
 use Rattle.std.specs.Coded.{Coded, code_by, coded×, coded_ℕ, coded_list}
 use Rattle.std.specs.FinMap as finmap
 use Rattle.std.specs.Ordering.{nat_cmp}
@@ -12,6 +12,10 @@ pub record ReleaseValue : Type 0 where
   pub key_book : finmap.FinMap nat_cmp ℕ
   pub number : ℕ
   pub changes : ℕ
+
+-- release 0: the records of the microdata with their own keys, before any change
+abbrev pub first_release : List Record → ReleaseValue
+first_release people = record { records = people; key_book = finmap.from_entries (map (λ r. (r.person, r.key)) people); number = 0; changes = 0 }
 
 -- how a release is stored, for the type that is seen as one
 abbrev pub release_code : Coded ReleaseValue

@@ -6,6 +6,7 @@ use Rattle.tb_model.specs.declared.names.NameOf.TheVariants as name_of
 use Rattle.tb_model.specs.Schemas.{SchemaValue, CategoryValue}
 use Rattle.tb_model.specs.declared.names.PerturbationLine.{PerturbationLine}
 use Rattle.tb_model.specs.Queries.{QueryValue}
+use Rattle.tb_model.specs.Texts.{SetupValue}
 
 abbrev pub category : List ℕ → List ℕ → CategoryValue
 category code label = record { code = code; label = label }
@@ -36,6 +37,10 @@ records =
     ∷ person 103 20 (0 ∷ 2 ∷ 1 ∷ [])
     ∷ person 104 7 (1 ∷ 1 ∷ 1 ∷ [])
     ∷ []
+
+-- the setup with these lines of the perturbation table and this threshold
+abbrev pub setup : List PerturbationLine → ℕ → SetupValue
+setup listed threshold = record { schema = schema; lines = listed; threshold = threshold }
 
 abbrev pub sex : NameOf
 sex = name_of.Variable 0
