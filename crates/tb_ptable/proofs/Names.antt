@@ -3,7 +3,6 @@ use Rattle.std.proofs.Common.{◌≡◌, ◌≢◌, ◌⊎◌, ◌∙◌, sym, r
 use Rattle.std.specs.Prelude.{bytes_eq, codes, cond, count_by, Bool}
 use Rattle.std.proofs.lemmas.List.Sums.{sum_by-cons}
 use Rattle.tb_rows.specs.Columns.{only_place, places_from, the_only}
-use Rattle.tb_ptable.specs.declared.header.Columns.{Columns}
 use Rattle.tb_ptable.specs.Header.{columns_at, columns_of}
 use Rattle.tb_ptable.specs.WholeFiles.{IsNotOnce}
 
