@@ -7,7 +7,7 @@ use crate::answers::FileRead;
 use crate::files::Files;
 use std::alloc::Global;
 use std::fs;
-use std::fs::OpenFile;
+use std::fs::{Metadata, OpenFile};
 use std::io;
 use std::io::{ErrorKind, Read};
 use std::rt::Files as FileSystem;
@@ -57,13 +57,11 @@ fn read_file<R: FileSystem>(rt: &R, alloc: Global, name: &str, max: u64) -> io::
     ensures sure { IfOk result (λ answer. answer ≢ file_read.Failed) }
 {
     let file = fs::open(rt, name)?;
-    let size = file.metadata()?.len();
+    let size = size_of(&file.metadata()?);
     if size > max {
         return Ok(FileRead::TooLong);
     }
-    let mut bytes = Vec::new(alloc);
-    // One byte more, so that the end is found without growing.
-    bytes.reserve(room_for(size))?;
+    let mut bytes = Vec::with_capacity(alloc, room_for(size))?;
     file.take(max.saturating_add(1)).read_to_end(&mut bytes)?;
     if bytes.len() as u64 > max {
         return Ok(FileRead::TooLong);
@@ -71,7 +69,12 @@ fn read_file<R: FileSystem>(rt: &R, alloc: Global, name: &str, max: u64) -> io::
     Ok(FileRead::Bytes(bytes))
 }
 
-// One byte more than the size.
+// How many bytes the system tells of: none at what is no file proper, as a directory or a pipe.
+fn size_of(metadata: &Metadata) -> u64 {
+    if metadata.is_file() { metadata.len() } else { 0 }
+}
+
+// One byte more than the size, so that the end is found without growing.
 fn room_for(size: u64) -> usize {
     usize::try_from(size).unwrap_or(usize::MAX).saturating_add(1)
 }

@@ -1,6 +1,6 @@
-ghost use Rattle.std.specs.Prelude.{◌≡◌, ◌≤◌, ℕ, List, Option, length, take};
+ghost use Rattle.std.specs.Prelude.{◌≡◌, ◌≤◌, ℕ, List, Option};
 ghost use Rattle.tb_io.specs.Faults.{HasRisen};
-ghost use Rattle.tb_io.specs.Taken.{Took};
+ghost use Rattle.tb_io.specs.Taken.{Took, TookPart};
 ghost use Rattle.tb_io.specs.declared.answers.Wrote.TheVariants as wrote;
 
 use crate::answers::Wrote;
@@ -20,6 +20,5 @@ pub trait Sink {
         ensures count { faults self.old ≤ faults self.new }
         ensures failed { result ≡ wrote.Failed → HasRisen (faults self.old) (faults self.new) }
         ensures all { result ≡ wrote.All → Took (taken self.old) (taken self.new) bytes.now }
-        ensures part { result ≡ wrote.Failed
-            → ((k : ℕ) × Took (taken self.old) (taken self.new) (take k bytes.now)) };
+        ensures part { result ≡ wrote.Failed → TookPart (taken self.old) (taken self.new) bytes.now };
 }
