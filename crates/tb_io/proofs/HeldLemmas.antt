@@ -24,6 +24,6 @@ Gives-held old new name v bytes h e =
     record {
       here = bytes_of-held new name ∙ (rw (h name, itself, e) refl);
       others = λ other ne.
-        let apart : bytes_eq name other ≡ false = false_from_ne_true _ (λ t. ne (sym ((bytes_eq-Decides name other).0 t))) in
-        bytes_of-held new other ∙ (rw (h other, apart) (sym (bytes_of-held old other)));
+          let apart : bytes_eq name other ≡ false = false_from_ne_true _ (λ t. ne (sym ((bytes_eq-Decides name other).0 t))) in
+          bytes_of-held new other ∙ (rw (h other, apart) (sym (bytes_of-held old other)));
     }

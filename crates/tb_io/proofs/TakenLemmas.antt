@@ -1,6 +1,6 @@
 -- The bytes of several writes, one after another.
 use Rattle.std.proofs.Common.{◌≡◌, ◌∙◌, ap, sym, refl, ℕ, ◌+◌, List, [], ◌∷◌, ◌++◌, length, take, Some, None, Option, append_assoc, zero, suc, rules}
-use Rattle.std.proofs.Math.Seq.{take-append-add}
+use Rattle.std.proofs.Math.Seq.{take-append-add, take-length}
 use Rattle.tb_io.specs.Taken.{Took, TookPart}
 
 -- nothing is taken where nothing changes
@@ -27,12 +27,8 @@ pub TookPart-longer : (a b : Option (List ℕ)) (xs ys : List ℕ) → TookPart 
 TookPart-longer a b xs ys h = let r = take-longer h.0 xs ys in (r.0, rw r.1 h.1)
 
 -- all of a text is a part of it
-take-whole : (xs : List ℕ) → take (length xs) xs ≡ xs
-take-whole [] = refl
-take-whole (x ∷ xs) = ap (λ zs. x ∷ zs) (take-whole xs)
-
 pub TookPart-all : (a b : Option (List ℕ)) (xs : List ℕ) → Took a b xs → TookPart a b xs
-TookPart-all a b xs h = (length xs, rw take-whole h)
+TookPart-all a b xs h = (length xs, rw take-length h)
 
 -- a whole piece and then a part of the next one are a part of both together
 pub TookPart-append : (a b c : Option (List ℕ)) (xs ys : List ℕ) → Took a b xs → TookPart b c ys → TookPart a c (xs ++ ys)

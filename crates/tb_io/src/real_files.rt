@@ -6,11 +6,10 @@ ghost use Rattle.tb_io.specs.declared.answers.FileRead.TheVariants as file_read;
 use crate::answers::FileRead;
 use crate::files::Files;
 use std::alloc::Global;
-use std::fs;
 use std::fs::{Metadata, OpenFile};
-use std::io;
 use std::io::{ErrorKind, Read};
 use std::rt::Files as FileSystem;
+use std::{fs, io};
 
 /// The files of the system.
 ///
@@ -71,10 +70,16 @@ fn read_file<R: FileSystem>(rt: &R, alloc: Global, name: &str, max: u64) -> io::
 
 // How many bytes the system tells of: none at what is no file proper, as a directory or a pipe.
 fn size_of(metadata: &Metadata) -> u64 {
-    if metadata.is_file() { metadata.len() } else { 0 }
+    if metadata.is_file() {
+        metadata.len()
+    } else {
+        0
+    }
 }
 
 // One byte more than the size, so that the end is found without growing.
 fn room_for(size: u64) -> usize {
-    usize::try_from(size).unwrap_or(usize::MAX).saturating_add(1)
+    usize::try_from(size)
+        .unwrap_or(usize::MAX)
+        .saturating_add(1)
 }
