@@ -1,5 +1,5 @@
 -- Counts that rose.
-use Rattle.std.proofs.Common.{◌≡◌, ℕ, ◌<◌, ◌≤◌, inl, inr, arith}
+use Rattle.std.proofs.Common.{◌≡◌, ℕ, ◌≤◌, inl, inr, arith}
 use Rattle.tb_io.specs.Faults.{HasRisen, last_count}
 
 -- a count that had risen has risen at any later moment

@@ -1,10 +1,10 @@
 -- Files in memory, kept in a map from names to bytes.
-use Rattle.std.proofs.Common.{◌≡◌, ◌≢◌, ◌∙◌, ap, sym, refl, ℕ, Bool, true, false, List, [], ◌∷◌, Some, None, Option, inl, inr, string_bytes, String, Vec, Global}
+use Rattle.std.proofs.Common.{◌≡◌, ◌∙◌, sym, refl, ℕ, true, false, List, [], ◌∷◌, Some, inl, inr, string_bytes, String, Vec, Global}
 use Rattle.std.specs.Prelude.{bytes_eq, option_map}
 use Rattle.std.specs.Map.{lookup, update}
 use Rattle.std.proofs.lemmas.Bool.{cases_Bool, false_from_ne_true}
 use Rattle.std.proofs.lemmas.Slice.Eq.{bytes_eq-Decides}
-use Rattle.tb_io.specs.HeldFiles.{HeldFiles, bytes_of, held_of, Gives}
+use Rattle.tb_io.specs.HeldFiles.{bytes_of, held_of, Gives}
 
 -- a look-up of a name in the map finds what the files hold under it
 pub bytes_of-held : (entries : List (String Global × Vec ℕ Global)) (name : List ℕ)

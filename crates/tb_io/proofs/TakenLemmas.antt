@@ -1,5 +1,5 @@
 -- The bytes of several writes, one after another.
-use Rattle.std.proofs.Common.{◌≡◌, ◌∙◌, ap, sym, refl, ℕ, ◌+◌, List, [], ◌∷◌, ◌++◌, length, take, Some, None, Option, append_assoc, zero, suc, rules}
+use Rattle.std.proofs.Common.{◌≡◌, ◌∙◌, ap, refl, ℕ, ◌+◌, List, [], ◌∷◌, ◌++◌, length, take, Some, None, Option, append_assoc, zero, suc, rules}
 use Rattle.std.proofs.Math.Seq.{take-append-add, take-length}
 use Rattle.tb_io.specs.Taken.{Took, TookPart}
 

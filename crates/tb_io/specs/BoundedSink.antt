@@ -1,5 +1,5 @@
 -- A sink in memory that takes no more than a number of bytes.
-use Rattle.std.specs.Prelude.{◌≡◌, ℕ, ◌-◌, List, length, nat_lt, cond}
+use Rattle.std.specs.Prelude.{ℕ, ◌-◌, List, length, nat_lt, cond}
 
 -- the bytes taken, how many at most, and how many writes failed
 pub record BoundedSink : Type 0 where

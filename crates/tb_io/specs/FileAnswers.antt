@@ -1,5 +1,5 @@
 -- What a reading of a name may answer.
-use Rattle.std.specs.Prelude.{◌≡◌, ℕ, ◌<◌, ◌≤◌, List, length, Bool, true, false, nat_lt, cond, Option, None, Some, IsSomeAnd}
+use Rattle.std.specs.Prelude.{◌≡◌, ℕ, ◌<◌, ◌≤◌, List, length, Option, None, Some, IsSomeAnd}
 use Rattle.tb_io.specs.declared.answers.FileRead.{FileRead}
 use Rattle.tb_io.specs.declared.answers.FileRead.TheVariants.{Bytes, TooLong, Failed, Memory}
 

@@ -124,11 +124,7 @@ fn sure_sink(rt: HostRuntime) -> Result<(), Fail> {
 #[test]
 fn real_files(rt: HostRuntime) -> Result<(), Fail> {
     let place = env::temp_dir(&rt)?;
-    let name = format!(in rt.alloc();
-        "{}/tb_io_{}",
-        place.path_text(),
-        process::id(rt.process())
-    )?;
+    let name = format!(in rt.alloc(); "{}/tb_io_{}", place.path_text(), process::id(rt.process()))?;
     fs::write(&rt, name.as_str(), b"abc")?;
     let mut files = RealFiles::new(&rt);
     let cases: [(u64, &[u8]); 5] = [

@@ -1,5 +1,4 @@
-use Rattle.std.proofs.Common.{◌≡◌, ◌∙◌, ap, sym, refl}
-use Rattle.std.specs.Prelude.{option_map}
+use Rattle.std.proofs.Common.{refl}
 use Rattle.tb_io.proofs.HeldLemmas.{bytes_of-held}
 use Rattle.tb_io.proofs.held.Held.bytes.Goals as goal
 

@@ -1,4 +1,4 @@
-use Rattle.std.proofs.Common.{◌≡◌, ◌∙◌, ap, sym, refl, string_bytes, Some}
+use Rattle.std.proofs.Common.{string_bytes, Some}
 use Rattle.std.proofs.lemmas.Map.Text.{hash_map_updates_text}
 use Rattle.tb_io.proofs.HeldLemmas.{Gives-held}
 use Rattle.tb_io.proofs.held.Held.hold.Goals as goal
