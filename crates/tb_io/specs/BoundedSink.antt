@@ -1,5 +1,5 @@
 -- A sink in memory that takes no more than a number of bytes.
-use Rattle.std.specs.Prelude.{ℕ, ◌-◌, List, length, nat_lt, cond}
+use Rattle.std.specs.Prelude.{ℕ, ◌-◌, ◌==◌, if◌then◌else◌, List, length}
 
 -- the bytes taken, how many at most, and how many writes failed
 pub record BoundedSink : Type 0 where
@@ -9,4 +9,4 @@ pub record BoundedSink : Type 0 where
 
 -- how many bytes it still takes: none once a write failed
 abbrev pub room : BoundedSink → ℕ
-room sink = cond (nat_lt 0 sink.faults) 0 (sink.bound - length sink.taken)
+room sink = if sink.faults == 0 then sink.bound - length sink.taken else 0

@@ -47,7 +47,7 @@ Answers true held max answer = answer ≡ Failed
 Answers false None max answer = answer ≡ Failed
 Answers false (Some bytes) max answer = IsCopy bytes max answer
 
--- the calls and the faults after a reading with this answer
+-- the faults after a reading with this answer
 abbrev pub faults_after : ℕ → FileRead → ℕ
 faults_after faults Failed = one_more faults
 faults_after faults (Bytes v) = faults
