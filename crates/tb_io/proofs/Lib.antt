@@ -1,0 +1,3 @@
+pub mod FaultLemmas
+pub mod HeldLemmas
+pub mod TakenLemmas

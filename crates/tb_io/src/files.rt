@@ -1,0 +1,27 @@
+ghost use Rattle.std.specs.Prelude.{◌≡◌, ◌≤◌, ℕ, List, Option};
+ghost use Rattle.tb_io.specs.Faults.{HasRisen};
+ghost use Rattle.tb_io.specs.FileAnswers.{IsWithin, TellsOf};
+ghost use Rattle.tb_io.specs.declared.answers.FileRead.TheVariants as file_read;
+
+use crate::answers::FileRead;
+use std::alloc::Global;
+
+/// Files that are read by name.
+///
+/// No reading changes what a name holds. A fault is answered only where the count of faults rose in
+/// that call; a name that isn't there is a fault. `content` is the files' meaning, where they tell
+/// it: for each name its bytes, or None where the name isn't there.
+pub trait Files {
+    ghost faults: { Self → ℕ };
+
+    ghost content: { Self → Option (List ℕ → Option (List ℕ)) };
+
+    /// Reads the whole file of that name. It answers its bytes where they are at most `max`, and
+    /// TooLong exactly where they are more. It takes memory for the bytes.
+    fn read(&mut self, alloc: Global, name: &str, max: u64) -> FileRead
+        ensures count { faults self.old ≤ faults self.new }
+        ensures failed { result ≡ file_read.Failed → HasRisen (faults self.old) (faults self.new) }
+        ensures within { IsWithin max result }
+        ensures bytes { TellsOf (content self.old) name.now max result }
+        ensures same { content self.new ≡ content self.old };
+}
