@@ -1,23 +1,23 @@
 // The variables of a classification and their categories.
 
-ghost use Rattle.std.specs.Prelude.{◌≡◌, ◌<◌, ◌≤◌, ◌∷◌, ◌++◌, [], None, length, map, map as map_list, string_bytes, IfSome, IfOk, IsUtf8, slice_index_or, OnOk, OnErr, option_copied};
+ghost use Rattle.std.specs.Prelude.{◌≡◌, ◌≢◌, Ok, Err, IfErr, ◌<◌, ◌≤◌, ◌∷◌, ◌++◌, [], None, length, map, map as map_list, string_bytes, IfSome, IfOk, IsUtf8, slice_index_or, OnOk, OnErr, option_copied};
 ghost use Rattle.std.specs.Option.{ForSome};
 ghost use Rattle.std.specs.HashMap.{keys};
 ghost use Rattle.tb_model.specs.declared.names.NameOf.TheVariants as name_of;
 ghost use Rattle.tb_model.specs.Schemas.{category_count, codes_of, labels_of, name_text, recode_at, shape_of, variable_at};
+ghost use Rattle.tb_schema.specs.Classes.{classes_of};
 ghost use Rattle.tb_schema.specs.Names.{code_in, name_in, place_in, IsName};
 ghost use Rattle.tb_schema.specs.Sound.{AreSmall, sizes_of};
 ghost use Rattle.tb_schema.specs.Views.{category_view, recode_view, variable_view};
 
+use crate::classes::{Categories, read_variables};
+use crate::fault::SchemaFault;
 use indexmap::{IndexMap, IndexSet};
 use std::alloc::Global;
 use std::marker::Model;
 use std::str;
 use tb_base::{Memory, Shape};
 use tb_model::NameOf;
-
-/// A variable's codes with their labels, in order.
-pub type Categories = IndexMap<String, String>;
 
 /// A recode: the number of its variable, its groups, and the group of each category.
 #[derive(Drop)]
@@ -98,6 +98,21 @@ fn number(place: Option<usize>) -> Option<u16>
 }
 
 impl Schema {
+    /// Reads a classification: a CSV file with the columns `variable`, `code` and `label` in any
+    /// order, beside others, and a record for each category. Variables are numbered from 0 by first
+    /// appearance, and a variable's categories in the order of their records, which need not be
+    /// adjacent. The first fault of the file refuses it, with the number of its record from 1, or 0
+    /// for the header. It takes memory for the names, codes and labels.
+    pub fn read(alloc: Global, classes: &[u8]) -> Result<Schema, SchemaFault>
+        // What is read is what the file says.
+        ensures ok { IfOk result (λ schema. classes_of classes.now ≡ Ok schema) }
+        // A refusal is the first fault of the file. Memory can run out at any file.
+        ensures refused { IfErr result (λ e. e ≢ SchemaFault.Memory → classes_of classes.now ≡ Err e) }
+    {
+        let variables = read_variables(alloc, classes)?;
+        Ok(Schema::of(alloc, variables)?)
+    }
+
     /// A classification with these variables and no recodes.
     pub fn of(alloc: Global, variables: IndexMap<String, Categories>) -> Result<Schema, Memory>
         requires few { length variables.entries ≤ 64 }
