@@ -18,7 +18,7 @@ use Rattle.tb_model.specs.declared.names.NameOf.TheVariants as name_of
 use Rattle.std.specs.Map.{lookup}
 use Rattle.std.specs.Prelude.{string_eq, option_map}
 use Rattle.std.proofs.Common.{cond, ◌+◌, add_comm}
-use Rattle.tb_schema.specs.Sound.{AreSmall, AreSmallRecodes, IsSound, sizes_of}
+use Rattle.tb_schema.specs.Sound.{AreSmall, AreSmallRecodes, AreRecodesOf, IsRecodeOf, sizes_of}
 use Rattle.std.proofs.Common.{take}
 use Rattle.tb_schema.specs.Views.{category_view, variable_view, recode_view}
 
@@ -31,6 +31,12 @@ pub small_recode-at : (rs : List RecodeValue) (i : ℕ) (d : RecodeValue) → Ar
 small_recode-at [] i d s h = absurd (omega arith)
 small_recode-at (r ∷ rs) zero d s h = s.0
 small_recode-at (r ∷ rs) (suc i) d s h = small_recode-at rs i d s.1 (omega arith)
+
+-- a recode of a number groups the categories of its variable
+pub recode_of-at : (variables : List VariableValue) (rs : List RecodeValue) (i : ℕ) (d : RecodeValue) → AreRecodesOf variables rs → i < length rs → IsRecodeOf variables (get_or rs i d)
+recode_of-at variables [] i d s h = absurd (omega arith)
+recode_of-at variables (r ∷ rs) zero d s h = s.0
+recode_of-at variables (r ∷ rs) (suc i) d s h = recode_of-at variables rs i d s.1 (omega arith)
 
 pub small-push : (vs : List VariableValue) (v : VariableValue) → AreSmall vs → length v.categories ≤ 10000 → AreSmall (vs ++ v ∷ [])
 small-push [] v s h = (h, tt)
@@ -127,18 +133,6 @@ absent-from (e ∷ es) k h = elim (cases_Bool (bytes_eq (string_bytes k) (string
 pub absent-key : {S : Type 0} (es : List (String Global × HashMap (String Global) (String Global) S)) (k : String Global)
     → place_in (map (λ v. v.name) (map variable_view es)) (string_bytes k) ≡ None → lookup (string_eq k) es ≡ None
 absent-key es k h = absent-from es k (below-none _ _ (rw names-view at h))
-
--- a classification with one more variable
-pub sound-push : (s : SchemaValue) (v : VariableValue) → IsSound s → length s.variables < 64 → length v.categories ≤ 10000 → IsSound (record s { variables = s.variables ++ v ∷ [] })
-sound-push s v h few small = record {
-  variables = small-push s.variables v h.variables small;
-  recodes = h.recodes;
-  few_variables = omega (arith, length-append s.variables (v ∷ []));
-  few_recodes = h.few_recodes;
-}
-
-pub shape-push : (s : SchemaValue) (v : VariableValue) → shape_of (record s { variables = s.variables ++ v ∷ [] }) ≡ shape_of s ++ length v.categories ∷ []
-shape-push s v = map-append (λ v. length v.categories) s.variables (v ∷ [])
 
 -- one more size
 pub size-at : {S : Type 0} (es : List (String Global × HashMap (String Global) (String Global) S)) (i : ℕ) (e : String Global × HashMap (String Global) (String Global) S) → slice_get es i ≡ Some e

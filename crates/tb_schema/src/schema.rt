@@ -4,10 +4,10 @@ ghost use Rattle.std.specs.Prelude.{◌≡◌, ◌≢◌, Ok, Err, IfErr, ◌<�
 ghost use Rattle.std.specs.Option.{ForSome};
 ghost use Rattle.std.specs.HashMap.{keys};
 ghost use Rattle.tb_model.specs.declared.names.NameOf.TheVariants as name_of;
-ghost use Rattle.tb_model.specs.Schemas.{category_count, codes_of, labels_of, name_text, recode_at, shape_of, variable_at};
+ghost use Rattle.tb_model.specs.Schemas.{base_of, category_count, codes_of, labels_of, name_text, recode_at, recoded, shape_of, variable_at};
 ghost use Rattle.tb_schema.specs.Classes.{classes_of};
 ghost use Rattle.tb_schema.specs.Names.{code_in, name_in, place_in, IsName};
-ghost use Rattle.tb_schema.specs.Sound.{AreSmall, sizes_of};
+ghost use Rattle.tb_schema.specs.Sound.{AreSmall, IsRecodeOf, sizes_of};
 ghost use Rattle.tb_schema.specs.Views.{category_view, recode_view, variable_view};
 
 use crate::classes::{Categories, read_variables};
@@ -144,6 +144,7 @@ impl Schema {
         requires { r < length self.now.recodes }
         ensures value { recode_at self.now r ≡ recode_view (result.0.now, result.1.now) }
         ensures few { length (recode_at self.now r).groups ≤ 10000 }
+        ensures groups { IsRecodeOf self.now.variables (recode_at self.now r) }
     {
         match self.recodes.get_index(r as usize) {
             Some(found) => found,
@@ -161,7 +162,8 @@ impl Schema {
 
     /// How many recodes there are.
     pub fn recodes(&self) -> u16
-        ensures { result ≡ length self.now.recodes }
+        ensures count { result ≡ length self.now.recodes }
+        ensures few { result ≤ 256 }
     {
         self.recodes.len() as u16
     }
@@ -254,8 +256,19 @@ impl Schema {
     /// The variable that a recode groups.
     pub fn base_of(&self, recode: u16) -> u16
         requires { IsName self.now (name_of.Recode recode) }
-        ensures { result ≡ (recode_at self.now recode).variable }
+        ensures base { result ≡ (recode_at self.now recode).variable }
+        ensures within { result < length self.now.variables }
     {
         self.recode(recode).1.variable
+    }
+
+    /// The group into which a recode puts a category of its variable.
+    pub fn group_of(&self, recode: u16, category: u16) -> u16
+        requires name { IsName self.now (name_of.Recode recode) }
+        requires category { category < category_count self.now (name_of.Variable (base_of self.now (name_of.Recode recode))) }
+        ensures group { result ≡ recoded self.now (name_of.Recode recode) category }
+        ensures within { result < category_count self.now (name_of.Recode recode) }
+    {
+        self.recode(recode).1.group_of[category as usize]
     }
 }
