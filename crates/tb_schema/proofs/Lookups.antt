@@ -9,11 +9,12 @@ use Rattle.std.proofs.lemmas.Bool.Decides.{nat_tests}
 use Rattle.std.proofs.lemmas.List.{length-map}
 use Rattle.std.proofs.lemmas.Slice.Eq.{bytes_eq-Decides}
 use Rattle.std.proofs.lemmas.Str.{IsUtf8-string_bytes}
-use Rattle.tb_model.specs.Schemas.{SchemaValue, VariableValue, RecodeValue, shape_of}
+use Rattle.tb_model.specs.declared.names.NameOf.{NameOf}
+use Rattle.tb_model.specs.Schemas.{category_count, codes_of, SchemaValue, VariableValue, RecodeValue, shape_of}
 use Rattle.std.proofs.Common.{length-append}
 use Rattle.std.proofs.lemmas.List.{map-append}
 use Rattle.tb_schema.specs.declared.schema.Recode.{Recode as RecodeText}
-use Rattle.tb_schema.specs.Names.{place_in, name_in, variable_or}
+use Rattle.tb_schema.specs.Names.{code_in, place_in, name_in, variable_or}
 use Rattle.tb_model.specs.declared.names.NameOf.TheVariants as name_of
 use Rattle.std.specs.Map.{lookup}
 use Rattle.std.specs.Prelude.{string_eq, option_map}
@@ -157,3 +158,20 @@ small-entry {S} (x ∷ es) zero e h s =
     let same : x ≡ e = cc in
     omega (arith, s.0, length-map x.1.entries category_view, ap (λ (p : String Global × HashMap (String Global) (String Global) S). length p.1.entries) same)
 small-entry (x ∷ es) (suc i) e h s = small-entry es i e h s.1
+
+-- the place of a text is in range
+place-is : (b : Bool) (x i : ℕ) → cond b (Some x) None ≡ Some i → (b ≡ true) × (x ≡ i)
+place-is true x i h = (refl, cc)
+place-is false x i h = cc
+
+less : (n m : ℕ) → nat_lt n m ≡ true → n < m
+less n m h = grind (arith, nat_tests)
+
+pub place-below : (texts : List (List ℕ)) (text : List ℕ) (i : ℕ) → place_in texts text ≡ Some i → i < length texts
+place-below texts text i h =
+    let (b, e) = place-is _ _ i h in
+    omega (arith, less _ _ b, e)
+
+-- the category of a code that is there is in range
+pub code-below : (schema : SchemaValue) (of : NameOf) (code : List ℕ) (c : ℕ) → code_in schema of code ≡ Some c → c < category_count schema of
+code-below schema of code c h = place-below (codes_of schema of) code c h

@@ -8,7 +8,7 @@ use Rattle.tb_model.specs.Schemas.{VariableValue}
 use Rattle.tb_schema.specs.Names.{place_in}
 use Rattle.tb_schema.specs.Limits.{AreWithin, category_total}
 use Rattle.tb_schema.specs.Sound.{AreSmall}
-use Rattle.tb_schema.proofs.Lookups.{small-push}
+use Rattle.tb_schema.proofs.Lookups.{place-below, small-push}
 use Rattle.tb_schema.specs.Classes.{ClassLine, and_line, at_number, has_code, no_variable}
 
 small-set : (vs : List VariableValue) (i : ℕ) (w : VariableValue) → AreSmall vs → length w.categories ≤ 10000 → AreSmall (slice_set vs i w)
@@ -76,19 +76,6 @@ grown-old vs ws line i s inside h = elim (cases_Bool (has_code (get_or vs i no_v
         })
   ]
 ]
-
--- the place of a text is in range
-place-is : (b : Bool) (x i : ℕ) → cond b (Some x) None ≡ Some i → (b ≡ true) × (x ≡ i)
-place-is true x i h = (refl, cc)
-place-is false x i h = cc
-
-less : (n m : ℕ) → nat_lt n m ≡ true → n < m
-less n m h = grind (arith, nat_tests)
-
-place-below : (texts : List (List ℕ)) (text : List ℕ) (i : ℕ) → place_in texts text ≡ Some i → i < length texts
-place-below texts text i h =
-    let (b, e) = place-is _ _ i h in
-    omega (arith, less _ _ b, e)
 
 grown-at : (vs ws : List VariableValue) (line : ClassLine) (o : Option ℕ) → place_in (map (λ v. v.name) vs) line.name ≡ o → AreWithin vs → at_number vs line o ≡ Ok ws → Grown vs ws
 grown-at vs ws line None p s h = grown-new vs ws line s h

@@ -27,7 +27,10 @@ pub struct Recode {
     group_of: Vec<u16>,
 }
 
-/// A classification.
+/// A classification: the variables of the microdata with their categories, and the recodes, each of
+/// which groups a variable's categories. All are known by numbers from 0, in the order of first
+/// appearance in their file. Its look-ups take no memory. It has at most 64 variables of at most
+/// 10,000 categories each, and 256 recodes.
 #[derive(Drop)]
 pub struct Schema {
     variables: IndexMap<String, Categories>,
@@ -175,9 +178,10 @@ impl Schema {
         &self.shape
     }
 
-    /// What a text names.
+    /// The variable of a name, or else its recode, compared as bytes; none where the name isn't there.
     pub fn find(&self, name: &[u8]) -> Option<NameOf>
-        ensures { result ≡ name_in self.now name.now }
+        ensures found { result ≡ name_in self.now name.now }
+        ensures within { IfSome result (λ of. IsName self.now of) }
     {
         let variable = number(place_of(&self.variables, name));
         let recode = number(place_of(&self.recodes, name));
@@ -190,7 +194,7 @@ impl Schema {
         }
     }
 
-    /// The name itself.
+    /// The name of a variable or recode.
     pub fn name(&self, of: NameOf) -> &str
         requires { IsName self.now of }
         ensures { result.now ≡ name_text self.now of }
@@ -242,7 +246,7 @@ impl Schema {
         }
     }
 
-    /// The category or group with a code.
+    /// The category or group with a code, compared as bytes; none where the code isn't there.
     pub fn code_of(&self, of: NameOf, code: &[u8]) -> Option<u16>
         requires { IsName self.now of }
         ensures { result ≡ code_in self.now of code.now }
