@@ -1,13 +1,12 @@
 -- The variables of lines, and what one more line makes of them.
-use Rattle.std.proofs.Common.{◌≡◌, ◌∙◌, ap, sym, subst, refl, ℕ, zero, suc, ◌+◌, ◌<◌, Bool, true, false, cond, List, [], ◌∷◌, ◌++◌, ◌&&◌, ◌||◌, length, map, get_or, Option, Some, None, Result, Ok, Err, arith, inl, inr, add_comm, add-one}
-use Rattle.std.specs.Prelude.{bytes_eq, filter, slice_set, nat_le, nat_lt}
+use Rattle.std.proofs.Common.{◌≡◌, ◌∙◌, ap, sym, subst, refl, ℕ, suc, Bool, true, false, cond, List, [], ◌∷◌, ◌++◌, ◌||◌, length, map, get_or, Some, None, Ok, arith, inl, inr, add_comm, add-one}
+use Rattle.std.specs.Prelude.{bytes_eq, nat_le, nat_lt}
 use Rattle.std.specs.List.{list_any, position_or_len}
 use Rattle.std.proofs.lemmas.Bool.{cases_Bool}
 use Rattle.std.proofs.lemmas.Bool.Decides.{nat_tests}
 use Rattle.std.proofs.lemmas.List.Folds.{list_any-append}
 use Rattle.std.proofs.lemmas.Slice.Eq.{bytes_eq-Decides}
 use Rattle.tb_model.specs.Schemas.{VariableValue, CategoryValue}
-use Rattle.tb_schema.specs.Names.{place_in}
 use Rattle.tb_schema.specs.Classes.{ClassLine, and_line, at_number, has_code, no_variable, with_category}
 use Rattle.tb_schema.specs.WholeFiles.{and_name, names_after, categories_in, variables_in, repeats}
 

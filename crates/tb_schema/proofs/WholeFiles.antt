@@ -1,5 +1,5 @@
 -- The variables of a file, and its first fault, seen over all of its records.
-use Rattle.std.proofs.Common.{◌≡◌, ◌∙◌, ◌⊎◌, ap, sym, subst, refl, ℕ, ◌+◌, List, [], ◌∷◌, ◌++◌, length, map, false, Option, Some, None, Result, Ok, Err, arith, inl, inr, append_assoc}
+use Rattle.std.proofs.Common.{◌≡◌, ◌∙◌, ◌⊎◌, ap, sym, subst, refl, ℕ, ◌+◌, List, [], ◌∷◌, ◌++◌, length, map, Option, Some, None, Result, Ok, Err, arith, inl, inr, append_assoc}
 use Rattle.std.proofs.lemmas.List.{append-nil}
 use Rattle.tb_rows.specs.Records.{records_of}
 use Rattle.tb_model.specs.Schemas.{SchemaValue, VariableValue}
@@ -11,7 +11,7 @@ use Rattle.tb_schema.specs.declared.header.ClassColumns.{ClassColumns}
 use Rattle.tb_schema.specs.Classes.{ClassLine, and_line, classes_after, classes_in, classes_of, line_in, under_header, unless_refused}
 use Rattle.tb_schema.specs.Header.{columns_of}
 use Rattle.tb_schema.specs.Limits.{AreWithin}
-use Rattle.tb_schema.specs.WholeFiles.{AreLinesOf, AreNew, IsAccepted, IsFirstFault, IsHeaderFault, variables_in}
+use Rattle.tb_schema.specs.WholeFiles.{AreNew, IsAccepted, IsFirstFault, IsHeaderFault, variables_in}
 use Rattle.tb_schema.proofs.Lines.{goes}
 use Rattle.tb_schema.proofs.Within.{grown}
 
