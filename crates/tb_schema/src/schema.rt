@@ -1,23 +1,23 @@
 // The variables of a classification and their categories.
 
-ghost use Rattle.std.specs.Prelude.{◌≡◌, ◌<◌, ◌≤◌, ◌∷◌, ◌++◌, [], None, length, map, map as map_list, string_bytes, IfSome, IfOk, IsUtf8, slice_index_or, OnOk, OnErr, option_copied};
+ghost use Rattle.std.specs.Prelude.{◌≡◌, ◌≢◌, Ok, Err, IfErr, ◌<◌, ◌≤◌, ◌∷◌, ◌++◌, [], None, length, map, map as map_list, string_bytes, IfSome, IfOk, IsUtf8, slice_index_or, OnOk, OnErr, option_copied};
 ghost use Rattle.std.specs.Option.{ForSome};
 ghost use Rattle.std.specs.HashMap.{keys};
 ghost use Rattle.tb_model.specs.declared.names.NameOf.TheVariants as name_of;
-ghost use Rattle.tb_model.specs.Schemas.{category_count, codes_of, labels_of, name_text, recode_at, shape_of, variable_at};
+ghost use Rattle.tb_model.specs.Schemas.{base_of, category_count, codes_of, labels_of, name_text, recode_at, recoded, shape_of, variable_at};
+ghost use Rattle.tb_schema.specs.Classes.{classes_of};
 ghost use Rattle.tb_schema.specs.Names.{code_in, name_in, place_in, IsName};
-ghost use Rattle.tb_schema.specs.Sound.{AreSmall, sizes_of};
+ghost use Rattle.tb_schema.specs.Sound.{AreSmall, IsRecodeOf, sizes_of};
 ghost use Rattle.tb_schema.specs.Views.{category_view, recode_view, variable_view};
 
+use crate::classes::{Categories, read_variables};
+use crate::fault::SchemaFault;
 use indexmap::{IndexMap, IndexSet};
 use std::alloc::Global;
 use std::marker::Model;
 use std::str;
 use tb_base::{Memory, Shape};
 use tb_model::NameOf;
-
-/// A variable's codes with their labels, in order.
-pub type Categories = IndexMap<String, String>;
 
 /// A recode: the number of its variable, its groups, and the group of each category.
 #[derive(Drop)]
@@ -27,7 +27,10 @@ pub struct Recode {
     group_of: Vec<u16>,
 }
 
-/// A classification.
+/// A classification: the variables of the microdata with their categories, and the recodes, each of
+/// which groups a variable's categories. All are known by numbers from 0, in the order of first
+/// appearance in their file. Its look-ups take no memory. It has at most 64 variables of at most
+/// 10,000 categories each, and 256 recodes.
 #[derive(Drop)]
 pub struct Schema {
     variables: IndexMap<String, Categories>,
@@ -98,6 +101,21 @@ fn number(place: Option<usize>) -> Option<u16>
 }
 
 impl Schema {
+    /// Reads a classification: a CSV file with the columns `variable`, `code` and `label` in any
+    /// order, beside others, and a record for each category. Variables are numbered from 0 by first
+    /// appearance, and a variable's categories in the order of their records, which need not be
+    /// adjacent. The first fault of the file refuses it, with the number of its record from 1, or 0
+    /// for the header. It takes memory for the names, codes and labels.
+    pub fn read(alloc: Global, classes: &[u8]) -> Result<Schema, SchemaFault>
+        // What is read is what the file says.
+        ensures ok { IfOk result (λ schema. classes_of classes.now ≡ Ok schema) }
+        // A refusal is the first fault of the file. Memory can run out at any file.
+        ensures refused { IfErr result (λ e. e ≢ SchemaFault.Memory → classes_of classes.now ≡ Err e) }
+    {
+        let variables = read_variables(alloc, classes)?;
+        Ok(Schema::of(alloc, variables)?)
+    }
+
     /// A classification with these variables and no recodes.
     pub fn of(alloc: Global, variables: IndexMap<String, Categories>) -> Result<Schema, Memory>
         requires few { length variables.entries ≤ 64 }
@@ -129,6 +147,7 @@ impl Schema {
         requires { r < length self.now.recodes }
         ensures value { recode_at self.now r ≡ recode_view (result.0.now, result.1.now) }
         ensures few { length (recode_at self.now r).groups ≤ 10000 }
+        ensures groups { IsRecodeOf self.now.variables (recode_at self.now r) }
     {
         match self.recodes.get_index(r as usize) {
             Some(found) => found,
@@ -146,7 +165,8 @@ impl Schema {
 
     /// How many recodes there are.
     pub fn recodes(&self) -> u16
-        ensures { result ≡ length self.now.recodes }
+        ensures count { result ≡ length self.now.recodes }
+        ensures few { result ≤ 256 }
     {
         self.recodes.len() as u16
     }
@@ -158,9 +178,10 @@ impl Schema {
         &self.shape
     }
 
-    /// What a text names.
+    /// The variable of a name, or else its recode, compared as bytes; none where the name isn't there.
     pub fn find(&self, name: &[u8]) -> Option<NameOf>
-        ensures { result ≡ name_in self.now name.now }
+        ensures found { result ≡ name_in self.now name.now }
+        ensures within { IfSome result (λ of. IsName self.now of) }
     {
         let variable = number(place_of(&self.variables, name));
         let recode = number(place_of(&self.recodes, name));
@@ -173,7 +194,7 @@ impl Schema {
         }
     }
 
-    /// The name itself.
+    /// The name of a variable or recode.
     pub fn name(&self, of: NameOf) -> &str
         requires { IsName self.now of }
         ensures { result.now ≡ name_text self.now of }
@@ -225,7 +246,7 @@ impl Schema {
         }
     }
 
-    /// The category or group with a code.
+    /// The category or group with a code, compared as bytes; none where the code isn't there.
     pub fn code_of(&self, of: NameOf, code: &[u8]) -> Option<u16>
         requires { IsName self.now of }
         ensures { result ≡ code_in self.now of code.now }
@@ -239,8 +260,19 @@ impl Schema {
     /// The variable that a recode groups.
     pub fn base_of(&self, recode: u16) -> u16
         requires { IsName self.now (name_of.Recode recode) }
-        ensures { result ≡ (recode_at self.now recode).variable }
+        ensures base { result ≡ (recode_at self.now recode).variable }
+        ensures within { result < length self.now.variables }
     {
         self.recode(recode).1.variable
+    }
+
+    /// The group into which a recode puts a category of its variable.
+    pub fn group_of(&self, recode: u16, category: u16) -> u16
+        requires name { IsName self.now (name_of.Recode recode) }
+        requires category { category < category_count self.now (name_of.Variable (base_of self.now (name_of.Recode recode))) }
+        ensures group { result ≡ recoded self.now (name_of.Recode recode) category }
+        ensures within { result < category_count self.now (name_of.Recode recode) }
+    {
+        self.recode(recode).1.group_of[category as usize]
     }
 }
