@@ -1,6 +1,6 @@
 -- A row's record fits the classification.
-use Rattle.std.proofs.Common.{◌≡◌, ◌∙◌, ap, sym, refl, ℕ, zero, suc, ◌<◌, ◌≤◌, Bool, true, false, List, [], ◌∷◌, length, map, get_or, Option, Some, None, Ok, Err, arith}
-use Rattle.std.specs.Prelude.{All, bytes_eq, if◌then◌else◌, option_map, position, zip}
+use Rattle.std.proofs.Common.{◌≡◌, ◌∙◌, ap, sym, refl, ℕ, zero, suc, ◌<◌, ◌≤◌, Bool, true, false, List, [], ◌∷◌, length, map, get_or, Option, Some, None, Result, Ok, Err, arith}
+use Rattle.std.specs.Prelude.{IfOk, bytes_eq, if◌then◌else◌, option_map, zip}
 use Rattle.std.proofs.lemmas.List.{length-map}
 use Rattle.std.proofs.lemmas.List.Elements.{All-cons, All-nil}
 use Rattle.std.proofs.lemmas.List.Quantifiers.{position-Some}
@@ -8,12 +8,13 @@ use Rattle.tb_base.specs.Records.{AllFit, Fits}
 use Rattle.tb_base.specs.declared.records.Record.{Record}
 use Rattle.tb_model.specs.Schemas.{CategoryValue, SchemaValue, VariableValue, shape_of}
 use Rattle.tb_rows.specs.Columns.{all_some, only_place}
+use Rattle.tb_rows.specs.Records.{records_of}
 use Rattle.tb_schema.specs.Names.{place_in}
 use Rattle.tb_records.specs.Columns.{ColumnsValue, columns_at, columns_of}
-use Rattle.tb_records.specs.People.{categories_in, record_in, record_of, people_of}
-use Rattle.tb_records.specs.WholeFiles.{AreRecordsOf, IsAccepted}
+use Rattle.tb_records.specs.People.{people_after, people_of, record_in, record_of}
+use Rattle.tb_records.specs.declared.fault.PeopleFault.{PeopleFault}
 use Rattle.tb_records.specs.declared.fault.PeopleKind.{PeopleKind}
-use Rattle.tb_records.proofs.WholeFiles.{accepted}
+use Rattle.tb_records.proofs.WholeFiles.{accepted, in_file}
 
 -- the first value and the others
 then-some : {A : Type 0} (x : A) (o : Option (List A)) (xs : List A) → option_map (λ ys. x ∷ ys) o ≡ Some xs → (ys : List A) × (o ≡ Some ys) × (xs ≡ x ∷ ys)
@@ -94,5 +95,15 @@ people-fit schema bytes people h =
     length-all_some _ columns.variables variables ∙ length-map schema.variables (λ (v : VariableValue). only_place v.name header) ∙ ap (λ (s : SchemaValue). length s.variables) (sym same) in
     rw (← same) (rows-fit rows columns people long are.each)
 
-pub people-few : (schema : SchemaValue) (bytes : List ℕ) (people : List Record) → people_of schema bytes ≡ Ok people → length people ≤ 1000000
-people-few schema bytes people h = let (columns, rows, file, are) = accepted schema bytes people h in are.few
+-- the records that are read under a header fit, and are not too many
+pub read-fit : (r : Result (List Record) PeopleFault) (schema : SchemaValue) (bytes : List ℕ) (header : List (List ℕ)) (rows : List (List (List ℕ))) (columns : ColumnsValue) → records_of bytes ≡ header ∷ rows
+    → columns_of schema header ≡ Some columns → IfOk r (λ people. people_after columns 1 [] rows ≡ Ok people) → IfOk r (λ people. AllFit (shape_of schema) people)
+read-fit (Err e) schema bytes header rows columns b c h = tt
+read-fit (Ok people) schema bytes header rows columns b c h = people-fit schema bytes people (in_file schema bytes header rows columns b c ∙ h)
+
+pub read-few : (r : Result (List Record) PeopleFault) (schema : SchemaValue) (bytes : List ℕ) (header : List (List ℕ)) (rows : List (List (List ℕ))) (columns : ColumnsValue) → records_of bytes ≡ header ∷ rows
+    → columns_of schema header ≡ Some columns → IfOk r (λ people. people_after columns 1 [] rows ≡ Ok people) → IfOk r (λ people. length people ≤ 1000000)
+read-few (Err e) schema bytes header rows columns b c h = tt
+read-few (Ok people) schema bytes header rows columns b c h =
+    let (columns, rows, file, are) = accepted schema bytes people (in_file schema bytes header rows columns b c ∙ h) in
+    are.few

@@ -1,5 +1,5 @@
 -- The records of a file, and its first fault, seen over all of its rows.
-use Rattle.std.proofs.Common.{◌≡◌, ◌∙◌, ap, sym, refl, ℕ, ◌+◌, ◌≤◌, List, [], ◌∷◌, ◌++◌, length, length-append, map, true, false, Option, Some, None, Result, Ok, Err, arith, inl, inr, append_assoc, ◌⊎◌}
+use Rattle.std.proofs.Common.{◌≡◌, ◌∙◌, ap, sym, refl, ℕ, ◌+◌, ◌≤◌, List, [], ◌∷◌, ◌++◌, length, length-append, map, false, Option, Some, None, Result, Ok, Err, arith, inl, inr, append_assoc, ◌⊎◌}
 use Rattle.std.specs.Prelude.{nat_le}
 use Rattle.std.proofs.lemmas.List.{append-nil}
 use Rattle.std.proofs.lemmas.Bool.{cases_Bool}
@@ -10,7 +10,7 @@ use Rattle.tb_model.specs.Schemas.{SchemaValue}
 use Rattle.tb_rows.specs.Records.{records_of}
 use Rattle.tb_records.specs.Columns.{ColumnsValue, columns_of}
 use Rattle.tb_records.specs.People.{and_record, and_row, record_in, people_after, people_in, people_of, under_header, unless_refused}
-use Rattle.tb_records.specs.WholeFiles.{AreRecordsOf, HasNoHeader, IsAccepted, IsFirstFault, IsHeaderFault}
+use Rattle.tb_records.specs.WholeFiles.{HasNoHeader, IsAccepted, IsFirstFault, IsHeaderFault}
 use Rattle.tb_records.specs.declared.fault.PeopleFault.{PeopleFault}
 use Rattle.tb_records.specs.declared.fault.PeopleFault.TheVariants.{Refused}
 use Rattle.tb_records.specs.declared.fault.PeopleKind.{PeopleKind}
@@ -41,11 +41,11 @@ one_row columns n before all fields more (Err kind) e good rest h = cc
 one_row columns n before all fields more (Ok one) e good rest h = elim (cases_Bool (has_person before one.person)) [
   | inl t ↦ let g = rw t at h in cc
   | inr t ↦ elim (cases_Bool (nat_le 1000000 (length before))) [
-      | inl u ↦ let g = rw (t, u) at h in cc
-      | inr u ↦
-          let (new, same, each, fine) = rest (before ++ one ∷ []) (good-more before one good t u) (rw (t, u) at h) in
-          (one ∷ new, same ∙ append_assoc before (one ∷ []) new, cc, fine)
-    ]
+    | inl u ↦ let g = rw (t, u) at h in cc
+    | inr u ↦
+        let (new, same, each, fine) = rest (before ++ one ∷ []) (good-more before one good t u) (rw (t, u) at h) in
+        (one ∷ new, same ∙ append_assoc before (one ∷ []) new, cc, fine)
+  ]
 ]
 
 accepted_from : (more : List (List (List ℕ))) (columns : ColumnsValue) (n : ℕ) (before all : List Record) → AreGood before → people_after columns n before more ≡ Ok all → NewRecords columns before more all
@@ -99,7 +99,8 @@ rows_passed (fields ∷ front) rest columns n m before (one ∷ new) each good a
     ∙ rows_passed front rest columns (n + 1) m (before ++ one ∷ []) new others (rw (append_assoc before (one ∷ []) new) good) (omega (arith, at))
     ∙ ap (λ people. people_after columns m people rest) (append_assoc before (one ∷ []) new)
 
-in_file : (schema : SchemaValue) (bytes : List ℕ) (header : List (List ℕ)) (rows : List (List (List ℕ))) (columns : ColumnsValue) → records_of bytes ≡ header ∷ rows → columns_of schema header ≡ Some columns
+-- what a file says is what its rows say after its header
+pub in_file : (schema : SchemaValue) (bytes : List ℕ) (header : List (List ℕ)) (rows : List (List (List ℕ))) (columns : ColumnsValue) → records_of bytes ≡ header ∷ rows → columns_of schema header ≡ Some columns
     → people_of schema bytes ≡ people_after columns 1 [] rows
 in_file schema bytes header rows columns r c = ap (people_in schema) r ∙ ap (λ o. under_header o rows) c
 
@@ -134,12 +135,12 @@ there columns n before fields more kind m (Err found) e good rest h = here colum
 there columns n before fields more kind m (Ok one) e good rest h = elim (cases_Bool (has_person before one.person)) [
   | inl t ↦ here columns n before fields more kind PersonTwice m good (rw (e, t) refl) (rw t at h)
   | inr t ↦ elim (cases_Bool (nat_le 1000000 (length before))) [
-      | inl u ↦ here columns n before fields more kind TooMany m good (rw (e, t, u) refl) (rw (t, u) at h)
-      | inr u ↦
-          let (front, bad, back, new, split, each, fine, at, fault) = rest (before ++ one ∷ []) (good-more before one good t u) (rw (t, u) at h) in
-          let same = append_assoc before (one ∷ []) new in
-          (fields ∷ front, bad, back, one ∷ new, ap (λ x. fields ∷ x) split, cc, rw (← same) fine, omega arith, rw (← same) fault)
-    ]
+    | inl u ↦ here columns n before fields more kind TooMany m good (rw (e, t, u) refl) (rw (t, u) at h)
+    | inr u ↦
+        let (front, bad, back, new, split, each, fine, at, fault) = rest (before ++ one ∷ []) (good-more before one good t u) (rw (t, u) at h) in
+        let same = append_assoc before (one ∷ []) new in
+        (fields ∷ front, bad, back, one ∷ new, ap (λ x. fields ∷ x) {y = front ++ bad ∷ back} split, cc, rw (← same) fine, omega arith, rw (← same) fault)
+  ]
 ]
 
 refused_from : (more : List (List (List ℕ))) (columns : ColumnsValue) (n : ℕ) (before : List Record) (kind : PeopleKind) (m : ℕ) → AreGood before → people_after columns n before more ≡ Err (Refused kind m)
