@@ -5,7 +5,7 @@ use Rattle.std.proofs.lemmas.List.{get_or-map, length-map}
 use Rattle.tb_model.specs.Schemas.{SchemaValue, VariableValue, variable_at}
 use Rattle.tb_model.specs.declared.names.NameOf.TheVariants as name_of
 use Rattle.tb_schema.specs.Names.{place_in, code_in}
-use Rattle.tb_records.specs.Header.{all_some, place_of}
+use Rattle.tb_rows.specs.Columns.{all_some, only_place}
 
 -- the values so far and those to come, if these are there
 abbrev pub then_all : {A : Type 0} → List A → Option (List A) → Option (List A)
@@ -52,7 +52,7 @@ length-zip (x ∷ xs) (y ∷ ys) h = ap (λ n. suc n) (length-zip xs ys (omega a
 
 -- the places where variables stand
 abbrev pub variable_places : SchemaValue → List (List ℕ) → List (Option ℕ)
-variable_places schema fields = map (λ v. place_of v.name fields) schema.variables
+variable_places schema fields = map (λ v. only_place v.name fields) schema.variables
 
 -- the category that a row has at each place
 abbrev pub categories_at : SchemaValue → List ℕ → List (List ℕ) → List (Option ℕ)
@@ -60,11 +60,11 @@ categories_at schema places fields = map (λ d. place_in (map (λ c. c.code) d.0
 
 module _ (schema : SchemaValue) (v : ℕ) (fields : List (List ℕ)) (below : v < length schema.variables) where
   pub places-long : v < length (variable_places schema fields)
-  places-long = rw (length-map schema.variables (λ (v : VariableValue). place_of v.name fields)) below
+  places-long = rw (length-map schema.variables (λ (v : VariableValue). only_place v.name fields)) below
 
   -- the place of the variable of a number
-  pub place-at : get_or (variable_places schema fields) v None ≡ place_of (variable_at schema v).name fields
-  place-at = get_or-map (λ v. place_of v.name fields) schema.variables v (record { name = []; categories = [] }) None below
+  pub place-at : get_or (variable_places schema fields) v None ≡ only_place (variable_at schema v).name fields
+  place-at = get_or-map (λ v. only_place v.name fields) schema.variables v (record { name = []; categories = [] }) None below
 
   module _ (places : List ℕ) (long : length places ≡ length schema.variables) where
     pub categories-long : v < length (categories_at schema places fields)
