@@ -1,5 +1,5 @@
 -- The variables of a map whose categories are few.
-use Rattle.std.proofs.Common.{◌≡◌, ◌+◌, ◌≤◌, ap, ℕ, zero, suc, List, [], ◌∷◌, Some, length, map, drop, add-one, arith}
+use Rattle.std.proofs.Common.{◌≡◌, ◌≤◌, ap, ℕ, zero, suc, List, [], ◌∷◌, Some, length, map, drop, arith}
 use Rattle.std.specs.Prelude.{String, slice_get}
 use Rattle.std.specs.HashMap.{HashMap}
 use Rattle.std.specs.declared.alloc.Global.{Global}
