@@ -15,7 +15,8 @@ use Rattle.tb_records.specs.declared.fault.PeopleFault.{PeopleFault}
 use Rattle.tb_records.specs.declared.fault.PeopleFault.TheVariants.{Refused}
 use Rattle.tb_records.specs.declared.fault.PeopleKind.{PeopleKind}
 use Rattle.tb_records.specs.declared.fault.PeopleKind.TheVariants.{BadHeader, PersonTwice, TooMany}
-use Rattle.tb_records.proofs.Distinct.{distinct-more, distinct-new}
+use Rattle.tb_base.proofs.PersonLemmas.{AreDistinct-push}
+use Rattle.tb_records.proofs.Distinct.{distinct-new}
 
 -- records that may stand together
 AreGood : List Record → Type 0
@@ -29,7 +30,7 @@ good-more : (before : List Record) (one : Record) → AreGood before → has_per
 unfolding AreGood
 good-more before one good new room =
     let below : length before + 1 ≤ 1000000 = grind (arith, nat_tests) in
-    (distinct-more before one good.0 new, omega (arith, below, length-append before (one ∷ [])))
+    (AreDistinct-push before one good.0 new, omega (arith, below, length-append before (one ∷ [])))
 
 -- one row, and then those after it
 one_row : (columns : ColumnsValue) (n : ℕ) (before all : List Record) (fields : List (List ℕ)) (more : List (List (List ℕ))) (r : Result Record PeopleKind)

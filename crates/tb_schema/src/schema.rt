@@ -117,7 +117,10 @@ impl Schema {
     }
 
     /// A classification with these variables and no recodes.
-    pub fn of(alloc: Global, variables: IndexMap<String, Categories>) -> Result<Schema, Memory>
+    pub(crate) fn of(
+        alloc: Global,
+        variables: IndexMap<String, Categories>,
+    ) -> Result<Schema, Memory>
         requires few { length variables.entries ≤ 64 }
         requires small { AreSmall (map variable_view variables.entries) }
         ensures { IfOk result (λ s. s ≡ record { variables = map variable_view variables.entries; recodes = [] }) }
