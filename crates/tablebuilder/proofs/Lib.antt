@@ -1,0 +1,6 @@
+pub mod Asking
+pub mod Columns
+pub mod Finishing
+pub mod Running
+pub mod TableLines
+pub mod Taking

@@ -1,0 +1,6 @@
+use Rattle.std.proofs.Common.{◌≡◌, take}
+use Rattle.tablebuilder.proofs.Columns.{column}
+use Rattle.tablebuilder.proofs.count.count_by.Given as goal
+
+abbrev pub invariant-loop-record : goal.invariant-loop-record
+invariant-loop-record l = l.cells.items ≡ column l.variable l.categories (take l.record-index l.records)

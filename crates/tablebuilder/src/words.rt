@@ -1,0 +1,75 @@
+// The words of the command line.
+
+ghost use Rattle.std.specs.Prelude.{◌≡◌, map, string_bytes};
+ghost use Rattle.tablebuilder.specs.Commands.{command_of, is_file_name as names_a_file, threshold_of};
+
+use std::marker::Model;
+use tb_base::read_number;
+
+/// The greatest threshold.
+const MOST_THRESHOLD: u32 = 1_000_000;
+
+/// What a run over a script is asked for: the names of its files, and the threshold.
+#[derive(Drop)]
+pub struct Command<'a> {
+    pub classes: &'a str,
+    pub ptable: &'a str,
+    pub people: &'a str,
+    pub threshold: u32,
+    pub script: &'a str,
+}
+
+impl<'a> Model for Command<'a> {
+    ghost use Rattle.tablebuilder.specs.Commands.{CommandValue};
+
+    ghost Value = { CommandValue };
+
+    ghost view = { λ c. record { classes = c.classes.now; ptable = c.ptable.now; people = c.people.now; threshold = c.threshold; script = c.script.now } };
+}
+
+// Whether a word may be a file's name.
+fn is_file_name(word: &str) -> bool
+    ensures { result ≡ names_a_file word.now }
+{
+    match word.as_bytes() {
+        [] => false,
+        [first, ..] => *first != b'-',
+    }
+}
+
+fn read_threshold(word: &str) -> Option<u32>
+    ensures { result ≡ threshold_of word.now }
+{
+    let threshold = read_number(word.as_bytes())?;
+    if threshold <= MOST_THRESHOLD {
+        Some(threshold)
+    } else {
+        None
+    }
+}
+
+/// What the words `script CLASSES - PTABLE PEOPLE THRESHOLD SCRIPT` ask for. None at all other words.
+pub fn read_command(words: &[String]) -> Option<Command<'_>>
+    ensures { result ≡ command_of (map string_bytes words.now) }
+{
+    let [command, classes, recodes, ptable, people, threshold, script] = words else {
+        return None;
+    };
+    if command.as_str() != "script" || recodes.as_str() != "-" {
+        return None;
+    }
+    if !is_file_name(classes.as_str())
+        || !is_file_name(ptable.as_str())
+        || !is_file_name(people.as_str())
+        || !is_file_name(script.as_str())
+    {
+        return None;
+    }
+    Some(Command {
+        classes: classes.as_str(),
+        ptable: ptable.as_str(),
+        people: people.as_str(),
+        threshold: read_threshold(threshold.as_str())?,
+        script: script.as_str(),
+    })
+}
