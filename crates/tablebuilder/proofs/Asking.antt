@@ -2,7 +2,7 @@
 use Rattle.std.proofs.Common.{◌≡◌, ◌∙◌, sym, ap, ℕ, ◌+◌, List, [], ◌∷◌, ◌++◌, length, map, Option, Some, None, Ok, Err, refl, arith, append-nil}
 use Rattle.tb_rows.specs.Columns.{all_some}
 use Rattle.tb_model.specs.Schemas.{SchemaValue}
-use Rattle.tablebuilder.specs.Scripts.{all_or_first, asked_variable, before_missing, lines_in, script_of}
+use Rattle.tablebuilder.specs.Scripts.{asked_variable, before_missing, lines_in, script_of}
 
 -- values that are all there
 all_some-there : (vs : List ℕ) → all_some (map Some vs) ≡ Some vs

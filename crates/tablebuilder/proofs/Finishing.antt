@@ -1,18 +1,17 @@
 -- What a status tells, from how the run ended and what was taken of its last line.
-use Rattle.std.proofs.Common.{◌≡◌, ◌∙◌, sym, refl, ℕ, zero, suc, List, [], ◌∷◌, ◌++◌, take, Option, Some, None, Result, Ok, Err, inl, inr, append-nil}
+use Rattle.std.proofs.Common.{◌≡◌, sym, refl, ℕ, zero, suc, List, [], ◌++◌, take, Option, Some, None, Err, inl, inr, append-nil}
 use Rattle.std.specs.Prelude.{IfSome}
 use Rattle.std.specs.List.{concat}
 use Rattle.tb_io.specs.Taken.{Took, TookPart}
 use Rattle.tb_io.proofs.TakenLemmas.{Took-append, TookPart-append}
 use Rattle.tb_base.specs.declared.status.Status.{Status}
 use Rattle.tb_base.specs.declared.status.Status.TheVariants as status
-use Rattle.tablebuilder.specs.declared.endings.Input.{Input}
 use Rattle.tablebuilder.specs.declared.endings.Input.TheVariants as input
 use Rattle.tablebuilder.specs.declared.endings.End.{End}
 use Rattle.tablebuilder.specs.declared.endings.End.TheVariants as end
 use Rattle.tablebuilder.specs.Endings.{last_line, status_of}
 use Rattle.tablebuilder.specs.Runs.{Ends, some_tables, tables_of}
-use Rattle.tablebuilder.specs.Promises.{IsDefined, IsRefused, Tells}
+use Rattle.tablebuilder.specs.Promises.{IsDefined, Tells}
 
 -- nothing more was taken after a part
 part_then_nothing : (a b c : Option (List ℕ)) (xs : List ℕ) → TookPart a b xs → Took b c [] → TookPart a c xs

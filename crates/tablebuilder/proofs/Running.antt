@@ -1,7 +1,6 @@
 -- How a run ends, put together from its steps.
-use Rattle.std.proofs.Common.{◌≡◌, ◌∙◌, sym, ap, subst, refl, ℕ, ◌≤◌, List, [], length, take, Option, Some, None, Result, Ok, Err, arith}
-use Rattle.std.specs.Prelude.{IfSome, ok_or}
-use Rattle.std.specs.List.{concat}
+use Rattle.std.proofs.Common.{◌≡◌, ◌∙◌, subst, refl, ℕ, ◌≤◌, List, [], Option, Some, None, Result, Ok, Err, arith}
+use Rattle.std.specs.Prelude.{IfSome}
 use Rattle.tb_io.specs.Faults.{HasRisen}
 use Rattle.tb_model.specs.Texts.{SetupValue}
 use Rattle.tablebuilder.specs.declared.endings.Input.{Input}

@@ -1,5 +1,5 @@
 -- Texts that a sink takes one after another.
-use Rattle.std.proofs.Common.{◌≡◌, ◌∙◌, sym, ap, ℕ, zero, suc, ◌+◌, ◌<◌, ◌≤◌, List, [], ◌∷◌, ◌++◌, length, take, get_or, Option, refl, arith, append_assoc, append-nil, add-one}
+use Rattle.std.proofs.Common.{◌≡◌, ◌∙◌, sym, ap, ℕ, zero, suc, ◌+◌, ◌<◌, List, [], ◌∷◌, ◌++◌, length, take, get_or, Option, refl, arith, append_assoc, append-nil, add-one}
 use Rattle.std.specs.List.{concat}
 use Rattle.tb_io.specs.Taken.{Took, TookPart}
 use Rattle.tb_io.proofs.TakenLemmas.{Took-append, TookPart-append, TookPart-longer}

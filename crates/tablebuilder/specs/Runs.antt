@@ -1,5 +1,5 @@
 -- What a run prints, told by the words and the contents of the files alone, and how it may end.
-use Rattle.std.specs.Prelude.{◌≡◌, ℕ, List, [], ◌++◌, length, map, take, Option, Some, None, Result, Ok, Err, ok_or, nat_lt, ◌==◌, if◌then◌else◌}
+use Rattle.std.specs.Prelude.{◌≡◌, ℕ, List, [], length, map, take, Option, Some, None, Result, Ok, Err, ok_or, nat_lt, ◌==◌, if◌then◌else◌}
 use Rattle.std.specs.List.{concat}
 use Rattle.tb_base.specs.declared.records.Record.{Record}
 use Rattle.tb_model.specs.declared.names.PerturbationLine.{PerturbationLine}

@@ -1,4 +1,4 @@
-use Rattle.std.proofs.Common.{◌≤◌, ◌∙◌, sym, map, [], get_or, length, arith, refl}
+use Rattle.std.proofs.Common.{map, [], arith, refl}
 use Rattle.std.proofs.lemmas.List.{get_or-map, length-map}
 use Rattle.tablebuilder.proofs.Taking.{Took-more, TookPart-more}
 use Rattle.tablebuilder.proofs.endings.write_all.Goals as goal

@@ -1,4 +1,4 @@
-use Rattle.std.proofs.Common.{append_assoc, arith}
+use Rattle.std.proofs.Common.{arith}
 use Rattle.std.proofs.lemmas.Grind.{common_steps}
 use Rattle.tablebuilder.proofs.Taking.{TookPart-same}
 use Rattle.tablebuilder.proofs.endings.write_refusal.Goals as goal

@@ -1,4 +1,4 @@
-use Rattle.std.proofs.Common.{ap, ◌≡◌, ◌<◌, ◌≤◌, ◌∙◌, sym, map, [], get_or, length, arith, refl}
+use Rattle.std.proofs.Common.{ap, ◌≡◌, ◌<◌, ◌∙◌, sym, [], get_or, length, arith, refl}
 use Rattle.std.proofs.lemmas.List.{get_or-map, length-map}
 use Rattle.tb_io.proofs.FaultLemmas.{HasRisen-earlier}
 use Rattle.tb_model.specs.Releases.{first_release}

@@ -1,4 +1,4 @@
-use Rattle.std.proofs.Common.{append_assoc, arith}
+use Rattle.std.proofs.Common.{arith}
 use Rattle.std.proofs.lemmas.Grind.{common_steps}
 use Rattle.tablebuilder.proofs.Taking.{Took-same, TookPart-same}
 use Rattle.tablebuilder.proofs.endings.End.write_last_line.Goals as goal
