@@ -6,6 +6,7 @@
 
 mod count;
 mod endings;
+mod laws;
 mod load;
 mod print;
 mod script;

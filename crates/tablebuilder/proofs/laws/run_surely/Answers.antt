@@ -1,0 +1,18 @@
+use Rattle.std.proofs.Common.{inl, inr}
+use Rattle.tb_io.proofs.FaultLemmas.{HasRisen-zero}
+use Rattle.tablebuilder.proofs.laws.run_surely.Goals as goal
+
+pub returns-clause-read : goal.returns-clause-read
+returns-clause-read c = λ h. HasRisen-zero (c.tablebuilder.ensures.read_fault h)
+
+pub returns-clause-write : goal.returns-clause-write
+returns-clause-write c = λ h. HasRisen-zero (c.tablebuilder.ensures.write_fault h)
+
+pub returns-clause-defined : goal.returns-clause-defined
+returns-clause-defined c = elim c.tablebuilder.ensures.exact [
+  | inl defined ↦ inl defined
+  | inr other ↦ elim other [
+    | inl memory ↦ inr memory
+    | inr fault ↦ elim fault [ inl read ↦ absurd (HasRisen-zero read.1) | inr write ↦ absurd (HasRisen-zero write.1) ]
+  ]
+]
