@@ -13,7 +13,7 @@ use Rattle.tb_schema.specs.WholeFiles.{and_name, names_after, categories_in, var
 same : (a b : List ℕ) → bytes_eq a b ≡ true → a ≡ b
 same a b h = (bytes_eq-Decides a b).0 h
 
-itself : (a : List ℕ) → bytes_eq a a ≡ true
+pub itself : (a : List ℕ) → bytes_eq a a ≡ true
 itself a = (bytes_eq-Decides a a).1 refl
 
 -- the order of two texts doesn't matter
@@ -94,7 +94,7 @@ there-after [] names n h = h
 there-after (l ∷ lines) names n h = there-after lines (and_name names l.name) n (there-name names n l.name h)
 
 -- a name that isn't there has no categories
-none-of : (lines : List ClassLine) (names : List (List ℕ)) (name : List ℕ) → list_any (bytes_eq name) (names_after names lines) ≡ false → categories_in lines name ≡ []
+pub none-of : (lines : List ClassLine) (names : List (List ℕ)) (name : List ℕ) → list_any (bytes_eq name) (names_after names lines) ≡ false → categories_in lines name ≡ []
 none-of [] names name h = refl
 none-of (l ∷ lines) names name h = elim (cases_Bool (bytes_eq name l.name)) [
   | inl t ↦
@@ -105,7 +105,7 @@ none-of (l ∷ lines) names name h = elim (cases_Bool (bytes_eq name l.name)) [
 ]
 
 -- the variables of names, where f gives their categories
-named : (List ℕ → List CategoryValue) → List (List ℕ) → List VariableValue
+unfoldable pub named : (List ℕ → List CategoryValue) → List (List ℕ) → List VariableValue
 named f names = map (λ name. record { name = name; categories = f name }) names
 
 named-names : (names : List (List ℕ)) (f : List ℕ → List CategoryValue) → map (λ (v : VariableValue). v.name) (named f names) ≡ names
@@ -129,7 +129,7 @@ lt-suc a b = grind (arith, nat_tests)
 zero-lt : (b : ℕ) → nat_lt 0 (suc b) ≡ true
 zero-lt b = grind (arith, nat_tests)
 
-any-place : (names : List (List ℕ)) (p : List ℕ → Bool) → nat_lt (position_or_len p names) (length names) ≡ list_any p names
+pub any-place : (names : List (List ℕ)) (p : List ℕ → Bool) → nat_lt (position_or_len p names) (length names) ≡ list_any p names
 any-place [] p = refl
 any-place (n ∷ names) p = elim (cases_Bool (p n)) [
   | inl t ↦ rw t (zero-lt (length names))
@@ -137,7 +137,7 @@ any-place (n ∷ names) p = elim (cases_Bool (p n)) [
 ]
 
 -- the categories at the place of a name
-named-at : (names : List (List ℕ)) (f : List ℕ → List CategoryValue) (name : List ℕ) → list_any (bytes_eq name) names ≡ true
+pub named-at : (names : List (List ℕ)) (f : List ℕ → List CategoryValue) (name : List ℕ) → list_any (bytes_eq name) names ≡ true
     → (get_or (named f names) (position_or_len (bytes_eq name) names) no_variable).categories ≡ f name
 unfolding named
 named-at [] f name h = cc
@@ -170,7 +170,7 @@ named-push [] f name = refl
 named-push (n ∷ names) f name = ap (λ vs. let v : VariableValue = record { name = n; categories = f n } in v ∷ vs) (named-push names f name)
 
 -- a line of a new name
-line-new : (lines : List ClassLine) (line : ClassLine) → list_any (bytes_eq line.name) (names_after [] lines) ≡ false
+pub line-new : (lines : List ClassLine) (line : ClassLine) → list_any (bytes_eq line.name) (names_after [] lines) ≡ false
     → variables_in (lines ++ line ∷ []) ≡ variables_in lines ++ (record { name = line.name; categories = line.category ∷ [] }) ∷ []
 unfolding named
 line-new lines line h =
@@ -181,7 +181,7 @@ line-new lines line h =
     ∙ ap (λ cs. let v : VariableValue = record { name = line.name; categories = cs } in variables_in lines ++ v ∷ []) cats
 
 -- a line of a name that is there
-line-old : (lines : List ClassLine) (line : ClassLine) → list_any (bytes_eq line.name) (names_after [] lines) ≡ true
+pub line-old : (lines : List ClassLine) (line : ClassLine) → list_any (bytes_eq line.name) (names_after [] lines) ≡ true
     → variables_in (lines ++ line ∷ []) ≡ with_category (variables_in lines) (position_or_len (bytes_eq line.name) (names_after [] lines)) line.category
 unfolding Apart named
 line-old lines line h =
@@ -189,7 +189,7 @@ line-old lines line h =
     ∙ named-set (names_after [] lines) lines line (apart-after lines [] tt) h
 
 -- a line repeats another exactly where its variable has the code
-repeats-code : (lines : List ClassLine) (line : ClassLine) → repeats lines line ≡ list_any (λ c. bytes_eq line.category.code c.code) (categories_in lines line.name)
+pub repeats-code : (lines : List ClassLine) (line : ClassLine) → repeats lines line ≡ list_any (λ c. bytes_eq line.category.code c.code) (categories_in lines line.name)
 repeats-code [] line = refl
 repeats-code (l ∷ lines) line = elim (cases_Bool (bytes_eq line.name l.name)) [
   | inl t ↦ rw t (ap (λ b. bytes_eq line.category.code l.category.code || b) (repeats-code lines line))
@@ -228,7 +228,7 @@ goes-old lines line ws t h =
       ]
     ]
 
-number-of : (lines : List ClassLine) (line : ClassLine) → and_line (variables_in lines) (Ok line)
+pub number-of : (lines : List ClassLine) (line : ClassLine) → and_line (variables_in lines) (Ok line)
     ≡ at_number (variables_in lines) line (cond (list_any (bytes_eq line.name) (names_after [] lines)) (Some (position_or_len (bytes_eq line.name) (names_after [] lines))) None)
 unfolding named
 number-of lines line = rw (named-names (names_after [] lines) (categories_in lines), any-place (names_after [] lines) (bytes_eq line.name)) refl

@@ -1,5 +1,5 @@
 -- The variables of a file, and its first fault, seen over all of its records.
-use Rattle.std.proofs.Common.{◌≡◌, ◌∙◌, ◌⊎◌, ap, sym, subst, refl, ℕ, ◌+◌, List, [], ◌∷◌, ◌++◌, length, map, Option, Some, None, Result, Ok, Err, arith, inl, inr, append_assoc}
+use Rattle.std.proofs.Common.{◌≡◌, ◌∙◌, ◌⊎◌, ◌↔◌, ap, sym, subst, refl, ℕ, ◌+◌, List, [], ◌∷◌, ◌++◌, length, map, Option, Some, None, Result, Ok, Err, arith, inl, inr, append_assoc}
 use Rattle.std.proofs.lemmas.List.{append-nil}
 use Rattle.tb_rows.specs.Records.{records_of}
 use Rattle.tb_model.specs.Schemas.{SchemaValue, VariableValue}
@@ -7,12 +7,14 @@ use Rattle.tb_schema.specs.declared.fault.ClassFile.TheVariants.{Classes}
 use Rattle.tb_schema.specs.declared.fault.SchemaFault.{SchemaFault}
 use Rattle.tb_schema.specs.declared.fault.SchemaFault.TheVariants.{Refused}
 use Rattle.tb_schema.specs.declared.fault.SchemaKind.{SchemaKind}
+use Rattle.tb_schema.specs.declared.fault.SchemaKind.TheVariants.{BadHeader}
 use Rattle.tb_schema.specs.declared.header.ClassColumns.{ClassColumns}
 use Rattle.tb_schema.specs.Classes.{ClassLine, and_line, classes_after, classes_in, classes_of, line_in, under_header, unless_refused}
 use Rattle.tb_schema.specs.Header.{columns_of}
 use Rattle.tb_schema.specs.Limits.{AreWithin}
-use Rattle.tb_schema.specs.WholeFiles.{AreNew, IsAccepted, IsFirstFault, IsHeaderFault, variables_in}
+use Rattle.tb_schema.specs.WholeFiles.{AreNew, IsAccepted, IsFile, IsFirstFault, IsHeaderFault, LacksHeader, variables_in}
 use Rattle.tb_schema.proofs.Lines.{goes}
+use Rattle.tb_schema.proofs.Prefixes.{takes, within-front}
 use Rattle.tb_schema.proofs.Within.{grown}
 
 -- the schema of lines
@@ -65,7 +67,7 @@ from_records [] schema bytes r h = cc
 from_records (header ∷ rows) schema bytes r h = under rows header (columns_of header) schema bytes r refl h
 
 -- what is accepted has a line for each record, and their variables
-pub accepted : (bytes : List ℕ) (schema : SchemaValue) → classes_of bytes ≡ Ok schema → IsAccepted bytes schema
+accepted : (bytes : List ℕ) (schema : SchemaValue) → classes_of bytes ≡ Ok schema → IsAccepted bytes schema
 accepted bytes schema h = from_records (records_of bytes) schema bytes refl h
 
 -- the first fault of the records from number n on, after lines that were accepted
@@ -127,5 +129,56 @@ fault_in [] kind m bytes r h = inl (cc, cc, inl r)
 fault_in (header ∷ rows) kind m bytes r h = fault_under rows header (columns_of header) kind m bytes r refl h
 
 -- a refusal with a number is of that record, and the records before it have lines
-pub refused : (bytes : List ℕ) (kind : SchemaKind) (m : ℕ) → classes_of bytes ≡ Err (Refused Classes kind m) → IsHeaderFault bytes kind m ⊎ IsFirstFault bytes kind m
+refused : (bytes : List ℕ) (kind : SchemaKind) (m : ℕ) → classes_of bytes ≡ Err (Refused Classes kind m) → IsHeaderFault bytes kind m ⊎ IsFirstFault bytes kind m
 refused bytes kind m h = fault_in (records_of bytes) kind m bytes refl h
+
+-- records with lines go before the others
+after_front : (front : List (List (List ℕ))) (columns : ClassColumns) (n : ℕ) (before new : List ClassLine) (back : List (List (List ℕ)))
+    → map (line_in columns) front ≡ map (λ line. Ok line) new → AreNew before new → AreWithin (variables_in (before ++ new))
+    → classes_after columns n (variables_in before) (front ++ back) ≡ classes_after columns (length front + n) (variables_in (before ++ new)) back
+after_front [] columns n before [] back h fresh s = let same : n ≡ 0 + n = omega arith in rw append-nil (ap (λ m. classes_after columns m (variables_in before) back) same)
+after_front [] columns n before (line ∷ new) back h fresh s = cc
+after_front (fields ∷ front) columns n before [] back h fresh s = cc
+after_front (fields ∷ front) columns n before (line ∷ new) back h fresh s =
+    let e : line_in columns fields ≡ Ok line = cc in
+    let more : map (line_in columns) front ≡ map (λ line. Ok line) new = cc in
+    let all = append_assoc before (line ∷ []) new in
+    let within : AreWithin (variables_in ((before ++ line ∷ []) ++ new)) = subst (λ ls. AreWithin (variables_in ls)) (sym all) s in
+    let taken : and_line (variables_in before) (line_in columns fields) ≡ Ok (variables_in (before ++ line ∷ []))
+    = ap (and_line (variables_in before)) e ∙ takes before line fresh.0 (within-front (before ++ line ∷ []) new within) in
+    let count : length front + (n + 1) ≡ length (fields ∷ front) + n = omega arith in
+    ap (λ o. unless_refused n o (λ vs. classes_after columns (n + 1) vs (front ++ back))) taken
+    ∙ after_front front columns (n + 1) (before ++ line ∷ []) new back more fresh.1 within
+    ∙ ap (λ ls. classes_after columns (length front + (n + 1)) (variables_in ls) back) all ∙ ap (λ m. classes_after columns m (variables_in (before ++ line ∷ new)) back) count
+
+-- records under a header that is there
+of_file : (bytes : List ℕ) (columns : ClassColumns) (rows : List (List (List ℕ))) → IsFile bytes columns rows → classes_of bytes ≡ classes_after columns 1 [] rows
+of_file bytes columns rows (header, r, c) = rw (r, c) refl
+
+is_accepted : (bytes : List ℕ) (schema : SchemaValue) → IsAccepted bytes schema → classes_of bytes ≡ Ok schema
+is_accepted bytes schema (columns, rows, lines, file, are, same) =
+    of_file bytes columns rows file ∙ ap (λ x. classes_after columns 1 [] x) (sym (append-nil rows)) ∙ after_front rows columns 1 [] lines [] are.each are.new are.within ∙ ap (λ x. Ok x) (sym same)
+
+has_fault : (bytes : List ℕ) (kind : SchemaKind) (n : ℕ) → IsFirstFault bytes kind n → classes_of bytes ≡ Err (Refused Classes kind n)
+has_fault bytes kind n (columns, front, fields, back, before, file, are, at, fault) =
+    of_file bytes columns (front ++ fields ∷ back) file ∙ after_front front columns 1 [] before (fields ∷ back) are.each are.new are.within ∙ rw (fault, at) refl
+
+no_header : (bytes : List ℕ) → LacksHeader bytes → classes_of bytes ≡ Err (Refused Classes BadHeader 0)
+no_header bytes h = elim h [
+  | inl none ↦ rw none refl
+  | inr (header, rows, r, lacks) ↦ rw (r, lacks) refl
+]
+
+is_refused : (bytes : List ℕ) (kind : SchemaKind) (n : ℕ) → IsHeaderFault bytes kind n ⊎ IsFirstFault bytes kind n → classes_of bytes ≡ Err (Refused Classes kind n)
+is_refused bytes kind n h = elim h [
+  | inl (none_before, k, none) ↦ rw (k, none_before) (no_header bytes none)
+  | inr fault ↦ has_fault bytes kind n fault
+]
+
+-- a classification is accepted exactly where its records have lines, and their variables are its schema
+pub accepted_where : (bytes : List ℕ) (schema : SchemaValue) → (classes_of bytes ≡ Ok schema) ↔ IsAccepted bytes schema
+accepted_where bytes schema = (accepted bytes schema, is_accepted bytes schema)
+
+-- and refused exactly where it has no header, or a record has a fault and those before it have lines
+pub refused_where : (bytes : List ℕ) (kind : SchemaKind) (n : ℕ) → (classes_of bytes ≡ Err (Refused Classes kind n)) ↔ (IsHeaderFault bytes kind n ⊎ IsFirstFault bytes kind n)
+refused_where bytes kind n = (refused bytes kind n, is_refused bytes kind n)
