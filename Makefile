@@ -1,4 +1,4 @@
-.PHONY: test build demo
+.PHONY: test build demo bench bench-tools
 
 # The whole gate: every proof, the wrong bodies that must be refused, the tests and the program.
 test:
@@ -11,3 +11,14 @@ build:
 # The first table, from the files of examples/small.
 demo: build
 	cd examples/small && ../../crates/tablebuilder/out/tablebuilder script classes.csv - ptable.csv people.csv 0 script.txt
+
+# The program beside a plain one over generated persons: medians, spreads, peak memory and ratios.
+bench: bench-tools build
+	mkdir -p bench/out
+	rustc -O --edition 2021 -o bench/out/baseline bench/baseline.rs
+	python3 bench/bench.py crates/tablebuilder/out/tablebuilder bench/out/baseline
+
+bench-tools:
+	@for tool in rt rustc python3; do \
+		command -v $$tool >/dev/null || { echo "make bench needs $$tool, which is not on the path"; exit 1; }; \
+	done
