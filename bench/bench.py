@@ -1,10 +1,12 @@
 #!/usr/bin/env python3
-"""Measures the program beside the plain one and prints one table of medians, spreads and ratios.
+"""Measures the program beside the plain one and prints a table of medians, spreads and ratios.
 
-    bench.py PROGRAM BASELINE [RUNS]
+    bench.py PROGRAM BASELINE
 
-Both run over the same generated input, in turn, RUNS times each (5 at least). Their outputs must be
-equal byte by byte. Nothing here fails because of a time: a target that is missed is printed.
+Both run over the same generated input, in turn, and their outputs must be equal byte by byte. A
+ratio is the median of the ratios of runs that followed each other, so that what slows the machine
+for a while slows both sides of it. Nothing here fails because of a time: a target that is missed is
+printed.
 """
 import filecmp
 import os
@@ -20,12 +22,20 @@ START = 1
 THRESHOLD = 10
 SMALL, LARGE = 20_000, 1_000_000
 ONE, MANY = 1, 1_000
+RUNS = {ONE: 15, MANY: 5}
+CASES = [
+    (SMALL, "ascending", ONE),
+    (SMALL, "ascending", MANY),
+    (LARGE, "ascending", ONE),
+    (LARGE, "ascending", MANY),
+    (LARGE, "shuffled", ONE),
+]
 VARIABLES = ["AREA", "AGE", "SEX", "TENURE"]
 MIB = 1024 * 1024
 
 
 class Case:
-    """One input and script, and what each program took over it."""
+    """An input and a script: what each program took over it, run by run, and held at its peak."""
 
     def __init__(self, persons, order, lines):
         self.persons, self.order, self.lines = persons, order, lines
@@ -34,6 +44,13 @@ class Case:
 
     def median(self, who):
         return statistics.median(self.seconds[who])
+
+    def ratio(self):
+        return median_ratio(self.seconds["program"], self.seconds["baseline"])
+
+
+def median_ratio(ours, plain):
+    return statistics.median(a / b for a, b in zip(ours, plain))
 
 
 def make_input(folder, persons, order):
@@ -47,61 +64,76 @@ def make_script(path, lines):
             out.write(f"a table {VARIABLES[line % len(VARIABLES)]}\n")
 
 
-def run(program, folder, script, out):
-    """Runs once; answers the seconds that passed and the bytes that it held at its peak."""
+def words_of(program, folder, script):
     files = [f"{folder}/classes.csv", "-", f"{folder}/ptable.csv", f"{folder}/people.csv"]
-    words = [program, "script", *files, str(THRESHOLD), script]
-    flags = os.O_WRONLY | os.O_CREAT | os.O_TRUNC
-    into = [(os.POSIX_SPAWN_OPEN, 1, out, flags, 0o644)]
-    before = time.perf_counter()
-    child = os.posix_spawn(program, words, os.environ, file_actions=into)
-    _, status, used = os.wait4(child, 0)
-    passed = time.perf_counter() - before
-    if os.waitstatus_to_exitcode(status) != 0:
-        sys.exit(f"bench: {' '.join(words)} ended with {os.waitstatus_to_exitcode(status)}")
-    return passed, used.ru_maxrss * 1024
+    return [program, "script", *files, str(THRESHOLD), script]
 
 
-def measure(case, programs, folder, runs):
+def seconds_of(words, path):
+    """Runs once, with the output into a file, and answers the seconds that passed."""
+    with open(path, "wb") as out:
+        before = time.perf_counter()
+        subprocess.run(words, stdout=out, check=True)
+        return time.perf_counter() - before
+
+
+def peak_of(words):
+    """Runs once more and answers the most bytes that the process held, as the system last told."""
+    peak = 0
+    with subprocess.Popen(words, stdout=subprocess.DEVNULL) as child:
+        while child.poll() is None:
+            with open(f"/proc/{child.pid}/status", encoding="ascii") as status:
+                told = [line.split()[1] for line in status if line.startswith("VmHWM")]
+            peak = max([peak, *(int(kib) * 1024 for kib in told)])
+    return peak
+
+
+def measure(case, programs, folder):
     script = f"{folder}/script{case.lines}.txt"
     make_script(script, case.lines)
-    for _ in range(runs):
-        for who, program in programs.items():
-            passed, peak = run(program, folder, script, f"{folder}/{who}.out")
-            case.seconds[who].append(passed)
-            case.peak[who] = max(case.peak[who], peak)
+    words = {who: words_of(program, folder, script) for who, program in programs.items()}
+    for _ in range(RUNS[case.lines]):
+        for who in programs:
+            case.seconds[who].append(seconds_of(words[who], f"{folder}/{who}.out"))
         if not filecmp.cmp(f"{folder}/program.out", f"{folder}/baseline.out", shallow=False):
             sys.exit(f"bench: the outputs over {folder} differ")
+    for who in programs:
+        case.peak[who] = peak_of(words[who])
 
 
-def milliseconds(seconds):
-    return f"{statistics.median(seconds) * 1e3:.0f} ({min(seconds) * 1e3:.0f} to {max(seconds) * 1e3:.0f})"
+def spread(seconds):
+    middle, least, most = statistics.median(seconds), min(seconds), max(seconds)
+    return f"{middle * 1e3:.0f} ({least * 1e3:.0f} to {most * 1e3:.0f})"
 
 
 def print_runs(cases):
-    print("| Persons | Order | Lines | Program, ms | Plain, ms | Ratio | Program, MiB | Plain, MiB |")
-    print("|---|---|---|---|---|---|---|---|")
+    print("| Persons | Order | Lines | Runs | Program, ms | Plain, ms | Ratio | Program, MiB | Plain, MiB |")
+    print("|---|---|---|---|---|---|---|---|---|")
     for case in cases:
-        ours, plain = case.seconds["program"], case.seconds["baseline"]
-        ratio = case.median("program") / case.median("baseline")
+        times = " | ".join(spread(case.seconds[who]) for who in case.seconds)
         peaks = " | ".join(f"{case.peak[who] / MIB:.0f}" for who in case.peak)
-        print(f"| {case.persons:,} | {case.order} | {case.lines:,} | {milliseconds(ours)} | {milliseconds(plain)} | {ratio:.2f} | {peaks} |")
+        print(f"| {case.persons:,} | {case.order} | {case.lines:,} | {RUNS[case.lines]} | {times} | {case.ratio():.2f} | {peaks} |")
+
+
+def further_tables(one, many, who):
+    """The seconds that each table after the first took, run by run."""
+    return [(seconds - one.median(who)) / (MANY - ONE) for seconds in many.seconds[who]]
 
 
 def print_targets(at):
     """Prints each target with what was reached; `at` finds a case by persons, order and lines."""
     one, many = at[LARGE, "ascending", ONE], at[LARGE, "ascending", MANY]
-    further = {who: (many.median(who) - one.median(who)) / (MANY - ONE) for who in one.seconds}
+    ours, plain = further_tables(one, many, "program"), further_tables(one, many, "baseline")
+    tables = f"{statistics.median(ours) * 1e3:.1f} ms beside {statistics.median(plain) * 1e3:.1f} ms"
+    peak = max(case.peak["program"] for case in (one, many)) / MIB
     growth = one.median("program") / at[SMALL, "ascending", ONE].median("program")
     shuffled = at[LARGE, "shuffled", ONE]
-    peak = max(case.peak["program"] for case in (one, many)) / MIB
-    ratio = lambda case: case.median("program") / case.median("baseline")
     rows = [
-        (f"{LARGE:,} persons, one line: time beside the plain program", ratio(one), 0.6),
-        (f"each further table: {further['program'] * 1e3:.2f} ms beside {further['baseline'] * 1e3:.2f} ms", further["program"] / further["baseline"], 0.7),
+        (f"{LARGE:,} persons, one line: time beside the plain program", one.ratio(), 0.6),
+        (f"each further table, {tables}", median_ratio(ours, plain), 0.7),
         ("peak memory of the process, MiB", peak, 90),
         (f"time at {LARGE:,} beside {SMALL:,} persons", growth, 55),
-        ("persons in another order: time beside the plain program", ratio(shuffled), None),
+        ("persons in another order: time beside the plain program", shuffled.ratio(), None),
         ("persons in another order: peak memory, MiB", shuffled.peak["program"] / MIB, None),
     ]
     print("| What | Reached | At most | |")
@@ -118,23 +150,20 @@ def machine():
     return f"{time.strftime('%Y-%m-%d')}, {os.cpu_count()} cores, {name}"
 
 
-def main(program, baseline, runs="5"):
+def main(program, baseline):
     programs = {"program": os.path.abspath(program), "baseline": os.path.abspath(baseline)}
-    runs = max(5, int(runs))
-    cases = []
+    cases = [Case(*of) for of in CASES]
     with tempfile.TemporaryDirectory(prefix="tablebuilder-bench-") as top:
-        for persons, order in [(SMALL, "ascending"), (LARGE, "ascending"), (LARGE, "shuffled")]:
-            folder = f"{top}/{persons}-{order}"
-            os.mkdir(folder)
-            make_input(folder, persons, order)
-            for lines in [ONE, MANY] if order == "ascending" else [ONE]:
-                case = Case(persons, order, lines)
-                measure(case, programs, folder, runs)
-                cases.append(case)
-    print(f"{machine()}; {runs} runs each, in turn; median (least to most); outputs equal byte by byte\n")
+        for case in cases:
+            folder = f"{top}/{case.persons}-{case.order}"
+            if not os.path.isdir(folder):
+                os.mkdir(folder)
+                make_input(folder, case.persons, case.order)
+            measure(case, programs, folder)
+    print(f"{machine()}; median (least to most); outputs equal byte by byte\n")
     print_runs(cases)
     print()
-    print_targets({(case.persons, case.order, case.lines): case for case in cases})
+    print_targets(dict(zip(CASES, cases)))
 
 
 if __name__ == "__main__":
