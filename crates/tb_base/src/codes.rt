@@ -1,21 +1,25 @@
 ghost use Rattle.std.specs.Prelude.{◌≡◌, ◌<◌, length, slice_index, IfOk};
 
 use crate::memory::Memory;
+use smallvec::SmallVec;
 use std::alloc::Global;
 use std::marker::Model;
 
-/// How many category numbers are kept in place, without an allocation of their own: as many as make
-/// a record half a cache line, since counting reads every record.
-const IN_PLACE: usize = 11;
+/// How many category numbers are kept in place, without an allocation of their own. Counting reads
+/// every record, so a record is to be small: with these it has 24 bytes.
+const IN_PLACE: usize = 7;
+
+/// How many are kept in one allocation, where they are more.
+const IN_ONE_PIECE: usize = 20;
 
 /// The numbers, in place or, where they are too many, behind one pointer.
 #[derive(Debug, Drop)]
 enum Numbers {
     Few { len: u8, places: [u16; IN_PLACE] },
-    Many(Box<Vec<u16>>),
+    Many(Box<SmallVec<u16, IN_ONE_PIECE>>),
 }
 
-/// A list of category numbers, as one of each variable. Up to eleven take no memory of their own.
+/// A list of category numbers, as one of each variable. Up to seven take no memory of their own.
 #[derive(Debug, Drop)]
 pub struct Codes {
     alloc: Global,
@@ -34,12 +38,12 @@ impl Model for Codes {
 }
 
 impl Codes {
-    /// The numbers of a list, in its order. It takes memory for a list of more than eleven.
+    /// The numbers of a list, in its order. It takes memory for a list of more than seven.
     pub fn of(alloc: Global, list: &[u16]) -> Result<Codes, Memory>
         ensures { IfOk result (λ codes. codes ≡ list.now) }
     {
         if list.len() > IN_PLACE {
-            let many = Box::new(alloc, list.to_vec(alloc)?)?;
+            let many = Box::new(alloc, SmallVec::from_slice(alloc, list)?)?;
             return Ok(Codes {
                 alloc,
                 numbers: Numbers::Many(many),
@@ -80,7 +84,7 @@ impl Codes {
         self.as_slice()[i]
     }
 
-    /// An equal list. It takes memory for a list of more than eleven.
+    /// An equal list. It takes memory for a list of more than seven.
     pub fn copy(&self) -> Result<Codes, Memory>
         ensures { IfOk result (λ codes. codes ≡ self.now) }
     {
