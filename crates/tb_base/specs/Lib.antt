@@ -1,4 +1,5 @@
 pub mod Cells
+pub mod Codes
 pub mod Numbers
 pub mod Persons
 pub mod Records

@@ -13,14 +13,14 @@ pub fn read_number(text: &[u8]) -> Option<u32>
     if text.is_empty() || text.len() > 10 {
         return None;
     }
-    let mut value: u32 = 0;
+    let mut value: u64 = 0;
     for c in text {
         if !c.is_ascii_digit() {
             return None;
         }
-        value = value.checked_mul(10)?.checked_add(u32::from(*c - b'0'))?;
+        value = 10 * value + u64::from(*c - b'0');
     }
-    Some(value)
+    u32::try_from(value).ok()
 }
 
 /// Writes the decimal digits of `value`, without leading zeros, at the start of `buf`, and answers

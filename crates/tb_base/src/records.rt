@@ -15,7 +15,7 @@ pub struct Record {
 }
 
 impl Record {
-    /// An equal record. It takes memory where the record has more than eight variables.
+    /// An equal record. It takes memory where the record has more than seven variables.
     pub fn copy(&self) -> Result<Record, Memory>
         ensures { IfOk result (λ record'. record' ≡ self.now) }
     {

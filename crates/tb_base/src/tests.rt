@@ -9,6 +9,7 @@ use crate::{
 use std::alloc::Global;
 use std::collections::HashSet;
 use std::marker::Brand;
+use std::mem::size_of;
 use std::sync::ledger::{Blank, Ledger};
 use std::test::Fail;
 
@@ -71,8 +72,10 @@ fn cells(rt: HostRuntime) {
 
 #[test]
 fn lists(rt: HostRuntime) -> Result<(), Memory> {
-    let long = [3, 1, 4, 1, 5, 9, 2, 6, 5, 3, 5];
-    for n in [0, 1, 8, 9, 11] {
+    let long = [
+        3, 1, 4, 1, 5, 9, 2, 6, 5, 3, 5, 8, 9, 7, 9, 3, 2, 3, 8, 4, 6, 2, 6, 4, 3, 3,
+    ];
+    for n in [0, 1, 7, 8, 20, 21, 26] {
         let list = &long[..n];
         let codes = Codes::of(rt.alloc(), list)?.copy()?;
         let shape = Shape::of(rt.alloc(), list)?.copy()?;
@@ -143,6 +146,39 @@ fn people(rt: HostRuntime) -> Result<(), Memory> {
         assert_eq!(rt; one.copy()?.codes.len(), 2);
     }
     Ok(())
+}
+
+// A person who comes again, before and after the first that is out of order.
+#[test]
+fn people_who_come_again(rt: HostRuntime) -> Result<(), Memory> {
+    let cases = [
+        (5, true),
+        (5, false),
+        (7, true),
+        (6, true),
+        (6, false),
+        (5, false),
+        (8, true),
+    ];
+    for room in [0, 2] {
+        let mut people = People::with_room(rt.alloc(), room);
+        for (person, is_new) in cases {
+            let added = people.add(record(rt.alloc(), person)?);
+            assert_eq!(rt; added.map_err(|_| Memory), Ok(is_new));
+        }
+        let persons = [5, 7, 6, 8];
+        assert_eq!(rt; people.len(), 4);
+        for (one, person) in people.all().iter().zip(persons) {
+            assert_eq!(rt; one.person, person);
+        }
+    }
+    Ok(())
+}
+
+// Counting reads every record, so their size is the time of a table.
+#[test]
+fn size_of_a_record(rt: HostRuntime) {
+    assert_eq!(rt; size_of::<Record>(), 24);
 }
 
 #[test]

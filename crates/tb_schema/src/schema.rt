@@ -19,6 +19,9 @@ use std::str;
 use tb_base::{Memory, Shape};
 use tb_model::NameOf;
 
+// Up to so many keys are compared one by one: that takes less time than a hash.
+const FEW_KEYS: usize = 8;
+
 /// A recode: the number of its variable, its groups, and the group of each category.
 #[derive(Drop)]
 pub struct Recode {
@@ -52,11 +55,22 @@ impl Model for Schema {
     ghost invariant = { λ s. IsSound (schema_view s.variables s.recodes) × (s.shape ≡ shape_of (schema_view s.variables s.recodes)) };
 }
 
+// The place of a text among the keys of a map, compared one by one.
+fn place_among_few<V>(map: &IndexMap<String, V>, text: &[u8]) -> Option<usize>
+    ensures place { result ≡ place_in (map_list string_bytes (keys map.now)) text.now }
+    ensures within { IfSome result (λ i. i < length map.now.entries) }
+{
+    map.keys().position(|key| text == key.as_bytes())
+}
+
 // The place of a text among the keys of a map.
 fn place_of<V>(map: &IndexMap<String, V>, text: &[u8]) -> Option<usize>
     ensures place { result ≡ place_in (map_list string_bytes (keys map.now)) text.now }
     ensures within { IfSome result (λ i. i < length map.now.entries) }
 {
+    if map.len() <= FEW_KEYS {
+        return place_among_few(map, text);
+    }
     let Ok(text) = str::from_utf8(text) else {
         return None;
     };
