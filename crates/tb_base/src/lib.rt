@@ -1,8 +1,9 @@
 //! The data that all of TableBuilder counts: persons' records, cells, lists of categories and of
 //! variables, numbers in decimal digits, and the want of memory.
 //!
-//! It stands on nothing but `smallvec`. Its contracts cite `specs/Cells` (a cell is the count and
-//! the key sum of some records), `Records`, `Persons`, `Sets`, `Numbers` and `Statuses`.
+//! It stands on nothing but `smallvec` and `itoa`. Its contracts cite `specs/Cells` (a cell is the
+//! count and the key sum of some records), `Records`, `Codes` (how a record's numbers are kept),
+//! `Persons`, `Sets`, `Numbers` and `Statuses`.
 #![tactic(auto)]
 
 mod cells;
