@@ -1,6 +1,6 @@
 -- What the lines of a script ask for, one after another.
 use Rattle.std.proofs.Common.{◌≡◌, ◌∙◌, sym, ap, ℕ, ◌+◌, List, [], ◌∷◌, ◌++◌, length, map, Option, Some, None, Ok, Err, refl, arith, append-nil}
-use Rattle.tb_rows.specs.Columns.{all_some}
+use Rattle.tb_base.specs.Lists.{all_some}
 use Rattle.tb_model.specs.Schemas.{SchemaValue}
 use Rattle.tablebuilder.specs.Scripts.{asked_variable, before_missing, lines_in, script_of}
 

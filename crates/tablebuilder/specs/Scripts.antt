@@ -2,7 +2,7 @@
 use Rattle.std.specs.Prelude.{ℕ, ◌+◌, false, List, [], ◌∷◌, map, drop, Option, Some, None, Result, ok_or, nat_eq, codes, if◌then◌else◌}
 use Rattle.std.specs.List.{starts_with}
 use Rattle.bstr.specs.Text.{lines_of, without_terminator}
-use Rattle.tb_rows.specs.Columns.{all_some}
+use Rattle.tb_base.specs.Lists.{all_some}
 use Rattle.tb_model.specs.declared.names.NameOf.{NameOf}
 use Rattle.tb_model.specs.declared.names.NameOf.TheVariants as name_of
 use Rattle.tb_model.specs.Schemas.{SchemaValue}

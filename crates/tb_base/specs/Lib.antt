@@ -1,5 +1,6 @@
 pub mod Cells
 pub mod Codes
+pub mod Lists
 pub mod Numbers
 pub mod Persons
 pub mod Records

@@ -17,11 +17,11 @@ mod status;
 mod steps;
 mod var_set;
 
-pub use cells::Cell;
+pub use cells::{Cell, KEY_RANGE};
 pub use codes::Codes;
 pub use memory::Memory;
 pub use number::{print_number, read_number};
-pub use people::People;
+pub use people::{MOST_PERSONS, People};
 pub use records::Record;
 pub use shape::Shape;
 pub use status::Status;

@@ -6,7 +6,7 @@ use Rattle.tb_model.specs.declared.names.NameOf.TheVariants as name_of
 use Rattle.tb_model.specs.Schemas.{SchemaValue, CategoryValue}
 use Rattle.tb_model.specs.declared.names.PerturbationLine.{PerturbationLine}
 use Rattle.tb_model.specs.Queries.{QueryValue}
-use Rattle.tb_model.specs.Texts.{SetupValue}
+use Rattle.tb_model.specs.Setups.{SetupValue}
 
 abbrev pub category : List ℕ → List ℕ → CategoryValue
 category code label = record { code = code; label = label }

@@ -12,7 +12,7 @@ use Rattle.tb_model.proofs.OnLiterals.{tables_on_literals}
 
 -- the table at release 0, above a threshold
 abbrev printed : ℕ → QueryValue → List ℕ
-printed threshold query = table_text (setup lines threshold) (first_release records) query
+printed threshold query = let s = setup lines threshold in table_text s (first_release s records) query
 
 one_variable : printed 0 (table (sex ∷ [])) ≡ codes "release 0\nSEX,count\n1,1\n2,2\n.\n"
 unfolding tables_on_literals
@@ -42,11 +42,11 @@ labels_with_commas : printed 0 (with_labels (with_totals (table (area ∷ sex �
 unfolding tables_on_literals
 labels_with_commas = refl
 
-no_records : table_text (setup lines 0) (first_release []) (table (sex ∷ [])) ≡ codes "release 0\nSEX,count\n1,0\n2,0\n.\n"
+no_records : table_text (setup lines 0) (first_release (setup lines 0) []) (table (sex ∷ [])) ≡ codes "release 0\nSEX,count\n1,0\n2,0\n.\n"
 unfolding tables_on_literals
 no_records = refl
 
-no_records_below_threshold : table_text (setup lines 10) (first_release []) (table (sex ∷ [])) ≡ codes "release 0\nSEX,count\n1,c\n2,c\n.\n"
+no_records_below_threshold : table_text (setup lines 10) (first_release (setup lines 10) []) (table (sex ∷ [])) ≡ codes "release 0\nSEX,count\n1,c\n2,c\n.\n"
 unfolding tables_on_literals
 no_records_below_threshold = refl
 
@@ -68,7 +68,7 @@ crowd n = map (λ i. person i 1 (0 ∷ 0 ∷ 0 ∷ [])) (range_with_len 1 n)
 
 -- their table, with one line of the perturbation table
 abbrev printed_of : PerturbationLine → ℕ → List ℕ
-printed_of listed n = table_text (setup (listed ∷ []) 0) (first_release (crowd n)) (table (sex ∷ []))
+printed_of listed n = let s = setup (listed ∷ []) 0 in table_text s (first_release s (crowd n)) (table (sex ∷ []))
 
 shown_at_750 : printed_of (line 750 238 (pos 3)) 750 ≡ codes "release 0\nSEX,count\n1,753\n2,0\n.\n"
 unfolding tables_on_literals

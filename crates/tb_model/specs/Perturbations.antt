@@ -3,12 +3,16 @@ use Rattle.std.specs.Prelude.{ℕ, ◌+◌, ◌-◌, ◌%◌, ◌==◌, ◌&&◌
 use Rattle.std.specs.Option.{option_map_or}
 use Rattle.tb_base.specs.declared.cells.Cell.{Cell}
 use Rattle.tb_model.specs.declared.names.PerturbationLine.{PerturbationLine}
+use Rattle.tb_model.specs.declared.rows.TheConstants.{LARGE_ROWS, LARGE_ROWS_BEGIN, LAST_ROW}
 use Rattle.tb_model.specs.declared.names.Shown.{Shown}
 use Rattle.tb_model.specs.declared.names.Shown.TheVariants.{Number, Suppressed}
 
 -- the row of the perturbation table for a count: rows 501 to 750 serve all larger counts again and again
 abbrev pub row_of_count : ℕ → Option ℕ
-row_of_count count = if count == 0 then None else if nat_le count 750 then Some count else Some (501 + (count - 1) % 250)
+row_of_count count =
+    if count == 0 then None
+    else if nat_le count LAST_ROW then Some count
+    else Some (LARGE_ROWS_BEGIN + (count - 1) % LARGE_ROWS)
 
 -- the pvalue that the table lists at a row and a cell key, and 0 where it lists none
 abbrev pub pvalue_at : List PerturbationLine → ℕ → ℕ → ℤ

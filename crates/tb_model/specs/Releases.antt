@@ -5,6 +5,7 @@ use Rattle.std.specs.FinMap as finmap
 use Rattle.std.specs.Ordering.{nat_cmp}
 use Rattle.tb_base.specs.declared.records.Record.{Record}
 use Rattle.tb_base.specs.Records.{record_code}
+use Rattle.tb_model.specs.Setups.{SetupValue}
 
 -- the records, the key of each person who ever stood among them, the release's number, and how many changes led to it
 pub record ReleaseValue : Type 0 where
@@ -13,9 +14,10 @@ pub record ReleaseValue : Type 0 where
   pub number : ℕ
   pub changes : ℕ
 
--- release 0: the records of the microdata with their own keys, before any change
-abbrev pub first_release : List Record → ReleaseValue
-first_release people = record { records = people; key_book = finmap.from_entries (map (λ r. (r.person, r.key)) people); number = 0; changes = 0 }
+-- release 0 over a setup: the records of the microdata with their own keys, before any change
+abbrev pub first_release : SetupValue → List Record → ReleaseValue
+first_release setup people =
+    record { records = people; key_book = finmap.from_entries (map (λ r. (r.person, r.key)) people); number = 0; changes = 0 }
 
 -- how a release is stored, for the type that is seen as one
 abbrev pub release_code : Coded ReleaseValue

@@ -2,13 +2,14 @@
 use Rattle.std.specs.Prelude.{ℕ, ℤ, if◌then◌else◌, List, [], ◌∷◌, ◌++◌, map, flat_map, zip, codes, decimal, slice_index_or}
 use Rattle.csv.specs.Writing.{row_text, default_writer}
 use Rattle.tb_base.specs.declared.cells.Cell.{Cell}
-use Rattle.tb_model.specs.declared.names.PerturbationLine.{PerturbationLine}
 use Rattle.tb_model.specs.declared.names.NameOf.{NameOf}
 use Rattle.tb_model.specs.declared.names.Entry.{Entry}
 use Rattle.tb_model.specs.declared.names.Entry.TheVariants as entry
 use Rattle.tb_model.specs.Schemas.{SchemaValue, codes_of, labels_of, name_text}
-use Rattle.tb_model.specs.Perturbations.{pvalue_at, shown, shown_text}
+use Rattle.tb_model.specs.Perturbations.{shown, shown_text}
+use Rattle.tb_model.specs.Setups.{SetupValue}
 use Rattle.tb_model.specs.Releases.{ReleaseValue}
+use Rattle.tb_model.specs.Rules.{pvalues_of, threshold_of}
 use Rattle.tb_model.specs.Queries.{QueryValue}
 use Rattle.tb_model.specs.Places.{Place, places_of, cells_of}
 
@@ -39,13 +40,8 @@ text_of_cells schema pvalues threshold query number cells =
     ++ flat_map (λ p. place_text schema pvalues threshold query p.0 p.1) (zip (places_of schema query) cells)
     ++ line_text (codes ".")
 
--- what a server is given: the classification, the perturbation table's lines and the threshold
-pub record SetupValue : Type 0 where
-  pub schema : SchemaValue
-  pub lines : List PerturbationLine
-  pub threshold : ℕ
-
 -- the text of a query's table at a release
 abbrev pub table_text : SetupValue → ReleaseValue → QueryValue → List ℕ
 table_text setup release query =
-    text_of_cells setup.schema (pvalue_at setup.lines) setup.threshold query release.number (cells_of setup.schema query release.records)
+    text_of_cells setup.schema (pvalues_of setup release) (threshold_of setup release) query release.number
+    (cells_of setup.schema query release.records)

@@ -1,7 +1,8 @@
 -- Two worlds that agree at a cell.
 use Rattle.std.specs.Prelude.{◌≡◌, ℕ, ℤ, List, sum_by, length, ◌%◌}
 use Rattle.tb_base.specs.declared.records.Record.{Record}
-use Rattle.tb_base.specs.Cells.{cell_of, key_range}
+use Rattle.tb_base.specs.Cells.{cell_of}
+use Rattle.tb_base.specs.declared.cells.TheConstants.{KEY_RANGE}
 use Rattle.tb_model.specs.Schemas.{SchemaValue}
 use Rattle.tb_model.specs.Perturbations.{shown, shown_text, perturbation}
 use Rattle.tb_model.specs.Queries.{QueryValue}
@@ -25,7 +26,7 @@ abbrev pub own_count : World → ℕ
 own_count w = length (own_of w)
 
 abbrev pub own_key : World → ℕ
-own_key w = sum_by (λ r. r.key) (own_of w) % key_range
+own_key w = sum_by (λ r. r.key) (own_of w) % KEY_RANGE
 
 -- equally many own records with equal keys modulo the key range, equal thresholds, and one perturbation for that count and key
 pub record AgreeAt (v w : World) : Type 0 where

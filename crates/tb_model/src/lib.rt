@@ -3,5 +3,7 @@
 
 pub mod laws;
 mod names;
+mod rows;
 
 pub use names::{Entry, Filter, NameOf, PerturbationLine, Shown};
+pub use rows::{LARGE_ROWS, LARGE_ROWS_BEGIN, LAST_ROW};

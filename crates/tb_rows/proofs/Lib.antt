@@ -1,2 +1,5 @@
-pub mod Fields
+pub mod FieldPlaces
 mod Left
+pub mod Meaning
+mod Names
+pub mod WholeFiles

@@ -1,2 +1,5 @@
+pub mod FaultNames
 pub mod Records
 pub mod Columns
+pub mod Formats
+pub mod WholeFiles

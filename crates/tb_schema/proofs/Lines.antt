@@ -5,23 +5,10 @@ use Rattle.std.specs.List.{list_any, position_or_len}
 use Rattle.std.proofs.lemmas.Bool.{cases_Bool}
 use Rattle.std.proofs.lemmas.Bool.Decides.{nat_tests}
 use Rattle.std.proofs.lemmas.List.Folds.{list_any-append}
-use Rattle.std.proofs.lemmas.Slice.Eq.{bytes_eq-Decides}
+use Rattle.tb_base.proofs.Texts.{same_text, text_itself, text_other_way}
 use Rattle.tb_model.specs.Schemas.{VariableValue, CategoryValue}
 use Rattle.tb_schema.specs.Classes.{ClassLine, and_line, at_number, has_code, no_variable, with_category}
 use Rattle.tb_schema.specs.WholeFiles.{and_name, names_after, categories_in, variables_in, repeats}
-
-same : (a b : List ℕ) → bytes_eq a b ≡ true → a ≡ b
-same a b h = (bytes_eq-Decides a b).0 h
-
-pub itself : (a : List ℕ) → bytes_eq a a ≡ true
-itself a = (bytes_eq-Decides a a).1 refl
-
--- the order of two texts doesn't matter
-other_way : (a b : List ℕ) → bytes_eq a b ≡ false → bytes_eq b a ≡ false
-other_way a b h = elim (cases_Bool (bytes_eq b a)) [
-  | inl t ↦ let e = subst (λ x. bytes_eq a x ≡ false) (same b a t) h in let i = itself a in cc
-  | inr t ↦ t
-]
 
 -- the names after one more line
 pub names-append : (lines : List ClassLine) (names : List (List ℕ)) (line : ClassLine) → names_after names (lines ++ line ∷ []) ≡ and_name (names_after names lines) line.name
@@ -60,7 +47,7 @@ unfolding Apart
 apart-push [] name a h = (refl, tt)
 apart-push (n ∷ names) name a h =
     let (e, f) = first_no (bytes_eq name n) (list_any (bytes_eq name) names) h in
-    (any-push names n name a.0 (other_way name n e), apart-push names name a.1 f)
+    (any-push names n name a.0 (text_other_way name n e), apart-push names name a.1 f)
 
 apart-name : (names : List (List ℕ)) (name : List ℕ) → Apart names → Apart (and_name names name)
 apart-name names name a = elim (cases_Bool (list_any (bytes_eq name) names)) [
@@ -86,7 +73,7 @@ or_true false = refl
 there-own : (names : List (List ℕ)) (name : List ℕ) → list_any (bytes_eq name) (and_name names name) ≡ true
 there-own names name = elim (cases_Bool (list_any (bytes_eq name) names)) [
   | inl t ↦ rw t t
-  | inr t ↦ rw t (list_any-append (bytes_eq name) names (name ∷ []) ∙ rw itself (or_true (list_any (bytes_eq name) names)))
+  | inr t ↦ rw t (list_any-append (bytes_eq name) names (name ∷ []) ∙ rw text_itself (or_true (list_any (bytes_eq name) names)))
 ]
 
 there-after : (lines : List ClassLine) (names : List (List ℕ)) (n : List ℕ) → list_any (bytes_eq n) names ≡ true → list_any (bytes_eq n) (names_after names lines) ≡ true
@@ -98,7 +85,7 @@ pub none-of : (lines : List ClassLine) (names : List (List ℕ)) (name : List �
 none-of [] names name h = refl
 none-of (l ∷ lines) names name h = elim (cases_Bool (bytes_eq name l.name)) [
   | inl t ↦
-      let own = subst (λ x. list_any (bytes_eq x) (and_name names l.name) ≡ true) (sym (same name l.name t)) (there-own names l.name) in
+      let own = subst (λ x. list_any (bytes_eq x) (and_name names l.name) ≡ true) (sym (same_text name l.name t)) (there-own names l.name) in
       let e = there-after lines (and_name names l.name) name own in
       cc
   | inr t ↦ rw t (none-of lines (and_name names l.name) name h)
@@ -120,7 +107,7 @@ unfolding named
 named-others [] lines line h = refl
 named-others (n ∷ names) lines line h =
     let (e, f) = first_no (bytes_eq line.name n) (list_any (bytes_eq line.name) names) h in
-    rw (categories-other lines line n (other_way line.name n e)) (ap (λ vs. let v : VariableValue = record { name = n; categories = categories_in lines n } in v ∷ vs) (named-others names lines line f))
+    rw (categories-other lines line n (text_other_way line.name n e)) (ap (λ vs. let v : VariableValue = record { name = n; categories = categories_in lines n } in v ∷ vs) (named-others names lines line f))
 
 -- the place of a name is in range exactly where the name is there
 lt-suc : (a b : ℕ) → nat_lt (suc a) (suc b) ≡ nat_lt a b
@@ -142,12 +129,12 @@ pub named-at : (names : List (List ℕ)) (f : List ℕ → List CategoryValue) (
 unfolding named
 named-at [] f name h = cc
 named-at (n ∷ names) f name h = elim (cases_Bool (bytes_eq name n)) [
-  | inl t ↦ rw t (ap f (sym (same name n t)))
+  | inl t ↦ rw t (ap f (sym (same_text name n t)))
   | inr t ↦ rw (t, add_comm 1, add-one) (named-at names f name (rw t at h))
 ]
 
 flipped : (a b : List ℕ) → bytes_eq a b ≡ true → bytes_eq b a ≡ true
-flipped a b h = subst (λ x. bytes_eq x a ≡ true) (same a b h) (itself a)
+flipped a b h = subst (λ x. bytes_eq x a ≡ true) (same_text a b h) (text_itself a)
 
 -- among names of which one is its own, a line adds its category there
 named-set : (names : List (List ℕ)) (lines : List ClassLine) (line : ClassLine) → Apart names → list_any (bytes_eq line.name) names ≡ true
@@ -156,11 +143,11 @@ unfolding Apart named
 named-set [] lines line a h = cc
 named-set (n ∷ names) lines line a h = elim (cases_Bool (bytes_eq line.name n)) [
   | inl t ↦
-      let apart = subst (λ x. list_any (bytes_eq x) names ≡ false) (sym (same line.name n t)) a.0 in
+      let apart = subst (λ x. list_any (bytes_eq x) names ≡ false) (sym (same_text line.name n t)) a.0 in
       rw (t, categories-own lines line n (flipped line.name n t))
       (ap (λ vs. let v : VariableValue = record { name = n; categories = categories_in lines n ++ line.category ∷ [] } in v ∷ vs) (named-others names lines line apart))
   | inr t ↦
-      rw (t, add_comm 1, add-one, categories-other lines line n (other_way line.name n t))
+      rw (t, add_comm 1, add-one, categories-other lines line n (text_other_way line.name n t))
       (ap (λ vs. let v : VariableValue = record { name = n; categories = categories_in lines n } in v ∷ vs) (named-set names lines line a.1 (rw t at h)))
 ]
 
@@ -174,7 +161,7 @@ pub line-new : (lines : List ClassLine) (line : ClassLine) → list_any (bytes_e
     → variables_in (lines ++ line ∷ []) ≡ variables_in lines ++ (record { name = line.name; categories = line.category ∷ [] }) ∷ []
 unfolding named
 line-new lines line h =
-    let cats : categories_in (lines ++ line ∷ []) line.name ≡ line.category ∷ [] = categories-own lines line line.name (itself line.name) ∙ ap (λ cs. cs ++ line.category ∷ []) (none-of lines [] line.name h) in
+    let cats : categories_in (lines ++ line ∷ []) line.name ≡ line.category ∷ [] = categories-own lines line line.name (text_itself line.name) ∙ ap (λ cs. cs ++ line.category ∷ []) (none-of lines [] line.name h) in
     ap (named (categories_in (lines ++ line ∷ []))) (names-append lines [] line ∙ rw h refl)
     ∙ named-push (names_after [] lines) (categories_in (lines ++ line ∷ [])) line.name
     ∙ ap (λ vs. let v : VariableValue = record { name = line.name; categories = categories_in (lines ++ line ∷ []) line.name } in vs ++ v ∷ []) (named-others (names_after [] lines) lines line h)
@@ -228,12 +215,12 @@ goes-old lines line ws t h =
       ]
     ]
 
-pub number-of : (lines : List ClassLine) (line : ClassLine) → and_line (variables_in lines) (Ok line)
+pub number-of : (lines : List ClassLine) (line : ClassLine) → and_line (variables_in lines) line
     ≡ at_number (variables_in lines) line (cond (list_any (bytes_eq line.name) (names_after [] lines)) (Some (position_or_len (bytes_eq line.name) (names_after [] lines))) None)
 unfolding named
 number-of lines line = rw (named-names (names_after [] lines) (categories_in lines), any-place (names_after [] lines) (bytes_eq line.name)) refl
 
-pub goes : (lines : List ClassLine) (line : ClassLine) (ws : List VariableValue) → and_line (variables_in lines) (Ok line) ≡ Ok ws → (variables_in (lines ++ line ∷ []) ≡ ws) × (repeats lines line ≡ false)
+pub goes : (lines : List ClassLine) (line : ClassLine) (ws : List VariableValue) → and_line (variables_in lines) line ≡ Ok ws → (variables_in (lines ++ line ∷ []) ≡ ws) × (repeats lines line ≡ false)
 unfolding Goes
 goes lines line ws h =
     let g = sym (number-of lines line) ∙ h in

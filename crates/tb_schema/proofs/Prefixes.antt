@@ -10,7 +10,8 @@ use Rattle.tb_schema.specs.Classes.{ClassLine, and_line, at_number, has_code, no
 use Rattle.tb_schema.specs.Limits.{AreWithin}
 use Rattle.tb_schema.specs.Sound.{AreSmall}
 use Rattle.tb_schema.specs.WholeFiles.{and_name, names_after, categories_in, variables_in, repeats}
-use Rattle.tb_schema.proofs.Lines.{any-place, categories-own, line-new, line-old, named, named-at, names-append, number-of, repeats-code, itself}
+use Rattle.tb_schema.proofs.Lines.{any-place, categories-own, line-new, line-old, named, named-at, names-append, number-of, repeats-code}
+use Rattle.tb_base.proofs.Texts.{text_itself}
 use Rattle.tb_schema.proofs.Lookups.{small-at}
 
 -- the names of the lines at the front stay, and come first
@@ -84,7 +85,7 @@ room-old lines line t s =
     let w : AreWithin (named f names) = subst (λ ns. AreWithin (named f ns)) (names-old lines line t) s in
     let in_range : p < length (named f names) = omega (arith, less p (length names) (any-place names (bytes_eq line.name) ∙ t), length-map names (λ (name : List ℕ). let v : VariableValue = record { name = name; categories = f name } in v)) in
     let most : length (get_or (named f names) p no_variable).categories ≤ 10000 = small-at (named f names) p no_variable w.small in_range in
-    let is : (get_or (named f names) p no_variable).categories ≡ categories_in lines line.name ++ line.category ∷ [] = named-at names f line.name t ∙ categories-own lines line line.name (itself line.name) in
+    let is : (get_or (named f names) p no_variable).categories ≡ categories_in lines line.name ++ line.category ∷ [] = named-at names f line.name t ∙ categories-own lines line line.name (text_itself line.name) in
     omega (arith, most, ap (λ (cs : List CategoryValue). length cs) is, length-append (categories_in lines line.name) (line.category ∷ []))
 
 takes-old : (lines : List ClassLine) (line : ClassLine) → list_any (bytes_eq line.name) (names_after [] lines) ≡ true → repeats lines line ≡ false → AreWithin (variables_in (lines ++ line ∷ []))
@@ -101,7 +102,7 @@ takes-old lines line t new s =
 
 -- a line that repeats none is taken, where the variables stay within the limits
 pub takes : (lines : List ClassLine) (line : ClassLine) → repeats lines line ≡ false → AreWithin (variables_in (lines ++ line ∷ []))
-    → and_line (variables_in lines) (Ok line) ≡ Ok (variables_in (lines ++ line ∷ []))
+    → and_line (variables_in lines) line ≡ Ok (variables_in (lines ++ line ∷ []))
 takes lines line new s = number-of lines line ∙ elim (cases_Bool (list_any (bytes_eq line.name) (names_after [] lines))) [
   | inl t ↦ rw t (takes-old lines line t new s)
   | inr t ↦ rw t (takes-new lines line t s)
