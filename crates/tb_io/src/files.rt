@@ -1,5 +1,5 @@
-ghost use Rattle.std.specs.Prelude.{◌≡◌, ◌≤◌, ℕ, List, Option};
-ghost use Rattle.tb_io.specs.Faults.{HasRisen};
+ghost use Rattle.std.specs.Prelude.{◌≡◌, ◌≤◌, ℕ, List, None, Option, option_map};
+ghost use Rattle.tb_io.specs.Faults.{HasRisen, one_more};
 ghost use Rattle.tb_io.specs.FileAnswers.{IsWithin, TellsOf};
 ghost use Rattle.tb_io.specs.declared.answers.FileRead.TheVariants as file_read;
 
@@ -16,6 +16,9 @@ pub trait Files {
 
     ghost content: { Self → Option (List ℕ → Option (List ℕ)) };
 
+    // How many readings there were, up to the last value of a count, where the files tell it.
+    ghost readings: { Self → Option ℕ } = { λ _. None };
+
     /// Reads the whole file of that name. It answers its bytes where they are at most `max`, and
     /// TooLong exactly where they are more. It takes memory for the bytes.
     fn read(&mut self, alloc: Global, name: &str, max: u64) -> FileRead
@@ -23,5 +26,6 @@ pub trait Files {
         ensures failed { result ≡ file_read.Failed → HasRisen (faults self.old) (faults self.new) }
         ensures within { IsWithin max result }
         ensures bytes { TellsOf (content self.old) name.now max result }
-        ensures same { content self.new ≡ content self.old };
+        ensures same { content self.new ≡ content self.old }
+        ensures reading { readings self.new ≡ option_map one_more (readings self.old) };
 }

@@ -70,6 +70,8 @@ impl Files for MemFiles {
 
     ghost content = { λ files. Some (bytes_of files.held) };
 
+    ghost readings = { λ files. Some files.calls };
+
     /// Answers a fault exactly where the reading is one of those that fail, or the name isn't there.
     /// TooLong is answered without a copy.
     fn read(&mut self, alloc: Global, name: &str, max: u64) -> FileRead
@@ -78,6 +80,7 @@ impl Files for MemFiles {
         ensures within { IsWithin max result }
         ensures bytes { Tells (bytes_of self.old.held name.now) max result }
         ensures same { self.new.held ≡ self.old.held }
+        ensures reading { self.new.calls ≡ one_more self.old.calls }
         ensures exact { Answers (fails_next self.old) (bytes_of self.old.held name.now) max result }
         ensures after { self.new ≡ after_read self.old result }
     {
