@@ -1,7 +1,9 @@
 -- The numbers of the program's statuses.
 use Rattle.std.specs.Prelude.{ℕ}
 use Rattle.tb_base.specs.declared.status.Status.{Status}
-use Rattle.tb_base.specs.declared.status.Status.TheVariants.{Done, Usage, Schema, Perturbation, Microdata, Script, ReadFault, WriteFault, Memory, NetFault}
+use Rattle.tb_base.specs.declared.status.Status.TheVariants.{Done, Usage, Schema, Perturbation}
+use Rattle.tb_base.specs.declared.status.Status.TheVariants.{Microdata, Script, ReadFault}
+use Rattle.tb_base.specs.declared.status.Status.TheVariants.{WriteFault, Memory, NetFault}
 
 -- the number with which the program ends; 1 is left to the runtime
 abbrev pub number_of : Status → ℕ

@@ -1,9 +1,9 @@
 //! The data that all of TableBuilder counts: persons' records, cells, lists of categories and of
-//! variables, numbers in decimal digits, and the want of memory.
+//! variables, numbers in decimal digits, and the error of a call that runs out of memory.
 //!
 //! It stands on nothing but `smallvec` and `itoa`. Its contracts cite `specs/Cells` (a cell is the
 //! count and the key sum of some records), `Records`, `Codes` (how a record's numbers are kept),
-//! `Persons`, `Sets`, `Numbers` and `Statuses`.
+//! `Persons`, `Sets`, `Numbers` and `Statuses`; `Lists` serves the crates above.
 #![tactic(auto)]
 
 mod cells;

@@ -1,6 +1,6 @@
 use std::alloc::{AllocError, AllocFailed};
 
-/// Want of memory: the one answer that any call which takes memory may give.
+/// Out of memory: the one error that any call which takes memory may return.
 #[derive(Clone, Copy, Debug, PartialEq, Eq)]
 pub struct Memory;
 

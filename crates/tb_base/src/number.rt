@@ -23,7 +23,7 @@ pub fn read_number(text: &[u8]) -> Option<u32>
     u32::try_from(value).ok()
 }
 
-/// Writes the decimal digits of `value`, without leading zeros, at the start of `buf`, and answers
+/// Writes the decimal digits of `value`, without leading zeros, at the start of `buf`, and returns
 /// how many they are. What stands after them stays.
 pub fn print_number(value: u32, buf: &mut [u8; 10]) -> usize
     ensures digits { take result buf.new ≡ decimal value }
