@@ -1,5 +1,6 @@
 -- Files in memory, by the bytes of their names.
-use Rattle.std.specs.Prelude.{◌≡◌, ◌≢◌, ℕ, List, [], Bool, true, false, bytes_eq, map, Option, None, Some, unwrap_or, String, string_bytes, Vec}
+use Rattle.std.specs.Prelude.{◌≡◌, ◌≢◌, ℕ, List, [], map, bytes_eq, Bool, true, false}
+use Rattle.std.specs.Prelude.{Option, None, Some, unwrap_or, String, string_bytes, Vec}
 use Rattle.std.specs.Global.{Global}
 use Rattle.std.specs.List.{list_any}
 use Rattle.std.specs.Bool.{nat_eq}
@@ -30,24 +31,26 @@ pub record Gives (old new : HeldFiles) (name bytes : List ℕ) : Type 0 where
   pub here : bytes_of new name ≡ Some bytes
   pub others : (other : List ℕ) → other ≢ name → bytes_of new other ≡ bytes_of old other
 
--- files of which some readings fail: `fails` numbers them from 1, and `calls` counts those that were
+-- files of which some readings fail: `fails` has their numbers, from 1; `calls` counts the readings
+-- so far, and `faults` those that failed
 pub record FailingFiles : Type 0 where
   pub held : HeldFiles
   pub fails : List ℕ
   pub calls : ℕ
   pub faults : ℕ
 
--- whether the next reading is one of those that fail
+-- whether the next reading is one of those that are to fail
 abbrev pub fails_next : FailingFiles → Bool
 fails_next files = list_any (nat_eq (one_more files.calls)) files.fails
 
--- the answer is a fault exactly where the reading is one of those that fail, or the name isn't there
-abbrev pub Answers : Bool → Option (List ℕ) → ℕ → FileRead → Type 0
-Answers true held max answer = answer ≡ Failed
-Answers false None max answer = answer ≡ Failed
-Answers false (Some bytes) max answer = IsCopy bytes max answer
+-- a reading fails exactly where it is one of those that are to fail, or the name isn't there; else
+-- it is a copy of what the name holds
+abbrev pub IsReading : Bool → Option (List ℕ) → ℕ → FileRead → Type 0
+IsReading true held max read = read ≡ Failed
+IsReading false None max read = read ≡ Failed
+IsReading false (Some bytes) max read = IsCopy bytes max read
 
--- the faults after a reading with this answer
+-- how many faults there are after a reading
 abbrev pub faults_after : ℕ → FileRead → ℕ
 faults_after faults Failed = one_more faults
 faults_after faults (Bytes v) = faults
@@ -56,4 +59,5 @@ faults_after faults Memory = faults
 
 -- a reading counts as one more call, and as one more fault exactly where it failed; the rest stays
 abbrev pub after_read : FailingFiles → FileRead → FailingFiles
-after_read files answer = record files { calls = one_more files.calls; faults = faults_after files.faults answer }
+after_read files read =
+    record files { calls = one_more files.calls; faults = faults_after files.faults read }

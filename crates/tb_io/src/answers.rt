@@ -1,14 +1,16 @@
-// What the outside answers.
+// What calls of the outside return.
 
-/// How a write ended: the whole piece was taken, or the write failed and took a first part of it.
+/// How a write ended. `All` says that the whole piece was taken, `Failed` that the write failed and
+/// took a first part of it, which may be empty or all of it.
 #[derive(Clone, Copy, Debug, PartialEq, Eq)]
 pub enum Wrote {
     All,
     Failed,
 }
 
-/// How the reading of a file ended. `TooLong` is a file of more bytes than were asked for, `Failed`
-/// a fault of the outside, and `Memory` want of memory for the bytes.
+/// How the reading of a file ended. `Bytes` has all that it holds, `TooLong` says that it holds
+/// more bytes than the caller allows, `Failed` is a fault of the outside, and `Memory` says that
+/// the call was out of memory for the bytes.
 #[derive(Debug, Drop)]
 pub enum FileRead {
     Bytes(Vec<u8>),

@@ -8,19 +8,18 @@ use std::alloc::Global;
 
 /// Files that are read by name.
 ///
-/// No reading changes what a name holds. A fault is answered only where the count of faults rose in
-/// that call; a name that isn't there is a fault. `content` is the files' meaning, where they tell
-/// it: for each name its bytes, or None where the name isn't there.
+/// No reading changes what a name holds. A reading fails only where the count of faults rose in
+/// that call; a name that isn't there is a fault. `faults` is that count, and `content` the files'
+/// meaning, where they tell it: for each name its bytes, or None where the name isn't there.
 pub trait Files {
     ghost faults: { Self → ℕ };
 
     ghost content: { Self → Option (List ℕ → Option (List ℕ)) };
 
-    // How many readings there were, up to the last value of a count, where the files tell it.
     ghost readings: { Self → Option ℕ } = { λ _. None };
 
-    /// Reads the whole file of that name. It answers its bytes where they are at most `max`, and
-    /// TooLong exactly where they are more. It takes memory for the bytes.
+    /// Reads the whole file of that name: its bytes where they are at most `max`, and TooLong where
+    /// they are more, unless it fails or is out of memory. It takes memory for the bytes.
     fn read(&mut self, alloc: Global, name: &str, max: u64) -> FileRead
         ensures count { faults self.old ≤ faults self.new }
         ensures failed { result ≡ file_read.Failed → HasRisen (faults self.old) (faults self.new) }

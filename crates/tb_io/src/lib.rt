@@ -1,13 +1,14 @@
 //! The outside of the program: files that are read by name, and sinks that take output.
 //!
-//! It stands on `tb_base` for the want of memory. Its contracts cite `specs/Faults` (a fault is
-//! answered only where a count rose), `Taken` (which bytes a sink took), `FileAnswers` (what a
-//! reading says of a file), `HeldFiles` and `BoundedSink` (the forms in memory).
+//! It stands on `tb_base` for the error of a call that runs out of memory. Its contracts cite
+//! `specs/Faults` (a call fails only where a count of faults rose), `Taken` (which bytes a sink
+//! took), `FileAnswers` (what a reading says of a file), `HeldFiles` and `BoundedSink` (the forms
+//! in memory).
 #![tactic(auto)]
 
 mod answers;
+mod file_map;
 mod files;
-mod held;
 mod mem_files;
 mod mem_sink;
 mod real_files;

@@ -4,23 +4,24 @@ ghost use Rattle.std.specs.List.{list_any};
 ghost use Rattle.std.specs.Bool.{nat_eq};
 ghost use Rattle.tb_io.specs.Faults.{HasRisen, one_more};
 ghost use Rattle.tb_io.specs.FileAnswers.{IsWithin, Tells, TellsOf};
-ghost use Rattle.tb_io.specs.HeldFiles.{FailingFiles, bytes_of, Gives, Answers, fails_next, after_read};
+ghost use Rattle.tb_io.specs.HeldFiles.{FailingFiles, bytes_of, Gives};
+ghost use Rattle.tb_io.specs.HeldFiles.{IsReading, fails_next, after_read};
 ghost use Rattle.tb_io.specs.declared.answers.FileRead.TheVariants as file_read;
 
 use crate::answers::FileRead;
+use crate::file_map::{FileMap, copy_of};
 use crate::files::Files;
-use crate::held::{Held, copy_of};
 use std::alloc::Global;
 use std::marker::Model;
 use tb_base::Memory;
 
 /// Files in memory, of which some readings fail.
 ///
-/// They never change by a reading. A reading fails exactly where its number, from 1, is on the list
-/// that was handed over, or the name isn't there; each counts one fault.
+/// No reading changes what a name holds. A reading fails exactly where its number, from 1, is on
+/// the list that `new` was given, or the name isn't there; each failure counts one fault.
 #[derive(Drop)]
 pub struct MemFiles {
-    held: Held,
+    held: FileMap,
     fails: Vec<u32>,
     calls: u64,
     faults: u64,
@@ -31,24 +32,26 @@ impl Model for MemFiles {
 
     ghost Value = { FailingFiles };
 
-    ghost view = { λ m. record { held = m.held; fails = m.fails.items; calls = m.calls; faults = m.faults } };
+    ghost view = { λ m.
+        record { held = m.held; fails = m.fails.items; calls = m.calls; faults = m.faults } };
 }
 
 impl MemFiles {
     /// No files, of which the readings with these numbers, from 1, will fail.
     pub fn new(alloc: Global, fails: &[u32]) -> Result<MemFiles, Memory>
-        ensures { IfOk result (λ files. files ≡ record { held = []; fails = fails.now; calls = 0; faults = 0 }) }
+        ensures { IfOk result (λ files.
+            files ≡ record { held = []; fails = fails.now; calls = 0; faults = 0 }) }
     {
         Ok(MemFiles {
-            held: Held::new(alloc),
+            held: FileMap::new(alloc),
             fails: Vec::from_slice(alloc, fails)?,
             calls: 0,
             faults: 0,
         })
     }
 
-    /// Gives the name these bytes, in place of those that it had. It takes memory for both; where
-    /// that is refused, the files are as before.
+    /// Gives the name these bytes, in place of those that it had. It takes memory for both. Out of
+    /// memory, it changes nothing.
     pub fn hold(&mut self, name: &str, bytes: &[u8]) -> Result<(), Memory>
         ensures ok { OnOk result (Gives self.old.held self.new.held name.now bytes.now) }
         ensures rest { self.new ≡ record self.old { held = self.new.held } }
@@ -72,8 +75,8 @@ impl Files for MemFiles {
 
     ghost readings = { λ files. Some files.calls };
 
-    /// Answers a fault exactly where the reading is one of those that fail, or the name isn't there.
-    /// TooLong is answered without a copy.
+    /// Fails exactly where the reading is one of those that are to fail, or the name isn't there.
+    /// It copies nothing where it returns TooLong.
     fn read(&mut self, alloc: Global, name: &str, max: u64) -> FileRead
         ensures count { self.old.faults ≤ self.new.faults }
         ensures failed { result ≡ file_read.Failed → HasRisen self.old.faults self.new.faults }
@@ -81,7 +84,7 @@ impl Files for MemFiles {
         ensures bytes { Tells (bytes_of self.old.held name.now) max result }
         ensures same { self.new.held ≡ self.old.held }
         ensures reading { self.new.calls ≡ one_more self.old.calls }
-        ensures exact { Answers (fails_next self.old) (bytes_of self.old.held name.now) max result }
+        ensures exact { IsReading (fails_next self.old) (bytes_of self.old.held name.now) max result }
         ensures after { self.new ≡ after_read self.old result }
     {
         self.calls = self.calls.saturating_add(1);

@@ -13,7 +13,7 @@ use tb_base::Memory;
 /// A sink in memory that takes no more bytes than its bound.
 ///
 /// No write takes memory. The write that would pass the bound takes bytes up to it and fails, and
-/// every later write fails and takes nothing.
+/// every later write, also of an empty piece, fails and takes nothing.
 #[derive(Drop)]
 pub struct MemSink {
     taken: Vec<u8>,

@@ -14,7 +14,8 @@ use std::{fs, io};
 /// The files of the system.
 ///
 /// They tell nothing of what a name holds. Each error of the system counts one fault, up to the
-/// count's last value, and is answered as a fault, but for want of memory.
+/// count's last value, and the reading fails. Out of memory is no fault: the reading returns
+/// Memory.
 #[derive(Drop)]
 pub struct RealFiles<'a, R: FileSystem> {
     rt: &'a R,
@@ -39,7 +40,7 @@ impl<'a, R: FileSystem> Files for RealFiles<'a, R> {
     /// never more than one byte beyond `max`.
     fn read(&mut self, alloc: Global, name: &str, max: u64) -> FileRead {
         match read_file(self.rt, alloc, name, max) {
-            Ok(answer) => answer,
+            Ok(read) => read,
             Err(e) if e.kind() == ErrorKind::OutOfMemory => FileRead::Memory,
             Err(_) => {
                 self.faults = self.faults.saturating_add(1);
@@ -49,11 +50,11 @@ impl<'a, R: FileSystem> Files for RealFiles<'a, R> {
     }
 }
 
-// The bytes of the file, or TooLong. The size that the system tells may be wrong, as at a pipe or at
-// a file that grows: only the bytes that come decide.
+// The bytes of the file, or TooLong. A size above `max` is believed; else only the bytes that come
+// decide, since a pipe tells no size and a file may grow.
 fn read_file<R: FileSystem>(rt: &R, alloc: Global, name: &str, max: u64) -> io::Result<FileRead>
     ensures within { IfOk result (IsWithin max) }
-    ensures sure { IfOk result (λ answer. answer ≢ file_read.Failed) }
+    ensures sure { IfOk result (λ read. read ≢ file_read.Failed) }
 {
     let file = fs::open(rt, name)?;
     let size = size_of(&file.metadata()?);

@@ -15,7 +15,8 @@ const BUFFER: usize = 65_536;
 /// The standard output, behind one buffer.
 ///
 /// It tells nothing of what it took. Each error of the system counts one fault, up to the count's
-/// last value. What the buffer holds reaches the system by a later write or by `flush`.
+/// last value, and the write fails. What the buffer holds reaches the system by a later write or by
+/// `flush`.
 #[derive(Drop)]
 pub struct RealSink<'a, P: Print> {
     out: BufWriter<Printer<'a, P>>,
@@ -23,8 +24,8 @@ pub struct RealSink<'a, P: Print> {
 }
 
 impl<'a, P: Print> RealSink<'a, P> {
-    /// The standard output of this runtime, with no fault so far. It takes memory for the buffer, and
-    /// no write takes any.
+    /// The standard output of this runtime, with no fault so far. It takes memory for the buffer,
+    /// and no write takes any.
     pub fn new(rt: &'a P, alloc: Global) -> Result<RealSink<'a, P>, Memory>
         ensures { IfOk result (λ sink. sink.faults ≡ 0) }
     {

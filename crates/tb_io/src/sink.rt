@@ -7,9 +7,10 @@ use crate::answers::Wrote;
 
 /// What takes bytes, in pieces, one after another.
 ///
-/// A write that fails has taken a first part of its piece. A fault is answered only where the count
-/// of faults rose in that call; taking nothing of a piece that isn't empty is a fault. `taken` is
-/// the sink's meaning, where it tells it: all bytes taken so far.
+/// A write takes all of its piece, or fails and takes a first part of it. It fails only where the
+/// count of faults rose in that call; taking nothing of a piece that isn't empty is a fault.
+/// `faults` is that count, and `taken` the sink's meaning, where it tells it: all bytes taken so
+/// far.
 pub trait Sink {
     ghost faults: { Self → ℕ };
 
@@ -20,5 +21,6 @@ pub trait Sink {
         ensures count { faults self.old ≤ faults self.new }
         ensures failed { result ≡ wrote.Failed → HasRisen (faults self.old) (faults self.new) }
         ensures all { result ≡ wrote.All → Took (taken self.old) (taken self.new) bytes.now }
-        ensures part { result ≡ wrote.Failed → TookPart (taken self.old) (taken self.new) bytes.now };
+        ensures part { result ≡ wrote.Failed
+            → TookPart (taken self.old) (taken self.new) bytes.now };
 }

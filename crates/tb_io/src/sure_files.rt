@@ -4,8 +4,8 @@ ghost use Rattle.tb_io.specs.HeldFiles.{bytes_or_none, Gives};
 ghost use Rattle.tb_io.specs.declared.answers.FileRead.TheVariants as file_read;
 
 use crate::answers::FileRead;
+use crate::file_map::{FileMap, copy_of};
 use crate::files::Files;
-use crate::held::{Held, copy_of};
 use std::alloc::Global;
 use std::marker::Model;
 use tb_base::Memory;
@@ -15,7 +15,7 @@ use tb_base::Memory;
 /// Every name is there, and one for which nothing is held is empty.
 #[derive(Drop)]
 pub struct SureFiles {
-    held: Held,
+    held: FileMap,
 }
 
 impl Model for SureFiles {
@@ -32,12 +32,12 @@ impl SureFiles {
         ensures { result ≡ [] }
     {
         SureFiles {
-            held: Held::new(alloc),
+            held: FileMap::new(alloc),
         }
     }
 
-    /// Gives the name these bytes, in place of those that it had. It takes memory for both; where
-    /// that is refused, the files are as before.
+    /// Gives the name these bytes, in place of those that it had. It takes memory for both. Out of
+    /// memory, it changes nothing.
     pub fn hold(&mut self, name: &str, bytes: &[u8]) -> Result<(), Memory>
         ensures ok { OnOk result (Gives self.old self.new name.now bytes.now) }
         ensures err { OnErr result (self.new ≡ self.old) }
@@ -61,7 +61,7 @@ impl Files for SureFiles {
 
     ghost content = { λ files. Some (λ name. Some (bytes_or_none files name)) };
 
-    /// Never answers a fault. TooLong is answered without a copy.
+    /// Never fails. It copies nothing where it returns TooLong.
     fn read(&mut self, alloc: Global, name: &str, max: u64) -> FileRead
         ensures sure { result ≢ file_read.Failed }
         ensures within { IsWithin max result }

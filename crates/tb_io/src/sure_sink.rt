@@ -10,8 +10,8 @@ use tb_base::Memory;
 
 /// A sink in memory that never fails.
 ///
-/// It grows with what it takes. Where its growth is refused it keeps no bytes any more and tells
-/// none, for ever after; the write is answered like any other.
+/// It grows with what it takes. Once it is out of memory it keeps no bytes any more and tells none,
+/// for ever after; each write returns All all the same.
 #[derive(Drop)]
 pub struct SureSink {
     text: Option<Vec<u8>>,
@@ -35,7 +35,7 @@ impl SureSink {
         }
     }
 
-    /// All bytes taken so far, while the sink tells them, and Memory exactly afterwards.
+    /// All bytes taken so far, or Memory exactly where the sink was out of memory at some write.
     pub fn text(&self) -> Result<&[u8], Memory>
         ensures told { IfOk result (λ text. self.now ≡ Some text.now) }
         ensures lost { OnErr result (self.now ≡ None) }

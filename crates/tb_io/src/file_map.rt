@@ -1,4 +1,4 @@
-// Files in memory: what both forms of files in memory keep.
+// Bytes by names, which both forms of files in memory keep.
 
 ghost use Rattle.std.specs.Prelude.{◌≡◌, [], IfSome, IfNone, None, Some, OnOk, OnErr, IfOk};
 ghost use Rattle.std.specs.Option.{option_copied};
@@ -13,12 +13,12 @@ use tb_base::Memory;
 
 /// Names with their bytes.
 #[derive(Drop)]
-pub(crate) struct Held {
+pub(crate) struct FileMap {
     files: HashMap<String, Vec<u8>>,
     alloc: Global,
 }
 
-impl Model for Held {
+impl Model for FileMap {
     ghost use Rattle.tb_io.specs.HeldFiles.{HeldFiles, held_of};
 
     ghost Value = { HeldFiles };
@@ -26,18 +26,18 @@ impl Model for Held {
     ghost view = { λ h. held_of h.files.entries };
 }
 
-impl Held {
+impl FileMap {
     /// No files.
-    pub(crate) fn new(alloc: Global) -> Held
+    pub(crate) fn new(alloc: Global) -> FileMap
         ensures { result ≡ [] }
     {
-        Held {
+        FileMap {
             files: HashMap::new(alloc),
             alloc,
         }
     }
 
-    /// Gives the name these bytes. After want of memory all is as before.
+    /// Gives the name these bytes. Out of memory, it changes nothing.
     pub(crate) fn hold(&mut self, name: &str, bytes: &[u8]) -> Result<(), Memory>
         ensures ok { OnOk result (Gives self.old self.new name.now bytes.now) }
         ensures err { OnErr result (self.new ≡ self.old) }
@@ -48,7 +48,7 @@ impl Held {
         Ok(())
     }
 
-    /// The bytes of the name.
+    /// The bytes of the name, None exactly where it isn't there.
     pub(crate) fn bytes(&self, name: &str) -> Option<&[u8]>
         ensures { option_copied result ≡ bytes_of self.now name.now }
     {

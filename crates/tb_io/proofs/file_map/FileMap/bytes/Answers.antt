@@ -1,6 +1,6 @@
 use Rattle.std.proofs.Common.{refl}
 use Rattle.tb_io.proofs.HeldLemmas.{bytes_of-held}
-use Rattle.tb_io.proofs.held.Held.bytes.Goals as goal
+use Rattle.tb_io.proofs.file_map.FileMap.bytes.Goals as goal
 
 pub returns-in-Some : goal.returns-in-Some
 returns-in-Some c = rw (← c.self.view_is, bytes_of-held, ← c.in-Some.ensures.value, c.as_slice.ensures.value) refl

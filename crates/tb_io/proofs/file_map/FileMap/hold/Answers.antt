@@ -1,7 +1,7 @@
 use Rattle.std.proofs.Common.{string_bytes, Some}
 use Rattle.std.proofs.lemmas.Map.Text.{hash_map_updates_text}
 use Rattle.tb_io.proofs.HeldLemmas.{Gives-held}
-use Rattle.tb_io.proofs.held.Held.hold.Goals as goal
+use Rattle.tb_io.proofs.file_map.FileMap.hold.Goals as goal
 
 pub returns-clause-ok : goal.returns-clause-ok
 returns-clause-ok c =
