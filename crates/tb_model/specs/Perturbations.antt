@@ -1,5 +1,7 @@
 -- The perturbation table, and what is shown for a cell.
-use Rattle.std.specs.Prelude.{ℕ, ◌+◌, ◌-◌, ◌%◌, ◌==◌, ◌&&◌, nat_le, int_lt, nat_abs, if◌then◌else◌, ℤ, pos, ◌+ℤ◌, List, Option, Some, None, find, codes, decimal}
+use Rattle.std.specs.Prelude.{ℕ, ◌+◌, ◌-◌, ◌%◌, ◌==◌, ◌&&◌, nat_le, if◌then◌else◌}
+use Rattle.std.specs.Prelude.{ℤ, pos, ◌+ℤ◌, int_lt, nat_abs}
+use Rattle.std.specs.Prelude.{List, Option, Some, None, find, codes, decimal}
 use Rattle.std.specs.Option.{option_map_or}
 use Rattle.tb_base.specs.declared.cells.Cell.{Cell}
 use Rattle.tb_model.specs.declared.names.PerturbationLine.{PerturbationLine}
@@ -7,7 +9,8 @@ use Rattle.tb_model.specs.declared.rows.TheConstants.{LARGE_ROWS, LARGE_ROWS_BEG
 use Rattle.tb_model.specs.declared.names.Shown.{Shown}
 use Rattle.tb_model.specs.declared.names.Shown.TheVariants.{Number, Suppressed}
 
--- the row of the perturbation table for a count: rows 501 to 750 serve all larger counts again and again
+-- the row of the perturbation table for a count: rows 501 to 750 serve all larger counts again and
+-- again
 abbrev pub row_of_count : ℕ → Option ℕ
 row_of_count count =
     if count == 0 then None
@@ -16,11 +19,15 @@ row_of_count count =
 
 -- the pvalue that the table lists at a row and a cell key, and 0 where it lists none
 abbrev pub pvalue_at : List PerturbationLine → ℕ → ℕ → ℤ
-pvalue_at lines row ckey = option_map_or (λ line. line.pvalue) (find (λ line. (line.pcv == row) && (line.ckey == ckey)) lines) (pos 0)
+pvalue_at lines row ckey =
+    option_map_or (λ line. line.pvalue)
+    (find (λ line. (line.pcv == row) && (line.ckey == ckey)) lines) (pos 0)
 
--- the perturbation of a count and a cell key, by the pvalue at each row and cell key; an empty cell has none
+-- the perturbation of a count and a cell key, by the pvalue at each row and cell key; an empty cell
+-- has none
 abbrev pub perturbation : (ℕ → ℕ → ℤ) → ℕ → ℕ → ℤ
-perturbation pvalues count ckey = option_map_or (λ row. pvalues row ckey) (row_of_count count) (pos 0)
+perturbation pvalues count ckey =
+    option_map_or (λ row. pvalues row ckey) (row_of_count count) (pos 0)
 
 -- a cell's count with its perturbation
 abbrev pub perturbed : (ℕ → ℕ → ℤ) → Cell → ℤ
@@ -29,7 +36,8 @@ perturbed pvalues cell = pos cell.count +ℤ perturbation pvalues cell.count cel
 -- what is shown for a cell: the perturbed count, unless it is below the threshold
 abbrev pub shown : (ℕ → ℕ → ℤ) → ℕ → Cell → Shown
 shown pvalues threshold cell =
-    if int_lt (perturbed pvalues cell) (pos threshold) then Suppressed else Number (nat_abs (perturbed pvalues cell))
+    if int_lt (perturbed pvalues cell) (pos threshold) then Suppressed
+    else Number (nat_abs (perturbed pvalues cell))
 
 -- its text
 abbrev pub shown_text : Shown → List ℕ

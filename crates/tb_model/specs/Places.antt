@@ -1,5 +1,6 @@
 -- The places of a table, the records that belong to a place, and the cells counted from scratch.
-use Rattle.std.specs.Prelude.{ℕ, ◌==◌, ◌&&◌, Bool, true, if◌then◌else◌, List, [], ◌∷◌, ◌++◌, map, filter, zip}
+use Rattle.std.specs.Prelude.{ℕ, ◌==◌, ◌&&◌, Bool, true, if◌then◌else◌}
+use Rattle.std.specs.Prelude.{List, [], ◌∷◌, ◌++◌, map, filter, zip}
 use Rattle.std.specs.List.{list_all, range_with_len}
 use Rattle.tb_base.specs.declared.records.Record.{Record}
 use Rattle.tb_base.specs.declared.cells.Cell.{Cell}
@@ -18,7 +19,9 @@ Place = List Entry
 
 -- the entries of a dimension in order, Total last
 abbrev pub entries_of : SchemaValue → QueryValue → NameOf → List Entry
-entries_of schema query of = map entry.Category (range_with_len 0 (category_count schema of)) ++ (if query.totals then entry.Total ∷ [] else [])
+entries_of schema query of =
+    map entry.Category (range_with_len 0 (category_count schema of))
+    ++ (if query.totals then entry.Total ∷ [] else [])
 
 -- the places of a query's table, the last dimension fastest
 abbrev pub places_of : SchemaValue → QueryValue → List Place
@@ -29,18 +32,22 @@ abbrev pub covers : Entry → ℕ → Bool
 covers (entry.Category k) category = k == category
 covers entry.Total category = true
 
--- whether the categories under the dimensions are those of a place
+-- whether a place covers the category under each dimension
 abbrev pub lies_in : SchemaValue → List NameOf → Place → (ℕ → ℕ) → Bool
-lies_in schema dimensions place at = list_all (λ d. covers d.1 (category_of schema d.0 at)) (zip dimensions place)
+lies_in schema dimensions place at =
+    list_all (λ d. covers d.1 (category_of schema d.0 at)) (zip dimensions place)
 
 -- whether categories pass each filter of a query and lie in a place
 abbrev pub belongs : SchemaValue → QueryValue → Place → (ℕ → ℕ) → Bool
-belongs schema query place at = passes_all schema query at && lies_in schema query.dimensions place at
+belongs schema query place at =
+    passes_all schema query at && lies_in schema query.dimensions place at
 
 -- the own records of a place: those that pass each filter and lie in the place
 abbrev pub own_records : SchemaValue → QueryValue → Place → List Record → List Record
-own_records schema query place records = filter (λ r. belongs schema query place (category_at r)) records
+own_records schema query place records =
+    filter (λ r. belongs schema query place (category_at r)) records
 
 -- the cells of a query's table, one for each place
 abbrev pub cells_of : SchemaValue → QueryValue → List Record → List Cell
-cells_of schema query records = map (λ place. cell_of (own_records schema query place records)) (places_of schema query)
+cells_of schema query records =
+    map (λ place. cell_of (own_records schema query place records)) (places_of schema query)

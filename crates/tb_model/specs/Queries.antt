@@ -5,7 +5,8 @@ use Rattle.tb_model.specs.declared.names.NameOf.{NameOf}
 use Rattle.tb_model.specs.declared.names.Filter.{Filter}
 use Rattle.tb_model.specs.Schemas.{SchemaValue, category_of}
 
--- the dimensions of the table, the filters on its records, and whether it has totals, and labels in place of codes
+-- the dimensions of the table, the filters on its records, whether it has totals, and whether it
+-- has labels in place of codes
 pub record QueryValue : Type 0 where
   pub dimensions : List NameOf
   pub filters : List Filter

@@ -7,22 +7,31 @@ use Rattle.tb_base.specs.declared.records.Record.{Record}
 use Rattle.tb_base.specs.Records.{record_code}
 use Rattle.tb_model.specs.Setups.{SetupValue}
 
--- the records, the key of each person who ever stood among them, the release's number, and how many changes led to it
+-- the records, the key book (the key of each person who ever stood among them), the release's
+-- number, and how many changes led to it
 pub record ReleaseValue : Type 0 where
   pub records : List Record
   pub key_book : finmap.FinMap nat_cmp ℕ
   pub number : ℕ
   pub changes : ℕ
 
--- release 0 over a setup: the records of the microdata with their own keys, before any change
+-- release 0 over a setup: the microdata's records, each person's key in the key book, and no change
+-- so far; nothing of the setup stands in it today
 abbrev pub first_release : SetupValue → List Record → ReleaseValue
 first_release setup people =
-    record { records = people; key_book = finmap.from_entries (map (λ r. (r.person, r.key)) people); number = 0; changes = 0 }
+    record {
+      records = people;
+      key_book = finmap.from_entries (map (λ r. (r.person, r.key)) people);
+      number = 0;
+      changes = 0;
+    }
 
--- how a release is stored, for the type that is seen as one
+-- how a release is coded, for a type whose value is one
 abbrev pub release_code : Coded ReleaseValue
 release_code =
-    code_by (List Record × (finmap.FinMap nat_cmp ℕ × (ℕ × ℕ))) (coded× (coded_list record_code) (coded× (finmap.code coded_ℕ coded_ℕ) (coded× coded_ℕ coded_ℕ)))
+    code_by (List Record × (finmap.FinMap nat_cmp ℕ × (ℕ × ℕ)))
+    (coded× (coded_list record_code)
+    (coded× (finmap.code coded_ℕ coded_ℕ) (coded× coded_ℕ coded_ℕ)))
     (λ r. (r.records, (r.key_book, (r.number, r.changes))))
     (λ p. record { records = p.0; key_book = p.1.0; number = p.1.1.0; changes = p.1.1.1 })
     (λ _. refl)

@@ -1,13 +1,13 @@
--- The rules that are in force at a release. Today they are the setup's at each release.
+-- The rules by which a table at a release is shown. Today each release has the setup's own.
 use Rattle.std.specs.Prelude.{ℕ, ℤ}
 use Rattle.tb_model.specs.Perturbations.{pvalue_at}
 use Rattle.tb_model.specs.Releases.{ReleaseValue}
 use Rattle.tb_model.specs.Setups.{SetupValue}
 
--- the pvalue at each row and cell key
+-- the pvalue at each row and cell key, at a release: the one in the setup's perturbation table
 abbrev pub pvalues_of : SetupValue → ReleaseValue → ℕ → ℕ → ℤ
 pvalues_of setup release = pvalue_at setup.lines
 
--- the perturbed count below which no count is shown
+-- the threshold at a release, below which no perturbed count is shown: the setup's own
 abbrev pub threshold_of : SetupValue → ReleaseValue → ℕ
 threshold_of setup release = setup.threshold

@@ -1,4 +1,5 @@
--- A classification: the variables with their categories, and the recodes that group the categories of a variable.
+-- A classification: the variables with their categories, and the recodes that group the categories
+-- of a variable.
 use Rattle.std.specs.Prelude.{ℕ, List, [], length, map, slice_index, slice_index_or}
 use Rattle.tb_model.specs.declared.names.NameOf.{NameOf}
 use Rattle.tb_model.specs.declared.names.NameOf.TheVariants as name_of
@@ -13,35 +14,40 @@ pub record VariableValue : Type 0 where
   pub name : List ℕ
   pub categories : List CategoryValue
 
--- a recode of a variable: its groups' codes in order, and for each category of the variable the number of its group
+-- a recode of a variable: its groups' codes in order, and for each category of the variable the
+-- number of its group
 pub record RecodeValue : Type 0 where
   pub name : List ℕ
   pub variable : ℕ
   pub groups : List (List ℕ)
   pub group_of : List ℕ
 
+-- the variables and the recodes, each in the order of first appearance in its file
 pub record SchemaValue : Type 0 where
   pub variables : List VariableValue
   pub recodes : List RecodeValue
 
--- the variable or recode of a number
+-- the variable of a number
 abbrev pub variable_at : SchemaValue → ℕ → VariableValue
 variable_at schema v = slice_index_or schema.variables v (record { name = []; categories = [] })
 
+-- the recode of a number
 abbrev pub recode_at : SchemaValue → ℕ → RecodeValue
-recode_at schema r = slice_index_or schema.recodes r (record { name = []; variable = 0; groups = []; group_of = [] })
+recode_at schema r =
+    slice_index_or schema.recodes r
+    (record { name = []; variable = 0; groups = []; group_of = [] })
 
--- the name itself
+-- the text of a name
 abbrev pub name_text : SchemaValue → NameOf → List ℕ
 name_text schema (name_of.Variable v) = (variable_at schema v).name
 name_text schema (name_of.Recode r) = (recode_at schema r).name
 
--- the variable that a name reads
+-- the variable that a name stands for or recodes
 abbrev pub base_of : SchemaValue → NameOf → ℕ
 base_of schema (name_of.Variable v) = v
 base_of schema (name_of.Recode r) = (recode_at schema r).variable
 
--- a category of the variable that a name reads, after recoding
+-- the category under a name, where its variable has this one: for a recode the category's group
 abbrev pub recoded : SchemaValue → NameOf → ℕ → ℕ
 recoded schema (name_of.Variable v) category = category
 recoded schema (name_of.Recode r) category = slice_index (recode_at schema r).group_of category

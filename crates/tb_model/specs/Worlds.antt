@@ -8,7 +8,8 @@ use Rattle.tb_model.specs.Perturbations.{shown, shown_text, perturbation}
 use Rattle.tb_model.specs.Queries.{QueryValue}
 use Rattle.tb_model.specs.Places.{Place, own_records}
 
--- a schema, the pvalue at each row and cell key, a threshold, the records of a release, a query and a place of its table
+-- what a shown cell comes from: a schema; the pvalue at each row and cell key, the threshold and
+-- the records of a release; a query and a place of its table
 pub record World : Type 0 where
   pub schema : SchemaValue
   pub pvalues : ℕ → ℕ → ℤ
@@ -21,19 +22,23 @@ pub record World : Type 0 where
 abbrev pub own_of : World → List Record
 own_of w = own_records w.schema w.query w.place w.records
 
--- their number, and the sum of their keys modulo the key range
+-- how many they are
 abbrev pub own_count : World → ℕ
 own_count w = length (own_of w)
 
+-- the sum of their keys modulo the key range
 abbrev pub own_key : World → ℕ
 own_key w = sum_by (λ r. r.key) (own_of w) % KEY_RANGE
 
--- equally many own records with equal keys modulo the key range, equal thresholds, and one perturbation for that count and key
+-- equally many own records with the same sum of keys modulo the key range, the same threshold, and
+-- the same perturbation of that count and key
 pub record AgreeAt (v w : World) : Type 0 where
   pub count : own_count v ≡ own_count w
   pub key : own_key v ≡ own_key w
   pub threshold : v.threshold ≡ w.threshold
-  pub same_perturbation : perturbation v.pvalues (own_count v) (own_key v) ≡ perturbation w.pvalues (own_count v) (own_key v)
+  pub same_perturbation :
+      perturbation v.pvalues (own_count v) (own_key v)
+      ≡ perturbation w.pvalues (own_count v) (own_key v)
 
 -- the text that is shown at the world's place
 abbrev pub text_at : World → List ℕ
