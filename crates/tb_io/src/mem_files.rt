@@ -84,7 +84,8 @@ impl Files for MemFiles {
         ensures bytes { Tells (bytes_of self.old.held name.now) max result }
         ensures same { self.new.held ≡ self.old.held }
         ensures reading { self.new.calls ≡ one_more self.old.calls }
-        ensures exact { IsReading (fails_next self.old) (bytes_of self.old.held name.now) max result }
+        ensures exact { IsReading (fails_next self.old) (bytes_of self.old.held name.now) max
+            result }
         ensures after { self.new ≡ after_read self.old result }
     {
         self.calls = self.calls.saturating_add(1);
