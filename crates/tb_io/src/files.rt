@@ -11,6 +11,7 @@ use std::alloc::Global;
 /// No reading changes what a name holds. A reading fails only where the count of faults rose in
 /// that call; a name that isn't there is a fault. `faults` is that count, and `content` the files'
 /// meaning, where they tell it: for each name its bytes, or None where the name isn't there.
+/// `readings` is how many readings there were, up to a count's last value, where they tell it.
 pub trait Files {
     ghost faults: { Self → ℕ };
 
