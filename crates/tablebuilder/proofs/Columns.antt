@@ -17,7 +17,7 @@ use Rattle.tb_model.specs.declared.names.Entry.TheVariants as entry
 use Rattle.tb_model.specs.declared.names.NameOf.TheVariants as name_of
 use Rattle.tb_model.specs.Schemas.{SchemaValue, VariableValue, category_count, shape_of}
 use Rattle.tb_model.specs.Places.{cells_of, own_records}
-use Rattle.tablebuilder.specs.Scripts.{table_of}
+use Rattle.tablebuilder.specs.Scripts.{query_of}
 
 -- whether a record has this category
 abbrev pub has : ℕ → ℕ → Record → Bool
@@ -27,13 +27,13 @@ abbrev pub column : ℕ → ℕ → List Record → List Cell
 column v n records = cells_by (has v) (range_with_len 0 n) records
 
 column_over : (schema : SchemaValue) (v : ℕ) (records : List Record) (ks : List ℕ)
-    → map (λ place. cell_of (own_records schema (table_of v) place records)) (flat_map (λ (x : Entry). (x ∷ []) ∷ []) (map entry.Category ks ++ []))
+    → map (λ place. cell_of (own_records schema (query_of v) place records)) (flat_map (λ (x : Entry). (x ∷ []) ∷ []) (map entry.Category ks ++ []))
     ≡ map (λ k. cell_of (filter (has v k) records)) ks
 column_over schema v records [] = refl
 column_over schema v records (k ∷ ks) = ap (λ cells. cell_of (filter (has v k) records) ∷ cells) (column_over schema v records ks)
 
 -- the table's cells are the column
-pub cells_of_column : (schema : SchemaValue) (v n : ℕ) (records : List Record) → n ≡ category_count schema (name_of.Variable v) → cells_of schema (table_of v) records ≡ column v n records
+pub cells_of_column : (schema : SchemaValue) (v n : ℕ) (records : List Record) → n ≡ category_count schema (name_of.Variable v) → cells_of schema (query_of v) records ≡ column v n records
 cells_of_column schema v n records e = rw e (column_over schema v records (range_with_len 0 (category_count schema (name_of.Variable v))))
 
 -- one more record is put into the cell of its category

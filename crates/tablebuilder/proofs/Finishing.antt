@@ -1,108 +1,280 @@
--- What a status tells, from how the run ended and what was taken of its last line.
-use Rattle.std.proofs.Common.{◌≡◌, sym, refl, ℕ, zero, suc, List, [], ◌++◌, take, Option, Some, None, Err, inl, inr, append-nil}
+-- What a call keeps, from how the run ended and what was taken of its text.
+use Rattle.std.proofs.Common.{◌≡◌, ◌≢◌, ◌⊎◌, ◌∙◌, sym, ap, subst, refl, ℕ, List, [], ◌++◌, take, drop, Option, Some, None, Result, Ok, Err, inl, inr}
 use Rattle.std.specs.Prelude.{IfSome}
-use Rattle.std.specs.List.{concat}
-use Rattle.tb_io.specs.Taken.{Took, TookPart}
-use Rattle.tb_io.proofs.TakenLemmas.{Took-append, TookPart-append}
+use Rattle.std.proofs.lemmas.List.{take-append-drop}
 use Rattle.tb_base.specs.declared.status.Status.{Status}
 use Rattle.tb_base.specs.declared.status.Status.TheVariants as status
+use Rattle.tb_io.specs.Taken.{TookPart}
+use Rattle.tablebuilder.specs.declared.endings.Input.{Input}
 use Rattle.tablebuilder.specs.declared.endings.Input.TheVariants as input
 use Rattle.tablebuilder.specs.declared.endings.End.{End}
 use Rattle.tablebuilder.specs.declared.endings.End.TheVariants as end
+use Rattle.tablebuilder.specs.declared.load.Asked.{Asked}
+use Rattle.tablebuilder.specs.Asking.{AskedValue, asked_by, asked_of, asked_over, contents_at, contents_for}
+use Rattle.tablebuilder.specs.Calls.{Call, HasTaken, ReadFailed, WriteFailed, readings_more}
+use Rattle.tablebuilder.specs.Commands.{CommandValue, command_of}
 use Rattle.tablebuilder.specs.Endings.{last_line, status_of}
-use Rattle.tablebuilder.specs.Runs.{Ends, some_tables, tables_of}
-use Rattle.tablebuilder.specs.Promises.{IsDefined, Tells}
+use Rattle.tablebuilder.specs.Loading.{Gives, Loads, Reading, asked_value}
+use Rattle.tablebuilder.specs.Promises.{EndsBy, IsCaused, IsDefined, IsLastLine, IsTextOf, IsWhole, Keeps, class_readings, defined_status, reading_number}
+use Rattle.tablebuilder.specs.Replies.{IsOutput}
 
--- nothing more was taken after a part
-part_then_nothing : (a b c : Option (List ℕ)) (xs : List ℕ) → TookPart a b xs → Took b c [] → TookPart a c xs
-part_then_nothing a b c xs h n =
-    let t : Took a c (take h.0 xs ++ []) = Took-append a b c (take h.0 xs) [] h.1 n in
-    (h.0, rw append-nil at t)
+-- what the sink took of the last line of an end, and the status
+abbrev pub IsToldBy : Call → End → Status → Type 0
+IsToldBy call e s =
+    ((s ≡ status_of e) × HasTaken call (last_line e))
+    ⊎ ((s ≡ status.WriteFault) × WriteFailed call × TookPart call.taken call.taken_after (last_line e))
 
--- a part of nothing is nothing
-part_of_nothing : (b c : Option (List ℕ)) → TookPart b c [] → Took b c []
-part_of_nothing b c (zero, h) = h
-part_of_nothing b c (suc k, h) = h
+-- an end has neither of these statuses
+not_of_ends : (e : End) → (status_of e ≢ status.NetFault) × (status_of e ≢ status.WriteFault) × (status_of e ≢ status.Done)
+not_of_ends end.Usage = (λ h. cc, λ h. cc, λ h. cc)
+not_of_ends (end.TooLong input.Classes) = (λ h. cc, λ h. cc, λ h. cc)
+not_of_ends (end.TooLong input.Recodes) = (λ h. cc, λ h. cc, λ h. cc)
+not_of_ends (end.TooLong input.Ptable) = (λ h. cc, λ h. cc, λ h. cc)
+not_of_ends (end.TooLong input.People) = (λ h. cc, λ h. cc, λ h. cc)
+not_of_ends (end.TooLong input.Script) = (λ h. cc, λ h. cc, λ h. cc)
+not_of_ends (end.Unread file) = (λ h. cc, λ h. cc, λ h. cc)
+not_of_ends (end.Refused input.Classes name at) = (λ h. cc, λ h. cc, λ h. cc)
+not_of_ends (end.Refused input.Recodes name at) = (λ h. cc, λ h. cc, λ h. cc)
+not_of_ends (end.Refused input.Ptable name at) = (λ h. cc, λ h. cc, λ h. cc)
+not_of_ends (end.Refused input.People name at) = (λ h. cc, λ h. cc, λ h. cc)
+not_of_ends (end.Refused input.Script name at) = (λ h. cc, λ h. cc, λ h. cc)
+not_of_ends (end.BadLine at) = (λ h. cc, λ h. cc, λ h. cc)
+not_of_ends end.Memory = (λ h. cc, λ h. cc, λ h. cc)
 
--- no end has the status of a listener's fault
-pub status_of-net : (e : End) → status_of e ≡ status.NetFault → ⊥
-status_of-net end.Usage h = cc
-status_of-net (end.TooLong input.Classes) h = cc
-status_of-net (end.TooLong input.Ptable) h = cc
-status_of-net (end.TooLong input.People) h = cc
-status_of-net (end.TooLong input.Script) h = cc
-status_of-net (end.Unread file) h = cc
-status_of-net (end.Classes kind n) h = cc
-status_of-net (end.Ptable kind n) h = cc
-status_of-net (end.People kind n) h = cc
-status_of-net (end.Script n) h = cc
-status_of-net end.WriteFault h = cc
-status_of-net end.Memory h = cc
+module _ (call : Call) (at : List ℕ → Option (List ℕ)) where
+  -- a last line is the text of its status
+  whole_by_status : (s : Status) (text : List ℕ) → s ≢ status.Done → s ≢ status.WriteFault → s ≢ status.NetFault → s ≢ status.Memory → IsLastLine call at s text → IsWhole call at s text
+  whole_by_status status.Done text d w n m h = absurd (d refl)
+  whole_by_status status.Usage text d w n m h = h
+  whole_by_status status.Schema text d w n m h = h
+  whole_by_status status.Perturbation text d w n m h = h
+  whole_by_status status.Microdata text d w n m h = h
+  whole_by_status status.Script text d w n m h = h
+  whole_by_status status.ReadFault text d w n m h = h
+  whole_by_status status.WriteFault text d w n m h = absurd (w refl)
+  whole_by_status status.Memory text d w n m h = absurd (m refl)
+  whole_by_status status.NetFault text d w n m h = absurd (n refl)
 
-module _ (at : List ℕ → Option (List ℕ)) (words : List (List ℕ)) (read_rose write_rose : Type 0) (a b c : Option (List ℕ)) where
-  -- the whole last line was taken
-  tells_all : (e : End) → Ends at words read_rose write_rose (Took a b) (TookPart a b) (Err e) → Took b c (last_line e) → Tells at words (Took a c) (TookPart a c) (status_of e)
-  tells_all end.Usage h t = (end.Usage, h.0, refl, Took-append a b c [] (last_line end.Usage) h.1 t)
-  tells_all (end.TooLong input.Classes) h t = (end.TooLong input.Classes, h.0, refl, Took-append a b c [] _ h.1 t)
-  tells_all (end.TooLong input.Ptable) h t = (end.TooLong input.Ptable, h.0, refl, Took-append a b c [] _ h.1 t)
-  tells_all (end.TooLong input.People) h t = (end.TooLong input.People, h.0, refl, Took-append a b c [] _ h.1 t)
-  tells_all (end.TooLong input.Script) h t = (end.TooLong input.Script, h.0, refl, Took-append a b c [] _ h.1 t)
-  tells_all (end.Unread file) h t = (file, h.1, Took-append a b c [] (last_line (end.Unread file)) h.2 t)
-  tells_all (end.Classes kind n) h t = (end.Classes kind n, h.0, refl, Took-append a b c [] (last_line (end.Classes kind n)) h.1 t)
-  tells_all (end.Ptable kind n) h t = (end.Ptable kind n, h.0, refl, Took-append a b c [] (last_line (end.Ptable kind n)) h.1 t)
-  tells_all (end.People kind n) h t = (end.People kind n, h.0, refl, Took-append a b c [] (last_line (end.People kind n)) h.1 t)
-  tells_all (end.Script n) h t = (end.Script n, h.0, refl, Took-append a b c [] (last_line (end.Script n)) h.1 t)
-  tells_all end.WriteFault h t = let (rose, (tables, is, part)) = h in (concat tables, inl (tables, is, refl), part_then_nothing a b c (concat tables) part t)
-  tells_all end.Memory h t = (h.0, Took-append a b c (some_tables (tables_of at words) h.0) (last_line end.Memory) h.1 t)
+  -- an end is memory's, or has another status
+  memory_or_not : (e : End) → (e ≡ end.Memory) ⊎ ((e ≢ end.Memory) × (status_of e ≢ status.Memory))
+  memory_or_not end.Usage = inr (λ h. cc, λ h. cc)
+  memory_or_not (end.TooLong input.Classes) = inr (λ h. cc, λ h. cc)
+  memory_or_not (end.TooLong input.Recodes) = inr (λ h. cc, λ h. cc)
+  memory_or_not (end.TooLong input.Ptable) = inr (λ h. cc, λ h. cc)
+  memory_or_not (end.TooLong input.People) = inr (λ h. cc, λ h. cc)
+  memory_or_not (end.TooLong input.Script) = inr (λ h. cc, λ h. cc)
+  memory_or_not (end.Unread file) = inr (λ h. cc, λ h. cc)
+  memory_or_not (end.Refused input.Classes name at) = inr (λ h. cc, λ h. cc)
+  memory_or_not (end.Refused input.Recodes name at) = inr (λ h. cc, λ h. cc)
+  memory_or_not (end.Refused input.Ptable name at) = inr (λ h. cc, λ h. cc)
+  memory_or_not (end.Refused input.People name at) = inr (λ h. cc, λ h. cc)
+  memory_or_not (end.Refused input.Script name at) = inr (λ h. cc, λ h. cc)
+  memory_or_not (end.BadLine at) = inr (λ h. cc, λ h. cc)
+  memory_or_not end.Memory = inl refl
 
-  -- a part of the last line was taken
-  refused_part : (e : End) → (tables_of at words ≡ Err e) × Took a b [] → TookPart b c (last_line e) → Tells at words (Took a c) (TookPart a c) status.WriteFault
-  refused_part e h t = (last_line e, inr (inl (e, h.0, refl)), TookPart-append a b c [] (last_line e) h.1 t)
+  whole_by_end : (e : End) → (e ≢ end.Memory → EndsBy call at e) → IsWhole call at (status_of e) (last_line e)
+  whole_by_end e ends = elim (memory_or_not e) [
+    | inl memory ↦ rw memory refl
+    | inr (other, other_status) ↦
+        let (net, write, done) = not_of_ends e in
+        whole_by_status (status_of e) (last_line e) done write net other_status (e, ends other, refl, refl)
+  ]
 
-  tells_part : (e : End) → Ends at words read_rose write_rose (Took a b) (TookPart a b) (Err e) → TookPart b c (last_line e) → Tells at words (Took a c) (TookPart a c) status.WriteFault
-  tells_part end.Usage h t = refused_part end.Usage h t
-  tells_part (end.TooLong file) h t = refused_part (end.TooLong file) h t
-  tells_part (end.Unread file) h t = (last_line (end.Unread file), inr (inr (inl (file, h.1, refl))), TookPart-append a b c [] (last_line (end.Unread file)) h.2 t)
-  tells_part (end.Classes kind n) h t = refused_part (end.Classes kind n) h t
-  tells_part (end.Ptable kind n) h t = refused_part (end.Ptable kind n) h t
-  tells_part (end.People kind n) h t = refused_part (end.People kind n) h t
-  tells_part (end.Script n) h t = refused_part (end.Script n) h t
-  tells_part end.WriteFault h t =
-      let (rose, (tables, is, part)) = h in (concat tables, inl (tables, is, refl), part_then_nothing a b c (concat tables) part (part_of_nothing b c t))
-  tells_part end.Memory h t =
-      (some_tables (tables_of at words) h.0 ++ last_line end.Memory, inr (inr (inr (h.0, refl))), TookPart-append a b c (some_tables (tables_of at words) h.0) (last_line end.Memory) h.1 t)
+  text_by_end : (e : End) (s : Status) → (e ≢ end.Memory → EndsBy call at e) → IsToldBy call e s → (bytes : List ℕ) × IsTextOf call at s bytes × HasTaken call bytes
+  text_by_end e s ends (inl (is, took)) = (last_line e, inl (rw is (whole_by_end e ends)), took)
+  text_by_end e s ends (inr (is, rose, part)) =
+      let line = last_line e in
+      let whole : IsWhole call at (status_of e) (take part.0 line ++ drop part.0 line) = rw (take-append-drop part.0 line) (whole_by_end e ends) in
+      (take part.0 line, inr (is, (status_of e, drop part.0 line, whole)), part.1)
 
-  -- so the status is the defined one, but for want of memory or a fault of the outside
-  defined : (took part : List ℕ → Type 0) (s : Status) → Tells at words took part s → (s ≡ status.ReadFault → read_rose) → (s ≡ status.WriteFault → write_rose) → IsDefined at words read_rose write_rose s
-  defined took part status.Done t r w = inl (rw t.1 refl)
-  defined took part status.Usage t r w = inl (rw t.1 (sym t.2))
-  defined took part status.Schema t r w = inl (rw t.1 (sym t.2))
-  defined took part status.Perturbation t r w = inl (rw t.1 (sym t.2))
-  defined took part status.Microdata t r w = inl (rw t.1 (sym t.2))
-  defined took part status.Script t r w = inl (rw t.1 (sym t.2))
-  defined took part status.ReadFault t r w = inr (inr (inl (refl, r refl)))
-  defined took part status.WriteFault t r w = inr (inr (inr (refl, w refl)))
-  defined took part status.Memory t r w = inr (inl refl)
-  defined took part status.NetFault t r w = absurd t
+  -- the defined status, but for want of memory and faults of the outside
+  defined_by_end : (e : End) (s : Status) → s ≡ status_of e → (e ≢ end.Memory → EndsBy call at e) → ((file : Input) → e ≡ end.Unread file → ReadFailed call) → IsDefined call at s
+  defined_by_end end.Memory s is ends rose = inr (inl is)
+  defined_by_end (end.Unread file) s is ends rose = inr (inr (inl (is, rose file refl)))
+  defined_by_end end.Usage s is ends rose = let (by, caused) = ends (λ h. cc) in inl (is ∙ sym (ap defined_status by))
+  defined_by_end (end.TooLong file) s is ends rose = let (by, caused) = ends (λ h. cc) in inl (is ∙ sym (ap defined_status by))
+  defined_by_end (end.Refused file name n) s is ends rose = let (by, caused) = ends (λ h. cc) in inl (is ∙ sym (ap defined_status by))
+  defined_by_end (end.BadLine n) s is ends rose = let (by, caused) = ends (λ h. cc) in inl (is ∙ sym (ap defined_status by))
 
-module _ (content : Option (List ℕ → Option (List ℕ))) (words : List (List ℕ)) (read_rose write_rose : Type 0) where
-  pub tells-all : (a b c : Option (List ℕ)) (e : End) (s : Status) → s ≡ status_of e → IfSome content (λ at. Ends at words read_rose write_rose (Took a b) (TookPart a b) (Err e)) → Took b c (last_line e)
-      → IfSome content (λ at. Tells at words (Took a c) (TookPart a c) s)
-  tells-all a b c e s is h t = elim content as (λ o. IfSome o (λ at. Ends at words read_rose write_rose (Took a b) (TookPart a b) (Err e)) → IfSome o (λ at. Tells at words (Took a c) (TookPart a c) s)) [
-    | None ↦ λ _. tt
-    | Some at ↦ λ k. rw is (tells_all at words read_rose write_rose a b c e k t)
-  ] h
+  exact_by_end : (e : End) (s : Status) → (e ≢ end.Memory → EndsBy call at e) → ((file : Input) → e ≡ end.Unread file → ReadFailed call) → IsToldBy call e s → IsDefined call at s
+  exact_by_end e s ends rose (inl (is, took)) = defined_by_end e s is ends rose
+  exact_by_end e s ends rose (inr (is, failed, part)) = inr (inr (inr (is, failed)))
 
-  pub tells-part : (a b c : Option (List ℕ)) (e : End) → IfSome content (λ at. Ends at words read_rose write_rose (Took a b) (TookPart a b) (Err e)) → TookPart b c (last_line e)
-      → IfSome content (λ at. Tells at words (Took a c) (TookPart a c) status.WriteFault)
-  tells-part a b c e h t = elim content as (λ o. IfSome o (λ at. Ends at words read_rose write_rose (Took a b) (TookPart a b) (Err e)) → IfSome o (λ at. Tells at words (Took a c) (TookPart a c) status.WriteFault)) [
-    | None ↦ λ _. tt
-    | Some at ↦ λ k. tells_part at words read_rose write_rose a b c e k t
-  ] h
+-- what is true where the files tell what they hold
+where_told : {A : Type 0} (P Q : A → Type 0) (o : Option A) → ((x : A) → P x → Q x) → IfSome o P → IfSome o Q
+where_told P Q None f h = tt
+where_told P Q (Some x) f h = f x h
 
-  pub defined-told : (took part : List ℕ → Type 0) (s : Status) → IfSome content (λ at. Tells at words took part s) → (s ≡ status.ReadFault → read_rose) → (s ≡ status.WriteFault → write_rose)
-      → IfSome content (λ at. IsDefined at words read_rose write_rose s)
-  defined-told took part s h r w = elim content as (λ o. IfSome o (λ at. Tells at words took part s) → IfSome o (λ at. IsDefined at words read_rose write_rose s)) [
-    | None ↦ λ _. tt
-    | Some at ↦ λ k. defined at words read_rose write_rose None None None took part s k r w
-  ] h
+status-usage : (e : End) → status_of e ≡ status.Usage → e ≡ end.Usage
+status-usage end.Usage h = refl
+status-usage (end.TooLong input.Classes) h = cc
+status-usage (end.TooLong input.Recodes) h = cc
+status-usage (end.TooLong input.Ptable) h = cc
+status-usage (end.TooLong input.People) h = cc
+status-usage (end.TooLong input.Script) h = cc
+status-usage (end.Unread file) h = cc
+status-usage (end.Refused input.Classes name at) h = cc
+status-usage (end.Refused input.Recodes name at) h = cc
+status-usage (end.Refused input.Ptable name at) h = cc
+status-usage (end.Refused input.People name at) h = cc
+status-usage (end.Refused input.Script name at) h = cc
+status-usage (end.BadLine at) h = cc
+status-usage end.Memory h = cc
+
+status-read : (e : End) → status_of e ≡ status.ReadFault → (file : Input) × (e ≡ end.Unread file)
+status-read end.Usage h = cc
+status-read (end.TooLong input.Classes) h = cc
+status-read (end.TooLong input.Recodes) h = cc
+status-read (end.TooLong input.Ptable) h = cc
+status-read (end.TooLong input.People) h = cc
+status-read (end.TooLong input.Script) h = cc
+status-read (end.Unread file) h = (file, refl)
+status-read (end.Refused input.Classes name at) h = cc
+status-read (end.Refused input.Recodes name at) h = cc
+status-read (end.Refused input.Ptable name at) h = cc
+status-read (end.Refused input.People name at) h = cc
+status-read (end.Refused input.Script name at) h = cc
+status-read (end.BadLine at) h = cc
+status-read end.Memory h = cc
+
+module _ (call : Call) (e : End) (s : Status) (usage : e ≡ end.Usage → command_of call.words ≡ None) (words : command_of call.words ≡ None → e ≡ end.Usage)
+    (rose : (file : Input) → e ≡ end.Unread file → ReadFailed call) (ends : IfSome call.content (λ at. e ≢ end.Memory → EndsBy call at e)) where
+  usage_told : IsToldBy call e s → s ≡ status.Usage → (command_of call.words ≡ None) × HasTaken call (last_line end.Usage)
+  usage_told (inl (is, took)) h = let u = status-usage e (sym is ∙ h) in (usage u, subst (λ x. HasTaken call (last_line x)) u took)
+  usage_told (inr (is, failed, part)) h = cc
+
+  words_told : IsToldBy call e s → command_of call.words ≡ None → (s ≡ status.Usage) ⊎ (s ≡ status.WriteFault)
+  words_told (inl (is, took)) h = inl (is ∙ ap status_of (words h))
+  words_told (inr (is, failed, part)) h = inr is
+
+  read_told : IsToldBy call e s → s ≡ status.ReadFault → ReadFailed call
+  read_told (inl (is, took)) h = let (file, u) = status-read e (sym is ∙ h) in rose file u
+  read_told (inr (is, failed, part)) h = cc
+
+  write_told : IsToldBy call e s → s ≡ status.WriteFault → WriteFailed call
+  write_told (inl (is, took)) h = let (net, write, done) = not_of_ends e in absurd (write (sym is ∙ h))
+  write_told (inr (is, failed, part)) h = failed
+
+  net_told : IsToldBy call e s → s ≢ status.NetFault
+  net_told (inl (is, took)) h = let (net, write, done) = not_of_ends e in net (sym is ∙ h)
+  net_told (inr (is, failed, part)) h = cc
+
+  -- a run that ends before the script's first line keeps all
+  pub keeps_by_end : IsToldBy call e s → Keeps call s
+  keeps_by_end told = record {
+    text = where_told _ _ call.content (λ at by. text_by_end call at e s by told) ends;
+    usage = usage_told told;
+    words = words_told told;
+    read_fault = read_told told;
+    write_fault = write_told told;
+    no_net = net_told told;
+    exact = where_told _ _ call.content (λ at by. exact_by_end call at e s by rose told) ends;
+  }
+
+-- how the replies were taken, and the status
+abbrev pub IsAnsweredBy : Call → AskedValue → Status → Type 0
+IsAnsweredBy call asked s =
+    ((s ≡ status.Done) × ((text : List ℕ) × IsOutput asked text × HasTaken call text))
+    ⊎ ((s ≡ status.WriteFault) × WriteFailed call × ((text : List ℕ) × IsOutput asked text × TookPart call.taken call.taken_after text))
+
+text_by_replies : (call : Call) (at : List ℕ → Option (List ℕ)) (asked : AskedValue) (s : Status) → asked_of at call.words ≡ Ok asked → IsAnsweredBy call asked s
+    → (bytes : List ℕ) × IsTextOf call at s bytes × HasTaken call bytes
+text_by_replies call at asked s h (inl (is, (text, output, took))) = (text, inl (rw is (asked, h, output)), took)
+text_by_replies call at asked s h (inr (is, failed, (text, output, part))) =
+    let whole : IsWhole call at status.Done (take part.0 text ++ drop part.0 text) = rw (take-append-drop part.0 text) (asked, h, output) in
+    (take part.0 text, inr (is, (status.Done, drop part.0 text, whole)), part.1)
+
+exact_by_replies : (call : Call) (at : List ℕ → Option (List ℕ)) (asked : AskedValue) (s : Status) → asked_of at call.words ≡ Ok asked → IsAnsweredBy call asked s → IsDefined call at s
+exact_by_replies call at asked s h (inl (is, taken)) = inl (is ∙ sym (ap defined_status h))
+exact_by_replies call at asked s h (inr (is, failed, part)) = inr (inr (inr (is, failed)))
+
+by_replies : (call : Call) (asked : AskedValue) (s : Status) → IsAnsweredBy call asked s
+    → (s ≢ status.Usage) × (s ≢ status.ReadFault) × (s ≢ status.NetFault) × (s ≡ status.WriteFault → WriteFailed call)
+by_replies call asked s (inl (is, taken)) = (λ h. cc, λ h. cc, λ h. cc, λ h. cc)
+by_replies call asked s (inr (is, failed, part)) = (λ h. cc, λ h. cc, λ h. cc, λ h. failed)
+
+-- a run that comes to its script keeps all
+pub keeps_by_replies : (call : Call) (command : CommandValue) (asked : AskedValue) (s : Status) → command_of call.words ≡ Some command
+    → IfSome call.content (λ at. asked_of at call.words ≡ Ok asked) → IsAnsweredBy call asked s → Keeps call s
+keeps_by_replies call command asked s named told answered =
+    let (usage, read, net, write) = by_replies call asked s answered in
+    record {
+      text = where_told _ _ call.content (λ at h. text_by_replies call at asked s h answered) told;
+      usage = λ h. absurd (usage h);
+      words = λ h. cc;
+      read_fault = λ h. absurd (read h);
+      write_fault = write;
+      no_net = net;
+      exact = where_told _ _ call.content (λ at h. exact_by_replies call at asked s h answered) told;
+    }
+
+-- what the arguments ask for is what their command asks for
+pub asked_by_command : (at : List ℕ → Option (List ℕ)) (words : List (List ℕ)) (command : CommandValue) (asked : AskedValue) → command_of words ≡ Some command
+    → asked_over command (contents_at at command) ≡ Ok asked → asked_of at words ≡ Ok asked
+asked_by_command at words command asked named h = rw named h
+
+-- what a call saw of its files
+abbrev pub reading_of : Call → Option (List ℕ → Option (List ℕ)) → Reading
+reading_of call after = record {
+  content = call.content;
+  content_after = after;
+  faults = call.read_faults;
+  faults_after = call.read_faults_after;
+  readings = call.readings;
+  readings_after = call.readings_after;
+}
+
+same_command : (words : List (List ℕ)) (command other : CommandValue) → command_of words ≡ Some command → command_of words ≡ Some other → command ≡ other
+same_command words command other h k = cc
+
+caused : (call : Call) (command : CommandValue) (e : End) → command_of call.words ≡ Some command → ((file : Input) → e ≡ end.Unread file → ReadFailed call)
+    → ((file : Input) → e ≡ end.Unread file → call.readings_after ≡ readings_more (reading_number command file) call.readings) → IsCaused call e
+caused call command (end.Unread file) named rose last = (rose file refl, λ other h. subst (λ (c : CommandValue). call.readings_after ≡ readings_more (reading_number c file) call.readings) (same_command call.words command other named h) (last file refl))
+caused call command end.Usage named rose last = tt
+caused call command (end.TooLong file) named rose last = tt
+caused call command (end.Refused file name at) named rose last = tt
+caused call command (end.BadLine at) named rose last = tt
+caused call command end.Memory named rose last = tt
+
+-- how loading ended the run
+pub keeps_by_load : {A : Type 0} (view : A → AskedValue) (call : Call) (after : Option (List ℕ → Option (List ℕ))) (command : CommandValue) (e : End) (s : Status) (n : ℕ) → command_of call.words ≡ Some command
+    → Loads (reading_of call after) command 0 0 n view (asked_over command) (Err e) → IsToldBy call e s → Keeps call s
+keeps_by_load view call after command e s n named loads told =
+    let rose = λ (file : Input) (h : e ≡ end.Unread file). loads.risen file (ap (λ (x : End). Err x) h) in
+    let last = λ (file : Input) (h : e ≡ end.Unread file). loads.last file (ap (λ (x : End). Err x) h) call.readings refl in
+    keeps_by_end call e s
+    (λ h. absurd (loads.usage (ap (λ (x : End). Err x) h))) (λ h. cc) rose
+    (where_told _ _ call.content (λ at g ne. (rw named (g ne), caused call command e named rose last)) loads.gives)
+    told
+
+-- other arguments end the run at once
+pub keeps_by_usage : (call : Call) (s : Status) → command_of call.words ≡ None → IsToldBy call end.Usage s → Keeps call s
+keeps_by_usage call s none told =
+    keeps_by_end call end.Usage s (λ h. none) (λ h. refl) (λ file h. cc) (always call.content) told
+  where
+    always : (o : Option (List ℕ → Option (List ℕ))) → IfSome o (λ at. end.Usage ≢ end.Memory → EndsBy call at end.Usage)
+    always None = tt
+    always (Some at) = λ ne. (rw none refl, tt)
+
+-- files that were all read lead to the script
+pub keeps_by_script : {A : Type 0} (view : A → AskedValue) (call : Call) (after : Option (List ℕ → Option (List ℕ))) (command : CommandValue) (x : A) (s : Status) (n : ℕ) → command_of call.words ≡ Some command
+    → Loads (reading_of call after) command 0 0 n view (asked_over command) (Ok x) → IsAnsweredBy call (view x) s → Keeps call s
+keeps_by_script view call after command x s n named loads answered =
+    keeps_by_replies call command (view x) s named (where_told _ _ call.content (λ at g. asked_by_command at call.words command (view x) named g) loads.gives) answered
+
+-- the text of a read fault is the line that names the file of the last reading
+pub line_of_read_fault : (call : Call) (at : List ℕ → Option (List ℕ)) (s : Status) (bytes : List ℕ) → IsTextOf call at s bytes → s ≡ status.ReadFault
+    → (file : Input) × (bytes ≡ last_line (end.Unread file)) × ((command : CommandValue) → command_of call.words ≡ Some command → call.readings_after ≡ readings_more (reading_number command file) call.readings)
+line_of_read_fault call at s bytes (inl whole) h =
+    let (e, (by, cause), is, text) = subst (λ x. IsWhole call at x bytes) h whole in
+    let (file, unread) = status-read e is in
+    let caused = subst (IsCaused call) unread cause in
+    (file, text ∙ ap last_line unread, caused.1)
+line_of_read_fault call at s bytes (inr (is, cut)) h = cc
+
+-- and where it is in memory
+pub memory_read_fault : (call : Call) (at : List ℕ → Option (List ℕ)) (s : Status) (before after : List ℕ) → (bytes : List ℕ) × IsTextOf call at s bytes × (after ≡ before ++ bytes) → s ≡ status.ReadFault
+    → (file : Input) × (after ≡ before ++ last_line (end.Unread file)) × ((command : CommandValue) → command_of call.words ≡ Some command → call.readings_after ≡ readings_more (reading_number command file) call.readings)
+memory_read_fault call at s before after (bytes, text, took) h =
+    let (file, line, last) = line_of_read_fault call at s bytes text h in
+    (file, took ∙ ap (λ more. before ++ more) line, last)

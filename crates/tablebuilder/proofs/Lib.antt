@@ -1,6 +1,7 @@
-pub mod Asking
 pub mod Columns
 pub mod Finishing
-pub mod Running
+pub mod LoadSteps
+pub mod Outputs
+pub mod ScriptLines
 pub mod TableLines
 pub mod Taking

@@ -1,8 +1,11 @@
 pub mod Commands
-pub mod Scripts
-pub mod Lines
 pub mod Endings
-pub mod Runs
-pub mod Steps
-pub mod Views
+pub mod Scripts
+pub mod Asking
+pub mod ScriptOutputs
+pub mod Replies
+pub mod Calls
 pub mod Promises
+pub mod InMemory
+pub mod Loading
+pub mod Lines

@@ -1,62 +1,102 @@
--- What each status tells of a run, where `at` tells what stands under each name and `took` says that the sink took exactly
--- these bytes in this call.
-use Rattle.std.specs.Prelude.{◌≡◌, ◌⊎◌, ℕ, List, ◌++◌, Option, Result, Ok, Err}
-use Rattle.std.specs.List.{concat}
+-- What each status of the top call tells.
+use Rattle.std.specs.Prelude.{◌≡◌, ◌≢◌, ◌⊎◌, ℕ, suc, List, ◌++◌, Option, None, Some, Result, Ok, Err, IfSome, is_some, if◌then◌else◌}
 use Rattle.tb_base.specs.declared.status.Status.{Status}
 use Rattle.tb_base.specs.declared.status.Status.TheVariants as status
 use Rattle.tablebuilder.specs.declared.endings.Input.{Input}
+use Rattle.tablebuilder.specs.declared.endings.Input.TheVariants as input
 use Rattle.tablebuilder.specs.declared.endings.End.{End}
 use Rattle.tablebuilder.specs.declared.endings.End.TheVariants as end
+use Rattle.tablebuilder.specs.Asking.{AskedValue, asked_by, asked_of, contents_at, contents_for}
+use Rattle.tablebuilder.specs.Calls.{Call, HasTaken, ReadFailed, WriteFailed, readings_more}
+use Rattle.tablebuilder.specs.Commands.{CommandValue, command_of}
 use Rattle.tablebuilder.specs.Endings.{last_line, status_of}
-use Rattle.tablebuilder.specs.Runs.{ComesTo, some_tables, tables_of}
+use Rattle.tablebuilder.specs.Replies.{IsOutput}
 
--- each line of the script was answered: the tables were taken, one after another, and nothing else
-abbrev pub AnswersAll : (List ℕ → Option (List ℕ)) → List (List ℕ) → (List ℕ → Type 0) → Type 0
-AnswersAll at words took = (tables : List (List ℕ)) × (tables_of at words ≡ Ok tables) × took (concat tables)
+-- how many readings the classification and the recodes take
+abbrev pub class_readings : CommandValue → ℕ
+class_readings command = if is_some command.recodes then 2 else 1
 
--- the words or a file end the run with this status, and its last line was taken, and nothing else
-abbrev pub IsRefused : (List ℕ → Option (List ℕ)) → List (List ℕ) → (List ℕ → Type 0) → Status → Type 0
-IsRefused at words took s = (e : End) × (tables_of at words ≡ Err e) × (status_of e ≡ s) × took (last_line e)
+-- how many readings come before that of a file
+abbrev pub readings_before : CommandValue → Input → ℕ
+readings_before command input.Classes = 0
+readings_before command input.Recodes = 1
+readings_before command input.Ptable = class_readings command
+readings_before command input.People = suc (class_readings command)
+readings_before command input.Script = suc (suc (class_readings command))
 
--- a file to which the run comes couldn't be read, and the line that names it was taken, and nothing else
-abbrev pub IsUnreadable : (List ℕ → Option (List ℕ)) → List (List ℕ) → (List ℕ → Type 0) → Type 0
-IsUnreadable at words took = (file : Input) × ComesTo at words file × took (last_line (end.Unread file))
+-- the number of the reading of a file, from 1
+abbrev pub reading_number : CommandValue → Input → ℕ
+reading_number command file = suc (readings_before command file)
 
--- memory was wanting: some of the tables were taken, and then the last line
-abbrev pub IsShort : (List ℕ → Option (List ℕ)) → List (List ℕ) → (List ℕ → Type 0) → Type 0
-IsShort at words took = (k : ℕ) × took (some_tables (tables_of at words) k ++ last_line end.Memory)
+-- an end at a file that couldn't be read: a read failed, and it was the last, at that file
+abbrev pub IsReadingAt : Call → Input → Type 0
+IsReadingAt call file =
+    ReadFailed call
+    × ((command : CommandValue) → command_of call.words ≡ Some command
+    → call.readings_after ≡ readings_more (reading_number command file) call.readings)
 
--- a text that the run may write, if each write succeeds
-abbrev pub MayWrite : (List ℕ → Option (List ℕ)) → List (List ℕ) → List ℕ → Type 0
-MayWrite at words text =
-    AnswersAll at words (λ t. t ≡ text)
-    ⊎ (((e : End) × (tables_of at words ≡ Err e) × (last_line e ≡ text))
-    ⊎ (IsUnreadable at words (λ t. t ≡ text)
-    ⊎ IsShort at words (λ t. t ≡ text)))
+abbrev pub IsCaused : Call → End → Type 0
+IsCaused call (end.Unread file) = IsReadingAt call file
+IsCaused call end.Usage = Unit {0}
+IsCaused call (end.TooLong file) = Unit {0}
+IsCaused call (end.Refused file name at) = Unit {0}
+IsCaused call (end.BadLine at) = Unit {0}
+IsCaused call end.Memory = Unit {0}
 
--- a first part of such a text was taken
-abbrev pub IsCut : (List ℕ → Option (List ℕ)) → List (List ℕ) → (List ℕ → Type 0) → Type 0
-IsCut at words part = (text : List ℕ) × MayWrite at words text × part text
+-- the run ends so before the script's first line: by the arguments, by what the files hold, or at a file
+-- that couldn't be read, where each earlier file is there, not too long and accepted
+abbrev pub EndsBy : Call → (List ℕ → Option (List ℕ)) → End → Type 0
+EndsBy call at e =
+    (asked_by (λ command. contents_for e (contents_at at command)) call.words ≡ Err e) × IsCaused call e
 
--- what a status tells
-abbrev pub Tells : (List ℕ → Option (List ℕ)) → List (List ℕ) → (List ℕ → Type 0) → (List ℕ → Type 0) → Status → Type 0
-Tells at words took part status.Done = AnswersAll at words took
-Tells at words took part status.Usage = IsRefused at words took status.Usage
-Tells at words took part status.Schema = IsRefused at words took status.Schema
-Tells at words took part status.Perturbation = IsRefused at words took status.Perturbation
-Tells at words took part status.Microdata = IsRefused at words took status.Microdata
-Tells at words took part status.Script = IsRefused at words took status.Script
-Tells at words took part status.ReadFault = IsUnreadable at words took
-Tells at words took part status.WriteFault = IsCut at words part
-Tells at words took part status.Memory = IsShort at words took
-Tells at words took part status.NetFault = ⊥
+-- a text is the last line of a run that ends so with this status, and nothing else
+abbrev pub IsLastLine : Call → (List ℕ → Option (List ℕ)) → Status → List ℕ → Type 0
+IsLastLine call at s text = (e : End) × EndsBy call at e × (status_of e ≡ s) × (text ≡ last_line e)
+
+-- a text is what a run with this status writes where no write fails: with Done an output of the script,
+-- with another status its last line
+abbrev pub IsWhole : Call → (List ℕ → Option (List ℕ)) → Status → List ℕ → Type 0
+IsWhole call at status.Done text =
+    (asked : AskedValue) × (asked_of at call.words ≡ Ok asked) × IsOutput asked text
+IsWhole call at status.Usage text = IsLastLine call at status.Usage text
+IsWhole call at status.Schema text = IsLastLine call at status.Schema text
+IsWhole call at status.Perturbation text = IsLastLine call at status.Perturbation text
+IsWhole call at status.Microdata text = IsLastLine call at status.Microdata text
+IsWhole call at status.Script text = IsLastLine call at status.Script text
+IsWhole call at status.ReadFault text = IsLastLine call at status.ReadFault text
+IsWhole call at status.WriteFault text = ⊥
+IsWhole call at status.Memory text = text ≡ last_line end.Memory
+IsWhole call at status.NetFault text = ⊥
+
+-- the same, or, where a write failed, a beginning of such a text
+abbrev pub IsTextOf : Call → (List ℕ → Option (List ℕ)) → Status → List ℕ → Type 0
+IsTextOf call at s text =
+    IsWhole call at s text
+    ⊎ ((s ≡ status.WriteFault)
+    × ((cause : Status) × (rest : List ℕ) × IsWhole call at cause (text ++ rest)))
 
 -- the status where no read or write fails and memory suffices
-abbrev pub defined_status : Result (List (List ℕ)) End → Status
-defined_status (Ok tables) = status.Done
+abbrev pub defined_status : Result AskedValue End → Status
+defined_status (Ok asked) = status.Done
 defined_status (Err e) = status_of e
 
--- no other status but for want of memory, or where a count of faults rose
-abbrev pub IsDefined : (List ℕ → Option (List ℕ)) → List (List ℕ) → Type 0 → Type 0 → Status → Type 0
-IsDefined at words read_rose write_rose s =
-    (s ≡ defined_status (tables_of at words)) ⊎ ((s ≡ status.Memory) ⊎ (((s ≡ status.ReadFault) × read_rose) ⊎ ((s ≡ status.WriteFault) × write_rose)))
+-- no other status comes but for want of memory, or where a count of faults rose
+abbrev pub IsDefined : Call → (List ℕ → Option (List ℕ)) → Status → Type 0
+IsDefined call at s =
+    (s ≡ defined_status (asked_of at call.words))
+    ⊎ ((s ≡ status.Memory)
+    ⊎ (((s ≡ status.ReadFault) × ReadFailed call) ⊎ ((s ≡ status.WriteFault) × WriteFailed call)))
+
+-- what a call keeps, whatever its status
+pub record Keeps (call : Call) (s : Status) : Type 0 where
+  -- What the sink took is the text of that status.
+  pub text : IfSome call.content (λ at. (bytes : List ℕ) × IsTextOf call at s bytes × HasTaken call bytes)
+  -- The arguments alone decide Usage, and its line tells it whatever the files are.
+  pub usage : s ≡ status.Usage → (command_of call.words ≡ None) × HasTaken call (last_line end.Usage)
+  pub words : command_of call.words ≡ None → (s ≡ status.Usage) ⊎ (s ≡ status.WriteFault)
+  -- A fault of the outside comes only where its count rose.
+  pub read_fault : s ≡ status.ReadFault → ReadFailed call
+  pub write_fault : s ≡ status.WriteFault → WriteFailed call
+  pub no_net : s ≢ status.NetFault
+  -- No status comes but the defined one, Memory, or a fault whose count rose.
+  pub exact : IfSome call.content (λ at. IsDefined call at s)

@@ -1,41 +1,44 @@
-// How a run ends before all was answered, and the last line that it then writes.
+// How a run ends before the first line of its script, and the last line that it then writes.
 
 ghost use Rattle.std.specs.Prelude.{◌≡◌, ◌≤◌, map};
 ghost use Rattle.std.specs.List.{concat};
 ghost use Rattle.tb_io.specs.Faults.{HasRisen};
 ghost use Rattle.tb_io.specs.Taken.{Took, TookPart};
 ghost use Rattle.tb_io.specs.declared.answers.Wrote.TheVariants as wrote;
-ghost use Rattle.tablebuilder.specs.Endings.{input_name, input_status, last_line, refusal, status_of};
+ghost use Rattle.tablebuilder.specs.Asking.{file_end, input_of as input_of_file};
+ghost use Rattle.tablebuilder.specs.Endings.{input_name, input_status, last_line, refusal_line, status_of};
 ghost use Rattle.tablebuilder.specs.declared.endings.End.TheVariants as end;
 
 use std::alloc::AllocFailed;
 use tb_base::{Memory, Status, print_number};
 use tb_io::{Sink, Wrote};
-use tb_ptable::{PTableFault, PTableKind};
-use tb_records::{PeopleFault, PeopleKind};
-use tb_schema::{SchemaFault, SchemaKind};
+use tb_rows::{Fault, FaultKind, FaultName};
+use tb_schema::{ClassFile, SchemaFault};
 
 /// The files of a run, in the order in which they are read.
 #[derive(Clone, Copy, Debug, PartialEq, Eq)]
 pub enum Input {
     Classes,
+    Recodes,
     Ptable,
     People,
     Script,
 }
 
-/// Why a run ends before all was answered: the words, a file that is too long, that couldn't be read
-/// or that is refused for its first fault, the output, or want of memory.
-#[derive(Clone, Copy, Debug, PartialEq, Eq)]
+/// Why a run ends before the first line of its script: the arguments, a file that is too long, that
+/// couldn't be read or that is refused for its first fault, a line of the script that is none, or
+/// that memory ran out.
+#[derive(Debug, Drop)]
 pub enum End {
     Usage,
     TooLong(Input),
     Unread(Input),
-    Classes(SchemaKind, u32),
-    Ptable(PTableKind, u32),
-    People(PeopleKind, u32),
-    Script(u32),
-    WriteFault,
+    Refused {
+        file: Input,
+        name: FaultName,
+        at: u32,
+    },
+    BadLine(u32),
     Memory,
 }
 
@@ -57,73 +60,46 @@ impl<T: Drop> From<AllocFailed<T>> for End {
 
 impl From<SchemaFault> for End {
     ghost use Rattle.std.specs.Prelude.{◌≡◌};
-    ghost use Rattle.tablebuilder.specs.Runs.{schema_end};
+    ghost use Rattle.tablebuilder.specs.Asking.{schema_end};
 
     ghost from_gives = { λ fault e. e ≡ schema_end fault };
 
     fn from(fault: SchemaFault) -> End {
         match fault {
-            SchemaFault::Refused { file: _, kind, at } => End::Classes(kind, at),
+            SchemaFault::Refused { file, kind, at } => End::Refused {
+                file: input_of(file),
+                name: kind.name(),
+                at,
+            },
             SchemaFault::Memory => End::Memory,
         }
     }
 }
 
-impl From<PTableFault> for End {
-    ghost use Rattle.std.specs.Prelude.{◌≡◌};
-    ghost use Rattle.tablebuilder.specs.Runs.{ptable_end};
-
-    ghost from_gives = { λ fault e. e ≡ ptable_end fault };
-
-    fn from(fault: PTableFault) -> End {
-        match fault {
-            PTableFault::Refused { kind, at } => End::Ptable(kind, at),
-            PTableFault::Memory => End::Memory,
-        }
-    }
-}
-
-impl From<PeopleFault> for End {
-    ghost use Rattle.std.specs.Prelude.{◌≡◌};
-    ghost use Rattle.tablebuilder.specs.Runs.{people_end};
-
-    ghost from_gives = { λ fault e. e ≡ people_end fault };
-
-    fn from(fault: PeopleFault) -> End {
-        match fault {
-            PeopleFault::Refused { kind, at } => End::People(kind, at),
-            PeopleFault::Memory => End::Memory,
-        }
-    }
-}
-
-impl Input {
-    /// The file's name in a last line.
-    fn name(&self) -> &'static str
-        ensures { result.now ≡ input_name self.now }
-    {
-        match self {
-            Input::Classes => "classes",
-            Input::Ptable => "ptable",
-            Input::People => "people",
-            Input::Script => "script",
-        }
-    }
-
-    /// The status for a file that is too long or refused.
-    fn status(&self) -> Status
-        ensures { result ≡ input_status self.now }
-    {
-        match self {
-            Input::Classes => Status::Schema,
-            Input::Ptable => Status::Perturbation,
-            Input::People => Status::Microdata,
-            Input::Script => Status::Script,
-        }
+fn input_of(file: ClassFile) -> Input
+    ensures { result ≡ input_of_file file }
+{
+    match file {
+        ClassFile::Classes => Input::Classes,
+        ClassFile::Recodes => Input::Recodes,
     }
 }
 
 impl End {
+    /// The end for a file that its reader refuses.
+    pub fn of<K: FaultKind + Drop>(file: Input, fault: Fault<K>) -> End
+        ensures { result ≡ file_end file K.name_of fault }
+    {
+        match fault {
+            Fault::Refused { kind, at } => End::Refused {
+                file,
+                name: kind.name(),
+                at,
+            },
+            Fault::Memory => End::Memory,
+        }
+    }
+
     /// The status with which the run ends.
     pub fn status(&self) -> Status
         ensures { result ≡ status_of self.now }
@@ -132,11 +108,12 @@ impl End {
             End::Usage => Status::Usage,
             End::TooLong(file) => file.status(),
             End::Unread(_) => Status::ReadFault,
-            End::Classes(_, _) => Status::Schema,
-            End::Ptable(_, _) => Status::Perturbation,
-            End::People(_, _) => Status::Microdata,
-            End::Script(_) => Status::Script,
-            End::WriteFault => Status::WriteFault,
+            End::Refused {
+                file,
+                name: _,
+                at: _,
+            } => file.status(),
+            End::BadLine(_) => Status::Script,
             End::Memory => Status::Memory,
         }
     }
@@ -156,54 +133,54 @@ impl End {
             End::Unread(file) => {
                 write_all(out, &[b"fault read ", file.name().as_bytes(), b"\n"])
             }
-            End::Classes(kind, at) => write_refusal(
-                out,
-                Input::Classes,
-                kind.number(),
-                kind.name(),
-                *at,
-            ),
-            End::Ptable(kind, at) => write_refusal(
-                out,
-                Input::Ptable,
-                kind.number(),
-                kind.name(),
-                *at,
-            ),
-            End::People(kind, at) => write_refusal(
-                out,
-                Input::People,
-                kind.number(),
-                kind.name(),
-                *at,
-            ),
-            End::Script(line) => {
+            End::Refused { file, name, at } => write_refusal(out, *file, name, *at),
+            End::BadLine(line) => {
                 let mut digits = [0; 10];
                 let len = print_number(*line, &mut digits);
                 write_all(out, &[b"fault script ", &digits[..len], b"\n"])
             }
-            End::WriteFault => out.write(b""),
             End::Memory => out.write(b"fault memory\n"),
         }
     }
 }
 
+impl Input {
+    /// The file's name in a last line.
+    fn name(&self) -> &'static str
+        ensures { result.now ≡ input_name self.now }
+    {
+        match self {
+            Input::Classes => "classes",
+            Input::Recodes => "recodes",
+            Input::Ptable => "ptable",
+            Input::People => "people",
+            Input::Script => "script",
+        }
+    }
+
+    /// The status for the file where it is too long or refused.
+    fn status(&self) -> Status
+        ensures { result ≡ input_status self.now }
+    {
+        match self {
+            Input::Classes | Input::Recodes => Status::Schema,
+            Input::Ptable => Status::Perturbation,
+            Input::People => Status::Microdata,
+            Input::Script => Status::Script,
+        }
+    }
+}
+
 // Writes the line for a file that is refused.
-fn write_refusal<O: Sink>(
-    out: &mut O,
-    file: Input,
-    number: u8,
-    name: &'static str,
-    at: u32,
-) -> Wrote
+fn write_refusal<O: Sink>(out: &mut O, file: Input, name: &FaultName, at: u32) -> Wrote
     ensures count { O.faults out.old ≤ O.faults out.new }
     ensures failed { result ≡ wrote.Failed → HasRisen (O.faults out.old) (O.faults out.new) }
-    ensures all { result ≡ wrote.All → Took (O.taken out.old) (O.taken out.new) (refusal file number name.now at) }
-    ensures part { result ≡ wrote.Failed → TookPart (O.taken out.old) (O.taken out.new) (refusal file number name.now at) }
+    ensures all { result ≡ wrote.All → Took (O.taken out.old) (O.taken out.new) (refusal_line file name.now at) }
+    ensures part { result ≡ wrote.Failed → TookPart (O.taken out.old) (O.taken out.new) (refusal_line file name.now at) }
 {
     let mut first = [0; 10];
     let mut second = [0; 10];
-    let number_len = print_number(u32::from(number), &mut first);
+    let number_len = print_number(u32::from(name.number()), &mut first);
     let at_len = print_number(at, &mut second);
     write_all(
         out,
@@ -213,7 +190,7 @@ fn write_refusal<O: Sink>(
             b" ",
             &first[..number_len],
             b" ",
-            name.as_bytes(),
+            name.word().as_bytes(),
             b" ",
             &second[..at_len],
             b"\n",

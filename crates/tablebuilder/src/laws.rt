@@ -1,19 +1,19 @@
-// The top call over forms that never fail.
+// The top call over forms in memory.
 
 ghost use Rattle.std.specs.Prelude.{◌≡◌, ◌≢◌, ◌⊎◌, Some, map, string_bytes};
 ghost use Rattle.tb_base.specs.declared.status.Status.TheVariants as status;
-ghost use Rattle.tb_io.specs.HeldFiles.{bytes_or_none};
-ghost use Rattle.tablebuilder.specs.Promises.{defined_status};
-ghost use Rattle.tablebuilder.specs.Runs.{tables_of};
+ghost use Rattle.tb_io.specs.HeldFiles.{bytes_of, bytes_or_none};
+ghost use Rattle.tablebuilder.specs.Asking.{asked_of};
+ghost use Rattle.tablebuilder.specs.InMemory.{Adds, NamesTheFailingRead, memory_call};
+ghost use Rattle.tablebuilder.specs.Promises.{IsDefined, defined_status};
 
 use crate::top::tablebuilder;
 use std::alloc::Global;
 use tb_base::Status;
-use tb_io::{SureFiles, SureSink};
+use tb_io::{MemFiles, MemSink, SureFiles, SureSink};
 
 /// Runs one command over files and a sink whose counts of faults are the constant 0: no fault of the
-/// outside can be answered, and the status is the one that the words and the files define, but for
-/// want of memory.
+/// outside can come, and the status is the one that the arguments and the files define, or Memory.
 pub fn run_surely(
     alloc: Global,
     words: &[String],
@@ -22,7 +22,30 @@ pub fn run_surely(
 ) -> Status
     ensures read { result ≢ status.ReadFault }
     ensures write { result ≢ status.WriteFault }
-    ensures defined { (result ≡ defined_status (tables_of (λ name. Some (bytes_or_none files.old name)) (map string_bytes words.now))) ⊎ (result ≡ status.Memory) }
+    ensures defined { (result
+        ≡ defined_status
+        (asked_of (λ name. Some (bytes_or_none files.old name)) (map string_bytes words.now)))
+        ⊎ (result ≡ status.Memory) }
+{
+    tablebuilder(alloc, words, files, out)
+}
+
+/// Runs one command over files and a sink in memory, of which some readings fail and which takes no
+/// more than its bound: the bytes that it adds to those of the sink are told outright.
+pub fn run_in_memory(
+    alloc: Global,
+    words: &[String],
+    files: &mut MemFiles,
+    out: &mut MemSink,
+) -> Status
+    // The bytes are the text of the status.
+    ensures bytes { let call = memory_call (map string_bytes words.now) files.old files.new out.old out.new in
+        Adds call files.old out.old out.new result }
+    // A read fault's line names the file of the reading that failed, which was the last.
+    ensures read { result ≡ status.ReadFault
+        → NamesTheFailingRead (map string_bytes words.now) files.old files.new out.old out.new }
+    ensures defined { let call = memory_call (map string_bytes words.now) files.old files.new out.old out.new in
+        IsDefined call (bytes_of files.old.held) result }
 {
     tablebuilder(alloc, words, files, out)
 }

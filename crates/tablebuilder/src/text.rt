@@ -3,11 +3,12 @@
 ghost use Rattle.std.specs.Prelude.{◌≡◌, ◌<◌, ◌≤◌, ◌++◌, ◌∷◌, [], codes, decimal, length, All, IfOk, OnOk};
 ghost use Rattle.csv.specs.Writing.{default_writer, row_text};
 ghost use Rattle.tb_model.specs.declared.names.NameOf.TheVariants as name_of;
+ghost use Rattle.tb_base.specs.declared.people.TheConstants.{MOST_PERSONS};
 ghost use Rattle.tb_model.specs.Perturbations.{pvalue_at, shown_text};
 ghost use Rattle.tb_model.specs.Schemas.{category_count};
 ghost use Rattle.tb_model.specs.Texts.{heading, line_text, text_of_cells};
 ghost use Rattle.tablebuilder.specs.Lines.{cell_line, text_so_far, IsBetween};
-ghost use Rattle.tablebuilder.specs.Scripts.{table_of};
+ghost use Rattle.tablebuilder.specs.Scripts.{query_of};
 
 use crate::setup::Setup;
 use csv::{Writer, WriterBuilder};
@@ -45,7 +46,8 @@ fn shown_bytes(shown: Shown, digits: &mut [u8; 10]) -> &[u8]
 fn write_line(rows: &mut Writer<Vec<u8>>, first: &[u8], second: &[u8]) -> Result<(), Memory>
     requires { IsBetween rows.old }
     ensures between { OnOk result (IsBetween rows.new) }
-    ensures text { OnOk result (text_so_far rows.new ≡ text_so_far rows.old ++ row_text default_writer (first.now ∷ second.now ∷ [])) }
+    ensures text { OnOk result (text_so_far rows.new
+        ≡ text_so_far rows.old ++ row_text default_writer (first.now ∷ second.now ∷ [])) }
 {
     match rows.write_fields(&[first, second]) {
         Ok(()) => Ok(()),
@@ -54,7 +56,7 @@ fn write_line(rows: &mut Writer<Vec<u8>>, first: &[u8], second: &[u8]) -> Result
 }
 
 // The first line and the heading.
-fn begun(
+fn first_lines(
     alloc: Global,
     setup: &Setup,
     variable: u16,
@@ -62,7 +64,8 @@ fn begun(
 ) -> Result<Writer<Vec<u8>>, Memory>
     requires { variable < length setup.now.schema.variables }
     ensures between { IfOk result (λ rows. IsBetween rows) }
-    ensures text { IfOk result (λ rows. text_so_far rows ≡ line_text (codes "release " ++ decimal number) ++ heading setup.now.schema (table_of variable)) }
+    ensures text { IfOk result (λ rows. text_so_far rows
+        ≡ line_text (codes "release " ++ decimal number) ++ heading setup.now.schema (query_of variable)) }
 {
     let mut rows = WriterBuilder::new().from_writer(release_line(alloc, number)?);
     let name = setup.schema.name(NameOf::Variable(variable));
@@ -81,9 +84,10 @@ fn write_cell(
     requires between { IsBetween rows.old }
     requires there { variable < length setup.now.schema.variables }
     requires category { category < category_count setup.now.schema (name_of.Variable variable) }
-    requires few { cell.count ≤ 1000000 }
+    requires few { cell.count ≤ MOST_PERSONS }
     ensures between { OnOk result (IsBetween rows.new) }
-    ensures text { OnOk result (text_so_far rows.new ≡ text_so_far rows.old ++ cell_line setup.now.schema (pvalue_at setup.now.ptable) setup.now.threshold variable category cell) }
+    ensures text { OnOk result (text_so_far rows.new ≡ text_so_far rows.old
+        ++ cell_line setup.now.schema (pvalue_at setup.now.ptable) setup.now.threshold variable category cell) }
 {
     let code = setup.schema.code_at(NameOf::Variable(variable), category);
     let shown = setup.ptable.shown(setup.threshold, cell);
@@ -92,7 +96,7 @@ fn write_cell(
 }
 
 // The text that was written, and the last line.
-fn ended(rows: Writer<Vec<u8>>) -> Result<Vec<u8>, Memory>
+fn with_last_line(rows: Writer<Vec<u8>>) -> Result<Vec<u8>, Memory>
     ensures { IfOk result (λ text. text.items ≡ text_so_far rows ++ line_text (codes ".")) }
 {
     let Ok(mut text) = rows.into_inner() else {
@@ -113,13 +117,15 @@ pub fn table_text(
 ) -> Result<Vec<u8>, Memory>
     requires there { variable < length setup.now.schema.variables }
     requires long { length cells.now ≡ category_count setup.now.schema (name_of.Variable variable) }
-    requires few { All (λ cell. cell.count ≤ 1000000) cells.now }
-    ensures { IfOk result (λ text. text.items ≡ text_of_cells setup.now.schema (pvalue_at setup.now.ptable) setup.now.threshold (table_of variable) number cells.now) }
+    requires few { All (λ cell. cell.count ≤ MOST_PERSONS) cells.now }
+    ensures { IfOk result (λ text. text.items
+        ≡ text_of_cells setup.now.schema (pvalue_at setup.now.ptable) setup.now.threshold (query_of variable)
+        number cells.now) }
 {
-    let mut rows = begun(alloc, setup, variable, number)?;
+    let mut rows = first_lines(alloc, setup, variable, number)?;
     for category in 0..setup.schema.categories(NameOf::Variable(variable)) {
         let cell = cells[category as usize];
         write_cell(&mut rows, setup, variable, category, cell)?;
     }
-    ended(rows)
+    with_last_line(rows)
 }

@@ -9,4 +9,4 @@ returns c =
     let setup = c.args.setup.now in
     let past : length c.args.cells.now ≤ c.loop-category.category = omega (arith, c.requires.long) in
     let lines = rw (drop_all, append-nil, c.in_ok-rows.ensures.text) at c.loop-category.invariant.1 in
-    rw (text_of_lines setup.schema (pvalue_at setup.ptable) setup.threshold c.args.variable c.args.number c.args.cells.now _ c.requires.long lines) at c.ended.ensures
+    rw (text_of_lines setup.schema (pvalue_at setup.ptable) setup.threshold c.args.variable c.args.number c.args.cells.now _ c.requires.long lines) at c.with_last_line.ensures

@@ -1,10 +1,20 @@
-use Rattle.std.proofs.Common.{map, string_bytes}
-use Rattle.tb_io.specs.Taken.{Took, TookPart}
-use Rattle.tb_io.specs.Faults.{HasRisen}
-use Rattle.tablebuilder.proofs.Finishing.{defined-told}
+use Rattle.std.proofs.Common.{sym, refl, inl, inr}
+use Rattle.tablebuilder.specs.declared.endings.End.TheVariants as end
+use Rattle.tablebuilder.specs.Loading.{asked_value}
+use Rattle.tablebuilder.proofs.Finishing.{keeps_by_load, keeps_by_script, keeps_by_usage}
 use Rattle.tablebuilder.proofs.top.tablebuilder.Goals as goal
 
-pub returns-clause-exact : goal.returns-clause-exact
-returns-clause-exact g c =
-    defined-told (g.F.Files.content c.args.files.now) (map string_bytes c.args.words.now) (HasRisen (g.F.Files.faults c.args.files.now) (g.F.Files.faults c.finish.new.files)) (HasRisen (g.O.Sink.faults c.args.out.now) (g.O.Sink.faults c.finish.new.out))
-    (Took (g.O.Sink.taken c.args.out.now) (g.O.Sink.taken c.finish.new.out)) (TookPart (g.O.Sink.taken c.args.out.now) (g.O.Sink.taken c.finish.new.out)) c.finish.result c.finish.ensures.told c.finish.ensures.unread c.finish.ensures.unwritten
+pub returns : goal.returns
+returns g c = keeps_by_usage _ _ (sym c.in-None.ensures) c.end_by-in-None.ensures
+
+pub returns-in-All : goal.returns-in-All
+returns-in-All g c =
+    keeps_by_script asked_value _ (g.F.Files.content c.load.new.files) c.in-Some.command c.in-Ok.asked _ _ (sym c.in-Some.ensures) c.in-Ok.ensures.loads (inl (refl, c.in-All.ensures.all refl))
+
+pub returns-in-Ok : goal.returns-in-Ok
+returns-in-Ok g c =
+    keeps_by_script asked_value _ (g.F.Files.content c.load.new.files) c.in-Some.command c.in-Ok.asked _ _ (sym c.in-Some.ensures) c.in-Ok.ensures.loads
+    (inr (refl, c.in-Failed.ensures.failed refl, c.in-Failed.ensures.part refl))
+
+pub returns-in-Some : goal.returns-in-Some
+returns-in-Some g c = keeps_by_load asked_value _ (g.F.Files.content c.load.new.files) c.in-Some.command c.in-Err.end _ _ (sym c.in-Some.ensures) c.in-Err.ensures.loads c.end_by.ensures

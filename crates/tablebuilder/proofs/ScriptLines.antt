@@ -2,7 +2,7 @@
 use Rattle.std.proofs.Common.{◌≡◌, ◌∙◌, sym, ap, ℕ, ◌+◌, List, [], ◌∷◌, ◌++◌, length, map, Option, Some, None, Ok, Err, refl, arith, append-nil}
 use Rattle.tb_base.specs.Lists.{all_some}
 use Rattle.tb_model.specs.Schemas.{SchemaValue}
-use Rattle.tablebuilder.specs.Scripts.{asked_variable, before_missing, lines_in, script_of}
+use Rattle.tablebuilder.specs.Scripts.{asked_variable, before_missing, script_lines, script_of}
 
 -- values that are all there
 all_some-there : (vs : List ℕ) → all_some (map Some vs) ≡ Some vs
@@ -18,16 +18,16 @@ before_missing-there : (vs : List ℕ) (more : List (Option ℕ)) → before_mis
 before_missing-there [] more = refl
 before_missing-there (v ∷ vs) more = rw (before_missing-there vs more) (omega arith)
 
-module _ (schema : SchemaValue) (file : List ℕ) (vs : List ℕ) (lines : List (List ℕ)) (so_far : map Some vs ++ map (asked_variable schema) lines ≡ map (asked_variable schema) (lines_in file)) where
+module _ (schema : SchemaValue) (file : List ℕ) (vs : List ℕ) (lines : List (List ℕ)) (so_far : map Some vs ++ map (asked_variable schema) lines ≡ map (asked_variable schema) (script_lines file)) where
   -- after the last line
   pub script_of-all : lines ≡ [] → script_of schema file ≡ Ok vs
   script_of-all end =
-      let all : map Some vs ++ [] ≡ map (asked_variable schema) (lines_in file) = ap (λ ls. map Some vs ++ map (asked_variable schema) ls) (sym end) ∙ so_far in
+      let all : map Some vs ++ [] ≡ map (asked_variable schema) (script_lines file) = ap (λ ls. map Some vs ++ map (asked_variable schema) ls) (sym end) ∙ so_far in
       rw (← all, append-nil, all_some-there vs) refl
 
   -- at a line that asks for nothing
   pub script_of-missing : (line : List ℕ) (rest : List (List ℕ)) (n : ℕ) → lines ≡ line ∷ rest → None ≡ asked_variable schema line → n ≡ length vs → script_of schema file ≡ Err (n + 1)
   script_of-missing line rest n first none count =
-      let found : map Some vs ++ None ∷ map (asked_variable schema) rest ≡ map (asked_variable schema) (lines_in file) =
+      let found : map Some vs ++ None ∷ map (asked_variable schema) rest ≡ map (asked_variable schema) (script_lines file) =
       ap (λ o. map Some vs ++ o ∷ map (asked_variable schema) rest) none ∙ ap (λ ls. map Some vs ++ map (asked_variable schema) ls) (sym first) ∙ so_far in
       rw (← found, all_some-missing vs (map (asked_variable schema) rest), before_missing-there vs (map (asked_variable schema) rest), count) refl

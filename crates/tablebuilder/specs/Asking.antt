@@ -1,0 +1,162 @@
+-- What the arguments and the files ask for: a setup, the microdata's records and the script; or why the
+-- run ends before the script's first line.
+use Rattle.std.specs.Prelude.{◌==◌, ℕ, List, length, Option, Some, None, Result, Ok, Err, ok_or, nat_lt, if◌then◌else◌}
+use Rattle.tb_base.specs.declared.records.Record.{Record}
+use Rattle.tb_model.specs.declared.names.PerturbationLine.{PerturbationLine}
+use Rattle.tb_model.specs.Schemas.{SchemaValue}
+use Rattle.tb_model.specs.Setups.{SetupValue}
+use Rattle.tb_ptable.specs.Kinds.{kind_name as ptable_name}
+use Rattle.tb_ptable.specs.Lines.{perturbation_of}
+use Rattle.tb_records.specs.Kinds.{kind_name as people_name}
+use Rattle.tb_records.specs.People.{people_of}
+use Rattle.tb_rows.specs.FaultNames.{FaultNameValue}
+use Rattle.tb_rows.specs.declared.fault.Fault.{Fault}
+use Rattle.tb_rows.specs.declared.fault.Fault.TheVariants as fault
+use Rattle.tb_schema.specs.Kinds.{kind_name as schema_name}
+use Rattle.tb_schema.specs.Recodes.{schema_of}
+use Rattle.tb_schema.specs.declared.fault.ClassFile.{ClassFile}
+use Rattle.tb_schema.specs.declared.fault.ClassFile.TheVariants as class_file
+use Rattle.tb_schema.specs.declared.fault.SchemaFault.{SchemaFault}
+use Rattle.tb_schema.specs.declared.fault.SchemaFault.TheVariants as schema_fault
+use Rattle.tablebuilder.specs.declared.endings.Input.{Input}
+use Rattle.tablebuilder.specs.declared.endings.Input.TheVariants as input
+use Rattle.tablebuilder.specs.declared.endings.End.{End}
+use Rattle.tablebuilder.specs.declared.endings.End.TheVariants as end
+use Rattle.tablebuilder.specs.declared.load.TheConstants.{MOST_BYTES, MOST_SCRIPT_BYTES}
+use Rattle.tablebuilder.specs.Commands.{CommandValue, command_of}
+use Rattle.tablebuilder.specs.Scripts.{script_of}
+
+-- what the files hold: the bytes of each, where it is there
+abbrev pub Contents : Type 0
+Contents = Input → Option (List ℕ)
+
+-- one step after another, of which the first that ends the run decides
+infixl 10 ◌>>=◌
+abbrev pub ◌>>=◌ : {A B : Type 0} → Result A End → (A → Result B End) → Result B End
+(Ok x) >>= next = next x
+(Err e) >>= next = Err e
+
+-- the most bytes that a file may have
+abbrev pub most_bytes : Input → ℕ
+most_bytes input.Classes = MOST_BYTES
+most_bytes input.Recodes = MOST_BYTES
+most_bytes input.Ptable = MOST_BYTES
+most_bytes input.People = MOST_BYTES
+most_bytes input.Script = MOST_SCRIPT_BYTES
+
+-- the bytes of a file, which may not be there or be too long
+abbrev pub bytes_in : Input → Option (List ℕ) → Result (List ℕ) End
+bytes_in file None = Err (end.Unread file)
+bytes_in file (Some bytes) =
+    if nat_lt (most_bytes file) (length bytes) then Err (end.TooLong file) else Ok bytes
+
+-- the end for a file that its reader refuses, by the names of its kinds of fault
+abbrev pub file_end : {K : Type 0} → Input → (K → FaultNameValue) → Fault K → End
+file_end file name_of (fault.Refused kind at) = end.Refused file (name_of kind) at
+file_end file name_of fault.Memory = end.Memory
+
+-- which file a fault of the schema is in
+abbrev pub input_of : ClassFile → Input
+input_of class_file.Classes = input.Classes
+input_of class_file.Recodes = input.Recodes
+
+-- the end for a classification or recodes that are refused
+abbrev pub schema_end : SchemaFault → End
+schema_end (schema_fault.Refused file kind at) = end.Refused (input_of file) (schema_name kind) at
+schema_end schema_fault.Memory = end.Memory
+
+-- what a reader gives, or the end for what it refuses
+abbrev pub or_end : {A E : Type 0} → (E → End) → Result A E → Result A End
+or_end ending (Ok x) = Ok x
+or_end ending (Err e) = Err (ending e)
+
+-- the bytes of the recodes, where the command names them
+abbrev pub recodes_in : Option (List ℕ) → Contents → Result (Option (List ℕ)) End
+recodes_in None contents = Ok None
+recodes_in (Some name) contents =
+    bytes_in input.Recodes (contents input.Recodes) >>= (λ bytes. Ok (Some bytes))
+
+-- the classification and the recodes are both read before either is checked
+abbrev pub schema_in : Option (List ℕ) → Contents → Result SchemaValue End
+schema_in recodes contents =
+    bytes_in input.Classes (contents input.Classes) >>= (λ classes.
+    recodes_in recodes contents >>= (λ recodes.
+    or_end schema_end (schema_of classes recodes)))
+
+-- each other file is checked before the next is read
+abbrev pub perturbation_in : Contents → Result (List PerturbationLine) End
+perturbation_in contents =
+    bytes_in input.Ptable (contents input.Ptable) >>= (λ bytes.
+    or_end (file_end input.Ptable ptable_name) (perturbation_of bytes))
+
+abbrev pub people_in : SchemaValue → Contents → Result (List Record) End
+people_in schema contents =
+    bytes_in input.People (contents input.People) >>= (λ bytes.
+    or_end (file_end input.People people_name) (people_of schema bytes))
+
+abbrev pub script_in : SchemaValue → Contents → Result (List ℕ) End
+script_in schema contents =
+    bytes_in input.Script (contents input.Script) >>= (λ bytes.
+    or_end end.BadLine (script_of schema bytes))
+
+-- what is asked for: tables of variables, one for each line of a script, over a setup and microdata
+pub record AskedValue : Type 0 where
+  pub setup : SetupValue
+  pub records : List Record
+  pub script : List ℕ
+
+-- what a command asks for over what its files hold
+abbrev pub asked_over : CommandValue → Contents → Result AskedValue End
+asked_over command contents =
+    schema_in command.recodes contents >>= (λ schema.
+    perturbation_in contents >>= (λ lines.
+    people_in schema contents >>= (λ records.
+    script_in schema contents >>= (λ script.
+    Ok (record {
+      setup = record { schema = schema; lines = lines; threshold = command.threshold };
+      records = records;
+      script = script;
+    })))))
+
+-- what stands under the name of a file that may not be named
+abbrev pub under_name : (List ℕ → Option (List ℕ)) → Option (List ℕ) → Option (List ℕ)
+under_name at None = None
+under_name at (Some name) = at name
+
+-- what the files of a command hold, where `at` tells what stands under a name
+abbrev pub contents_at : (List ℕ → Option (List ℕ)) → CommandValue → Contents
+contents_at at command input.Classes = at command.classes
+contents_at at command input.Recodes = under_name at command.recodes
+contents_at at command input.Ptable = at command.ptable
+contents_at at command input.People = at command.people
+contents_at at command input.Script = at command.script
+
+-- the place of a file in the order of reading
+abbrev pub input_place : Input → ℕ
+input_place input.Classes = 0
+input_place input.Recodes = 1
+input_place input.Ptable = 2
+input_place input.People = 3
+input_place input.Script = 4
+
+-- the same contents, but for one file that isn't there
+abbrev pub without : Input → Contents → Contents
+without file contents other = if input_place file == input_place other then None else contents other
+
+-- the contents for which a run ends so: where a file couldn't be read, those without it
+abbrev pub contents_for : End → Contents → Contents
+contents_for (end.Unread file) contents = without file contents
+contents_for end.Usage contents = contents
+contents_for (end.TooLong file) contents = contents
+contents_for (end.Refused file name at) contents = contents
+contents_for (end.BadLine at) contents = contents
+contents_for end.Memory contents = contents
+
+-- what the arguments ask for over these contents
+abbrev pub asked_by : (CommandValue → Contents) → List (List ℕ) → Result AskedValue End
+asked_by contents words =
+    ok_or (command_of words) end.Usage >>= (λ command. asked_over command (contents command))
+
+-- what the arguments and the files ask for
+abbrev pub asked_of : (List ℕ → Option (List ℕ)) → List (List ℕ) → Result AskedValue End
+asked_of at words = asked_by (contents_at at) words

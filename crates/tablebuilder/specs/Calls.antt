@@ -1,0 +1,35 @@
+-- What a call of the top call saw.
+use Rattle.std.specs.Prelude.{◌≡◌, ℕ, suc, zero, List, Option, option_map}
+use Rattle.tb_io.specs.Faults.{HasRisen, one_more}
+use Rattle.tb_io.specs.Taken.{Took}
+
+-- The arguments; what stands under each name, where the files tell it; the counts of faults of the files
+-- and of the sink, before and after; how many readings there were, where the files tell it; and the
+-- bytes that the sink took, where it tells them.
+pub record Call : Type 0 where
+  pub words : List (List ℕ)
+  pub content : Option (List ℕ → Option (List ℕ))
+  pub read_faults : ℕ
+  pub read_faults_after : ℕ
+  pub readings : Option ℕ
+  pub readings_after : Option ℕ
+  pub write_faults : ℕ
+  pub write_faults_after : ℕ
+  pub taken : Option (List ℕ)
+  pub taken_after : Option (List ℕ)
+
+-- a read failed, and a write failed
+abbrev pub ReadFailed : Call → Type 0
+ReadFailed call = HasRisen call.read_faults call.read_faults_after
+
+abbrev pub WriteFailed : Call → Type 0
+WriteFailed call = HasRisen call.write_faults call.write_faults_after
+
+-- the sink took exactly these bytes
+abbrev pub HasTaken : Call → List ℕ → Type 0
+HasTaken call bytes = Took call.taken call.taken_after bytes
+
+-- a count of readings after so many more
+abbrev pub readings_more : ℕ → Option ℕ → Option ℕ
+readings_more zero count = count
+readings_more (suc n) count = option_map one_more (readings_more n count)

@@ -1,0 +1,39 @@
+-- What a run over files and a sink in memory tells.
+use Rattle.std.specs.Prelude.{◌≡◌, ℕ, List, ◌++◌, Some}
+use Rattle.tb_base.specs.declared.status.Status.{Status}
+use Rattle.tb_base.specs.declared.status.Status.TheVariants as status
+use Rattle.tb_io.specs.BoundedSink.{BoundedSink}
+use Rattle.tb_io.specs.HeldFiles.{FailingFiles, bytes_of}
+use Rattle.tablebuilder.specs.declared.endings.Input.{Input}
+use Rattle.tablebuilder.specs.declared.endings.End.TheVariants as end
+use Rattle.tablebuilder.specs.Calls.{Call, readings_more}
+use Rattle.tablebuilder.specs.Commands.{CommandValue, command_of}
+use Rattle.tablebuilder.specs.Endings.{last_line}
+use Rattle.tablebuilder.specs.Promises.{IsTextOf, reading_number}
+
+-- what such a call saw
+abbrev pub memory_call : List (List ℕ) → FailingFiles → FailingFiles → BoundedSink → BoundedSink → Call
+memory_call words files files' out out' = record {
+  words = words;
+  content = Some (bytes_of files.held);
+  read_faults = files.faults;
+  read_faults_after = files'.faults;
+  readings = Some files.calls;
+  readings_after = Some files'.calls;
+  write_faults = out.faults;
+  write_faults_after = out'.faults;
+  taken = Some out.taken;
+  taken_after = Some out'.taken;
+}
+
+-- the bytes that a run with this status added to those of the sink
+abbrev pub Adds : Call → FailingFiles → BoundedSink → BoundedSink → Status → Type 0
+Adds call files out out' s =
+    (bytes : List ℕ) × (out'.taken ≡ out.taken ++ bytes) × IsTextOf call (bytes_of files.held) s bytes
+
+-- a read fault's line names the file of the reading that failed, which was the run's last
+abbrev pub NamesTheFailingRead : List (List ℕ) → FailingFiles → FailingFiles → BoundedSink → BoundedSink → Type 0
+NamesTheFailingRead words files files' out out' =
+    (file : Input) × (out'.taken ≡ out.taken ++ last_line (end.Unread file))
+    × ((command : CommandValue) → command_of words ≡ Some command
+    → Some files'.calls ≡ readings_more (reading_number command file) (Some files.calls))
