@@ -1,22 +1,26 @@
--- A row's record fits the classification.
-use Rattle.std.proofs.Common.{◌≡◌, ◌∙◌, ap, sym, refl, ℕ, zero, suc, ◌+◌, ◌<◌, ◌≤◌, Bool, true, false, List, [], ◌∷◌, drop, length, map, get_or, Option, Some, None, Ok, Err, arith}
-use Rattle.std.specs.Prelude.{bytes_eq, if◌then◌else◌, zip}
+-- A record of the file fits the classification.
+use Rattle.std.proofs.Common.{◌≡◌, ◌∙◌, ap, sym, refl, ℕ, zero, suc, ◌+◌, ◌<◌, ◌≤◌, Bool, true, false, List, [], ◌∷◌, drop, length, map, get_or, Option, Some, None, Ok, Err, arith, inl, inr}
+use Rattle.std.specs.Prelude.{bytes_eq, if◌then◌else◌, nat_lt, option_and_then, zip}
+use Rattle.std.proofs.lemmas.Bool.{cases_Bool}
+use Rattle.std.proofs.lemmas.Bool.Decides.{nat_tests}
 use Rattle.std.proofs.lemmas.List.{length-drop, length-map}
 use Rattle.std.proofs.lemmas.List.Elements.{All-cons, All-nil}
 use Rattle.std.proofs.lemmas.List.Quantifiers.{position-Some}
+use Rattle.tb_base.specs.Numbers.{number_of}
 use Rattle.tb_base.specs.Records.{AllFit, Fits}
+use Rattle.tb_base.specs.declared.cells.TheConstants.{KEY_RANGE}
+use Rattle.tb_base.specs.declared.people.TheConstants.{MOST_PERSONS}
 use Rattle.tb_base.specs.declared.records.Record.{Record}
 use Rattle.tb_model.specs.Schemas.{CategoryValue, SchemaValue, VariableValue, shape_of}
 use Rattle.tb_base.specs.Lists.{all_some}
-use Rattle.tb_rows.specs.Columns.{only_place, fields_at}
+use Rattle.tb_rows.specs.Columns.{only_index, fields_at}
 use Rattle.tb_rows.specs.Formats.{line_under}
 use Rattle.tb_base.proofs.AllThere.{first-some, length-all_some}
 use Rattle.tb_rows.proofs.WholeFiles.{accepted_where}
 use Rattle.tb_schema.specs.Names.{place_in}
-use Rattle.tb_records.specs.People.{people_file, people_of, record_in, record_of}
+use Rattle.tb_records.specs.People.{category_under, people_file, people_of, record_in, record_of}
 use Rattle.tb_records.specs.WholeFiles.{ArePeople}
 use Rattle.tb_records.specs.declared.fault.PeopleKind.TheVariants.{BadCsv}
-use Rattle.tb_records.proofs.AllThere.{category_under}
 use Rattle.tb_records.proofs.WholeFiles.{are_people}
 
 -- one more category is below its bound
@@ -40,39 +44,54 @@ categories-below (x ∷ vs) (field ∷ fields) cs long h =
     let (count, below) = categories-below vs fields more (omega (arith, long)) others in
     rw same (ap (λ n. suc n) count, below-more c (length x.categories) more (map (λ v. length v.categories) vs) (code-below x.categories field c one) below)
 
-record_of-codes : (person key : Option ℕ) (categories : Option (List ℕ)) (one : Record) → record_of person key categories ≡ Ok one → categories ≡ Some one.codes
-record_of-codes (Some person) (Some key) (Some categories) one h = let same : record { person = person; key = key; codes = categories } ≡ one = cc in ap (λ (r : Record). Some r.codes) same
-record_of-codes (Some person) (Some key) None one h = cc
-record_of-codes (Some person) None categories one h = cc
-record_of-codes None key categories one h = cc
+-- a key that is read is in range
+key-in : (o : Option ℕ) (key : ℕ) → option_and_then (λ n. if nat_lt n KEY_RANGE then Some n else None) o ≡ Some key → key < KEY_RANGE
+key-in None key h = cc
+key-in (Some n) key h = elim (cases_Bool (nat_lt n KEY_RANGE)) [
+  | inl t ↦ let same : n ≡ key = (let g = rw t at h in cc) in grind (arith, nat_tests)
+  | inr t ↦ let g = rw t at h in cc
+]
+
+record_of-parts : (person key : Option ℕ) (categories : Option (List ℕ)) (one : Record) → record_of person key categories ≡ Ok one → (key ≡ Some one.key) × (categories ≡ Some one.codes)
+record_of-parts (Some person) (Some key) (Some categories) one h =
+    let same : record { person = person; key = key; codes = categories } ≡ one = cc in
+    (ap (λ (r : Record). Some r.key) same, ap (λ (r : Record). Some r.codes) same)
+record_of-parts (Some person) (Some key) None one h = cc
+record_of-parts (Some person) None categories one h = cc
+record_of-parts None key categories one h = cc
 
 -- a record that is read has a line of its fields
 as_wide : (schema : SchemaValue) (b : Bool) (fields : List (List ℕ)) (one : Record) → (if b then record_in schema fields else Err BadCsv) ≡ Ok one → record_in schema fields ≡ Ok one
 as_wide schema true fields one h = h
 as_wide schema false fields one h = cc
 
-row-fits : (schema : SchemaValue) (fields : List (List ℕ)) (one : Record) → length fields ≡ length schema.variables + 2 → record_in schema fields ≡ Ok one → Fits (shape_of schema) one
-row-fits schema fields one long h =
-    let (count, below) = categories-below schema.variables (drop 2 fields) one.codes (omega (arith, long, length-drop 2 fields)) (record_of-codes _ _ _ one h) in
-    record { long = count ∙ sym (length-map schema.variables (λ (v : VariableValue). length v.categories)); below = below }
+record-fits : (schema : SchemaValue) (fields : List (List ℕ)) (one : Record) → length fields ≡ length schema.variables + 2 → record_in schema fields ≡ Ok one → Fits (shape_of schema) one
+record-fits schema fields one long h =
+    let (key, codes) = record_of-parts _ _ _ one h in
+    let (count, below) = categories-below schema.variables (drop 2 fields) one.codes (omega (arith, long, length-drop 2 fields)) codes in
+    record {
+      long = count ∙ sym (length-map schema.variables (λ (v : VariableValue). length v.categories));
+      below = below;
+      key = key-in (number_of (get_or fields 1 [])) one.key key;
+    }
 
-module _ (schema : SchemaValue) (width : ℕ) (places : List ℕ) (long : length places ≡ length schema.variables + 2) where
-  rows-fit : (rows : List (List (List ℕ))) (people : List Record) → map (line_under (people_file schema) width places) rows ≡ map (λ one. Ok one) people → AllFit (shape_of schema) people
-  rows-fit [] [] h = All-nil (Fits (shape_of schema))
-  rows-fit [] (one ∷ people) h = cc
-  rows-fit (fields ∷ rows) [] h = cc
-  rows-fit (fields ∷ rows) (one ∷ people) h =
-      let first : line_under (people_file schema) width places fields ≡ Ok one = cc in
-      let others : map (line_under (people_file schema) width places) rows ≡ map (λ one. Ok one) people = cc in
-      let wide : length (fields_at places fields) ≡ length schema.variables + 2 = length-map places (λ place. get_or fields place []) ∙ long in
-      All-cons (Fits (shape_of schema)) one people (row-fits schema (fields_at places fields) one wide (as_wide schema _ (fields_at places fields) one first)) (rows-fit rows people others)
+module _ (schema : SchemaValue) (width : ℕ) (indices : List ℕ) (long : length indices ≡ length schema.variables + 2) where
+  records-fit : (records : List (List (List ℕ))) (people : List Record) → map (line_under (people_file schema) width indices) records ≡ map (λ one. Ok one) people → AllFit (shape_of schema) people
+  records-fit [] [] h = All-nil (Fits (shape_of schema))
+  records-fit [] (one ∷ people) h = cc
+  records-fit (fields ∷ records) [] h = cc
+  records-fit (fields ∷ records) (one ∷ people) h =
+      let first : line_under (people_file schema) width indices fields ≡ Ok one = cc in
+      let others : map (line_under (people_file schema) width indices) records ≡ map (λ one. Ok one) people = cc in
+      let wide : length (fields_at indices fields) ≡ length schema.variables + 2 = length-map indices (λ i. get_or fields i []) ∙ long in
+      All-cons (Fits (shape_of schema)) one people (record-fits schema (fields_at indices fields) one wide (as_wide schema _ (fields_at indices fields) one first)) (records-fit records people others)
 
 -- the records of a file fit, and are not too many
-pub people-fit : (schema : SchemaValue) (bytes : List ℕ) (people : List Record) → people_of schema bytes ≡ Ok people → AllFit (shape_of schema) people × (length people ≤ 1000000)
+pub people-fit : (schema : SchemaValue) (bytes : List ℕ) (people : List Record) → people_of schema bytes ≡ Ok people → AllFit (shape_of schema) people × (length people ≤ MOST_PERSONS)
 people-fit schema bytes people h =
-    let (width, places, rows, lines, v, (header, r, wide, c), are, end) = (accepted_where (people_file schema) ArePeople (are_people schema) bytes people).0 h in
+    let (width, indices, records, lines, v, (header, r, wide, c), are, end) = (accepted_where (people_file schema) ArePeople (are_people schema) bytes people).0 h in
     let same : lines ≡ people = cc (are.together.1, end) in
-    let long : length places ≡ length schema.variables + 2 =
-    length-all_some (map (λ name. only_place name header) (people_file schema).columns) places c ∙ length-map (people_file schema).columns (λ name. only_place name header)
+    let long : length indices ≡ length schema.variables + 2 =
+    length-all_some (map (λ name. only_index name header) (people_file schema).columns) indices c ∙ length-map (people_file schema).columns (λ name. only_index name header)
     ∙ omega (arith, length-map schema.variables (λ (v : VariableValue). v.name)) in
-    rw (← same) (rows-fit schema width places long rows lines are.each, are.together.0.1)
+    rw (← same) (records-fit schema width indices long records lines are.each, are.together.0.1)

@@ -4,6 +4,7 @@ use Rattle.std.specs.Prelude.{nat_le}
 use Rattle.std.proofs.lemmas.Bool.{cases_Bool}
 use Rattle.std.proofs.lemmas.Bool.Decides.{nat_tests}
 use Rattle.tb_base.specs.Persons.{has_person}
+use Rattle.tb_base.specs.declared.people.TheConstants.{MOST_PERSONS}
 use Rattle.tb_base.specs.declared.records.Record.{Record}
 use Rattle.tb_base.proofs.PersonLemmas.{AreDistinct-push, distinct-new}
 use Rattle.tb_model.specs.Schemas.{SchemaValue}
@@ -15,19 +16,19 @@ use Rattle.tb_records.specs.WholeFiles.{ArePeople, MayStand}
 goes : (before : List Record) (one : Record) (all : List Record) → MayStand before → and_record before one ≡ Ok all → MayStand (before ++ one ∷ []) × (all ≡ before ++ one ∷ [])
 goes before one all stand h = elim (cases_Bool (has_person before one.person)) [
   | inl t ↦ let g = rw t at h in cc
-  | inr t ↦ elim (cases_Bool (nat_le 1000000 (length before))) [
+  | inr t ↦ elim (cases_Bool (nat_le MOST_PERSONS (length before))) [
     | inl u ↦ let g = rw (t, u) at h in cc
     | inr u ↦
         let g = rw (t, u) at h in
-        let below : length before + 1 ≤ 1000000 = grind (arith, nat_tests) in
+        let below : length before + 1 ≤ MOST_PERSONS = grind (arith, nat_tests) in
         ((AreDistinct-push before one stand.0 t, omega (arith, below, length-append before (one ∷ []))), cc)
   ]
 ]
 
 takes : (before : List Record) (one : Record) (more : List Record) → MayStand (before ++ one ∷ more) → and_record before one ≡ Ok (before ++ one ∷ [])
 takes before one more stand =
-    let short : length before + 1 ≤ 1000000 = omega (arith, stand.1, length-append before (one ∷ more)) in
-    let room : nat_le 1000000 (length before) ≡ false = grind (arith, nat_tests) in
+    let short : length before + 1 ≤ MOST_PERSONS = omega (arith, stand.1, length-append before (one ∷ more)) in
+    let room : nat_le MOST_PERSONS (length before) ≡ false = grind (arith, nat_tests) in
     rw (distinct-new before one more stand.0, room) refl
 
 pub are_people : (schema : SchemaValue) → Means (people_file schema) ArePeople

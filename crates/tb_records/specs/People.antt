@@ -1,10 +1,12 @@
 -- What microdata says: its records, or its first fault.
-use Rattle.std.specs.Prelude.{◌==◌, ℕ, List, [], ◌∷◌, ◌++◌, codes, drop, length, map, zip, Option, Some, None, Result, Ok, Err, nat_le, get_or, option_and_then, if◌then◌else◌}
+use Rattle.std.specs.Prelude.{◌==◌, ℕ, List, [], ◌∷◌, ◌++◌, codes, drop, length, map, zip, Option, Some, None, Result, Ok, Err, nat_le, nat_lt, get_or, option_and_then, if◌then◌else◌}
+use Rattle.tb_base.specs.Lists.{all_some}
 use Rattle.tb_base.specs.Numbers.{number_of}
 use Rattle.tb_base.specs.Persons.{has_person}
+use Rattle.tb_base.specs.declared.cells.TheConstants.{KEY_RANGE}
+use Rattle.tb_base.specs.declared.people.TheConstants.{MOST_PERSONS}
 use Rattle.tb_base.specs.declared.records.Record.{Record}
-use Rattle.tb_model.specs.Schemas.{SchemaValue}
-use Rattle.tb_base.specs.Lists.{all_some}
+use Rattle.tb_model.specs.Schemas.{SchemaValue, VariableValue}
 use Rattle.tb_rows.specs.Formats.{Format, value_of}
 use Rattle.tb_rows.specs.declared.fault.Fault.{Fault}
 use Rattle.tb_schema.specs.Names.{place_in}
@@ -15,30 +17,38 @@ use Rattle.tb_records.specs.declared.fault.PeopleKind.TheVariants.{BadHeader, Ba
 abbrev pub person_of : List ℕ → Option ℕ
 person_of text = option_and_then (λ n. if n == 0 then None else Some n) (number_of text)
 
--- a record key is a number up to 255
+-- a record key is a number below the key range
 abbrev pub key_of : List ℕ → Option ℕ
-key_of text = option_and_then (λ n. if nat_le n 255 then Some n else None) (number_of text)
+key_of text = option_and_then (λ n. if nat_lt n KEY_RANGE then Some n else None) (number_of text)
+
+-- the category of a variable whose code is this field, if there is one
+abbrev pub category_under : VariableValue × List ℕ → Option ℕ
+category_under d = place_in (map (λ c. c.code) d.0.categories) d.1
 
 -- each variable's category, by its field, if each field is one of its variable's codes
-abbrev pub categories_in : SchemaValue → List (List ℕ) → Option (List ℕ)
-categories_in schema fields = all_some (map (λ d. place_in (map (λ c. c.code) d.0.categories) d.1) (zip schema.variables fields))
+abbrev pub categories_under : SchemaValue → List (List ℕ) → Option (List ℕ)
+categories_under schema fields = all_some (map category_under (zip schema.variables fields))
 
--- the record with these parts, or the first that is missing
+-- the record with these parts, or the first fault: the part that is missing
 abbrev pub record_of : Option ℕ → Option ℕ → Option (List ℕ) → Result Record PeopleKind
-record_of (Some person) (Some key) (Some categories) = Ok (record { person = person; key = key; codes = categories })
+record_of (Some person) (Some key) (Some categories) =
+    Ok (record { person = person; key = key; codes = categories })
 record_of (Some person) (Some key) None = Err UnknownCode
 record_of (Some person) None categories = Err BadKey
 record_of None key categories = Err BadPerson
 
--- the record of a person, a key and a field for each variable, or the first fault that they have by themselves
+-- the record of a person, a key and a field for each variable, or the first fault that they have
+-- by themselves
 abbrev pub record_in : SchemaValue → List (List ℕ) → Result Record PeopleKind
-record_in schema fields = record_of (person_of (get_or fields 0 [])) (key_of (get_or fields 1 [])) (categories_in schema (drop 2 fields))
+record_in schema fields =
+    record_of (person_of (get_or fields 0 [])) (key_of (get_or fields 1 []))
+    (categories_under schema (drop 2 fields))
 
 -- the records with one more, or its fault beside those before it
 abbrev pub and_record : List Record → Record → Result (List Record) PeopleKind
 and_record people one =
     if has_person people one.person then Err PersonTwice
-    else if nat_le 1000000 (length people) then Err TooMany
+    else if nat_le MOST_PERSONS (length people) then Err TooMany
     else Ok (people ++ one ∷ [])
 
 -- how microdata over a classification is read

@@ -1,4 +1,4 @@
-pub mod FieldPlaces
+pub mod FieldIndices
 mod Left
 pub mod Meaning
 mod Names

@@ -1,14 +1,16 @@
+// Where the columns of a file stand, and the fields in them.
+
 ghost use Rattle.std.specs.Prelude.{◌≡◌, ◌<◌, [], get_or, length};
 ghost use Rattle.csv.specs.Records.{fields_of};
-ghost use Rattle.tb_rows.specs.Columns.{only_place, fields_at};
+ghost use Rattle.tb_rows.specs.Columns.{fields_at, only_index};
 
 use csv::ByteRecord;
 use std::marker::Model;
 
-/// Where a name stands in a header, counted from 0, if it stands there exactly once. Names are
-/// compared as bytes.
-pub fn place_of(header: &ByteRecord, name: &[u8]) -> Option<usize>
-    ensures { result ≡ only_place name.now (fields_of header.now) }
+/// The index of a name in a header, if the name stands there exactly once. Names are compared as
+/// bytes.
+pub fn index_of(header: &ByteRecord, name: &[u8]) -> Option<usize>
+    ensures { result ≡ only_index name.now (fields_of header.now) }
 {
     let mut found = None;
     let mut i = 0;
@@ -24,22 +26,11 @@ pub fn place_of(header: &ByteRecord, name: &[u8]) -> Option<usize>
     found
 }
 
-/// The field of a record at place `i`, and no bytes past its last field.
-#[tactic(auto, using(crate::proofs::FieldPlaces::field_some, crate::proofs::FieldPlaces::field_none))]
-pub fn field(row: &ByteRecord, i: usize) -> &[u8]
-    ensures { result.now ≡ get_or (fields_of row.now) i [] }
-{
-    match row.get(i) {
-        Some(field) => field,
-        None => &[],
-    }
-}
-
-/// The fields of one record, seen as the list of those in a format's columns, in the format's order.
+/// The fields of one record in a format's columns, seen as the list of them in the format's order.
 #[derive(Drop)]
 pub struct Fields<'a> {
-    row: &'a ByteRecord,
-    places: &'a [usize],
+    whole: &'a ByteRecord,
+    indices: &'a [usize],
 }
 
 impl<'a> Model for Fields<'a> {
@@ -49,22 +40,33 @@ impl<'a> Model for Fields<'a> {
 
     ghost Value = { List (List ℕ) };
 
-    ghost view = { λ f. fields_at f.places.now (fields_of f.row.now) };
+    ghost view = { λ f. fields_at f.indices.now (fields_of f.whole.now) };
+}
+
+/// The fields of a record at these indices.
+pub fn fields_in<'a>(whole: &'a ByteRecord, indices: &'a [usize]) -> Fields<'a>
+    ensures { result ≡ fields_at indices.now (fields_of whole.now) }
+{
+    Fields { whole, indices }
+}
+
+// The field of a record at an index, and no bytes past its last field.
+#[tactic(auto, using(crate::proofs::FieldIndices::field_some, crate::proofs::FieldIndices::field_none))]
+fn field(whole: &ByteRecord, i: usize) -> &[u8]
+    ensures { result.now ≡ get_or (fields_of whole.now) i [] }
+{
+    match whole.get(i) {
+        Some(field) => field,
+        None => &[],
+    }
 }
 
 impl<'a> Fields<'a> {
-    /// The fields of a record at these places.
-    pub fn new(row: &'a ByteRecord, places: &'a [usize]) -> Self
-        ensures { result ≡ fields_at places.now (fields_of row.now) }
-    {
-        Fields { row, places }
-    }
-
-    /// The field in column `i`.
+    /// The field in the format's column `i`. It takes no memory.
     pub fn at(&self, i: usize) -> &[u8]
         requires { i < length self.now }
         ensures { result.now ≡ get_or self.now i [] }
     {
-        field(self.row, self.places[i])
+        field(self.whole, self.indices[i])
     }
 }

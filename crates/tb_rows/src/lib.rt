@@ -2,23 +2,23 @@
 //!
 //! A kind of file is a `FileFormat`, which says what its columns are, what a record adds to those
 //! before it and what is tested at the end; `read_file` reads it, with the first fault. All that
-//! readers need of `csv` is said once, in `Rows`. It stands on `tb_base` and `csv`; its contracts
-//! cite `specs/Formats` (what a file of a format says), `specs/WholeFiles` (what that means for all
-//! of its records at once), `specs/Records` (the records of a file) and `specs/Columns` (where names
-//! stand in a header).
+//! readers need of `csv` is said once, in `csv_records`. It stands on `tb_base` and `csv`. Its
+//! contracts cite `specs/Formats` (what a file of a format says), `specs/Records` (the records of
+//! a file), `specs/Columns` (where names stand in a header) and `specs/FaultNames` (how a kind of
+//! fault is printed). The laws of the readers cite `specs/WholeFiles`: what that means for all
+//! records of a file at once.
 #![tactic(auto)]
 
 mod columns;
+mod csv_records;
 mod fault;
 mod format;
 mod kind;
-mod rows;
 
-pub use columns::{Fields, field, place_of};
+pub use columns::Fields;
 pub use fault::Fault;
-pub use kind::{FaultKind, FaultName};
 pub use format::{FileFormat, read_file};
-pub use rows::Rows;
+pub use kind::{FaultKind, FaultName};
 
 #[cfg(test)]
 mod tests;
