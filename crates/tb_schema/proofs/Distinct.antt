@@ -67,7 +67,7 @@ pub distinct-front : (a b : List (List ℕ)) → IsDistinct bytes_eq (a ++ b) �
 distinct-front a b h =
     IsDistinct-from_apart bytes_eq a
     (λ i j d less inside. let most : i < length a = omega arith in
-      rw (← get_or-append a b d i most, ← get_or-append a b d j inside) (apart_from_distinct bytes_eq (a ++ b) i j d h less (omega (arith, length-append a b))))
+    rw (← get_or-append a b d i most, ← get_or-append a b d j inside) (apart_from_distinct bytes_eq (a ++ b) i j d h less (omega (arith, length-append a b))))
 
 -- a text of one of two lists is not in the other
 none-equal : (texts : List (List ℕ)) (text : List ℕ) → AllByRecursion (λ other. bytes_eq text other ≡ false) texts → list_any (bytes_eq text) texts ≡ false

@@ -16,6 +16,7 @@ use Rattle.tb_schema.specs.Recodes.{PartialRecode, PartialValue, RecodeLine, and
 use Rattle.tb_schema.specs.Sound.{IsRecodeOf, IsSound}
 use Rattle.tb_schema.specs.declared.fault.ClassFile.TheVariants.{Recodes}
 use Rattle.tb_schema.specs.declared.fault.SchemaKind.{SchemaKind}
+use Rattle.tb_schema.specs.declared.limits.TheConstants.{MOST_VARIABLES}
 use Rattle.tb_schema.proofs.Kept.{groups-few, kept, kept-variables, nothing-read}
 use Rattle.tb_schema.proofs.WholeFiles.{in_file-ok}
 
@@ -53,7 +54,7 @@ whole_names (r ∷ rs) = ap (λ ns. r.name ∷ ns) (whole_names rs)
 sound-whole : (schema : SchemaValue) (so_far : PartialValue) → IsSound schema → Led schema.variables so_far → IsSound (record schema { recodes = map whole_recode so_far.recodes })
 sound-whole schema so_far s led = subst (λ vs. IsSound (record { variables = vs; recodes = map whole_recode so_far.recodes })) led.same (record {
   names = subst (λ ns. IsDistinct bytes_eq (variable_names so_far.variables ++ ns)) (sym (whole_names so_far.recodes)) led.known.names;
-  few_variables = subst (λ (vs : List VariableValue). length vs ≤ 64) (sym led.same) s.few_variables;
+  few_variables = subst (λ (vs : List VariableValue). length vs ≤ MOST_VARIABLES) (sym led.same) s.few_variables;
   few_recodes = omega (arith, led.known.few, length-map so_far.recodes whole_recode);
   variables = led.known.variables;
   recodes = All-map (IsRecodeOf so_far.variables) whole_recode so_far.recodes (All-weaker (IsPartialOf so_far.variables) (λ r. IsRecodeOf so_far.variables (whole_recode r)) (whole-of so_far led.known) so_far.recodes led.known.recodes);

@@ -120,8 +120,8 @@ module _ (vs : List VariableValue) (es : List (String Global × RecodeText)) (n 
       let yes = ap (λ (r : PartialRecode). nat_eq r.variable v) is ∙ equal m.variable v same in
       rw yes
       (ap (λ (r : PartialRecode). and_then (with_line (variable_number vs v) r.grouping line) (λ g. Ok (slice_set (map partial_view es) i (record (get_or (map partial_view es) i no_recode) { grouping = g })))) is
-        ∙ ap (λ o. and_then (with_code m.grouping line.group o) (λ g. Ok (slice_set (map partial_view es) i (record (get_or (map partial_view es) i no_recode) { grouping = g })))) (sym c)
-        ∙ written (with_code m.grouping line.group code))
+      ∙ ap (λ o. and_then (with_code m.grouping line.group o) (λ g. Ok (slice_set (map partial_view es) i (record (get_or (map partial_view es) i no_recode) { grouping = g })))) (sym c)
+      ∙ written (with_code m.grouping line.group code))
     where
       written : (r : Result GroupingValue SchemaKind) → and_then r (λ g. Ok (slice_set (map partial_view es) i (record (get_or (map partial_view es) i no_recode) { grouping = g })))
           ≡ and_then r (λ g. Ok (map partial_view (set_value_at es i (with_grouping m g))))

@@ -32,5 +32,5 @@ with_code grouping group (Some category) =
     if is_some (get_or grouping.group_of category None) then Err CodeTwice
     else if not (is_code group) then Err BadCode
     else Ok (
-      with_member grouping category
-      (with_group grouping.groups group (place_in grouping.groups group)))
+    with_member grouping category
+    (with_group grouping.groups group (place_in grouping.groups group)))

@@ -29,7 +29,7 @@ pub record IsPartialOf (variables : List VariableValue) (r : PartialRecode) : Ty
 -- the names of variables and recodes are together distinct, and there are not too many recodes
 pub record ArePartial (so_far : PartialValue) : Type 0 where
   pub names :
-    IsDistinct bytes_eq (variable_names so_far.variables ++ partial_names so_far.recodes)
+      IsDistinct bytes_eq (variable_names so_far.variables ++ partial_names so_far.recodes)
   pub few : length so_far.recodes ≤ MOST_RECODES
   pub variables : All IsVariable so_far.variables
   pub recodes : All (IsPartialOf so_far.variables) so_far.recodes

@@ -1,9 +1,9 @@
 // A recode: the groups into which it puts the categories of a variable.
 
-ghost use Rattle.std.specs.Prelude.{◌≡◌, ◌≢◌, ◌<◌, ◌≤◌, ◌^◌, [], Ok, Err, None, IfErr, IfOk, IfSome, OnOk};
-ghost use Rattle.std.specs.Prelude.{IsSome, get_or, is_some, length, map, not, slice_index_or, string_bytes, unwrap_or};
+ghost use Rattle.std.specs.Prelude.{◌≡◌, ◌<◌, [], Ok, None, IfErr, IfOk, IfSome, OnOk, is_some};
+ghost use Rattle.std.specs.Prelude.{length, map, not, slice_index_or, string_bytes, unwrap_or};
 ghost use Rattle.std.specs.List.{list_any};
-ghost use Rattle.tb_rows.specs.Formats.{at_record};
+ghost use Rattle.tb_schema.specs.Faults.{IsFaultOf};
 ghost use Rattle.tb_schema.specs.Groupings.{no_groups, with_code, with_group};
 ghost use Rattle.tb_schema.specs.Names.{place_in};
 
@@ -30,7 +30,10 @@ impl Model for Grouping {
 
     ghost Value = { GroupingValue };
 
-    ghost view = { λ g. record { groups = map string_bytes g.groups.keys; group_of = g.group_of.items } };
+    ghost view = { λ g. record {
+      groups = map string_bytes g.groups.keys;
+      group_of = g.group_of.items;
+    } };
 }
 
 /// A recode: the number of its variable, its groups, and the number of its first record.
@@ -43,7 +46,9 @@ pub struct Recode {
 
 // The number of a group, which is added if it is new.
 fn add_group(alloc: Global, groups: &mut IndexSet<String>, group: &str) -> Result<usize, Memory>
-    ensures { IfOk result (λ g. with_group (map string_bytes groups.old.keys) group.now (place_in (map string_bytes groups.old.keys) group.now) ≡ (map string_bytes groups.new.keys, g)) }
+    ensures { let codes = map string_bytes groups.old.keys in IfOk result (λ g.
+        with_group codes group.now (place_in codes group.now)
+        ≡ (map string_bytes groups.new.keys, g)) }
 {
     match groups.get_index_of(group) {
         Some(g) => Ok(g),
@@ -77,7 +82,7 @@ impl Grouping {
         requires there { IfSome category (λ c. c < length self.old.group_of) }
         requires few { length self.old.groups < 65536 }
         ensures ok { OnOk result (with_code self.old group.now category ≡ Ok self.new) }
-        ensures refused { IfErr result (λ e. e ≢ Fault.Memory → at_record at (with_code self.old group.now category) ≡ Err e) }
+        ensures refused { IfErr result (IsFaultOf at (with_code self.old group.now category)) }
     {
         let Some(category) = category else {
             return Err(fault_at(SchemaKind::UnknownCode, at));

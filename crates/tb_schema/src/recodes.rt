@@ -1,14 +1,15 @@
 // The recodes of a classification, read from their file.
 
-ghost use Rattle.std.specs.Prelude.{◌≡◌, ◌≢◌, ◌<◌, ◌≤◌, ◌+◌, ◌∷◌, ◌++◌, [], Ok, Err, Some, None, true, false, is_some, length};
+ghost use Rattle.std.specs.Prelude.{◌≡◌, ◌≢◌, ◌<◌, ◌≤◌, ◌+◌, ◌∷◌, ◌++◌, [], Ok, Err, Some, None};
+ghost use Rattle.std.specs.Prelude.{true, false, is_some, length, IfErr, IfOk, MatchResult, OnOk, find};
+ghost use Rattle.std.specs.Prelude.{get_or, option_map};
 ghost use Rattle.indexmap.specs.IndexMap.{get_by_text};
-ghost use Rattle.std.specs.Prelude.{IfErr, IfOk, MatchResult, OnOk, find, get_or, map, option_map};
 ghost use Rattle.tb_rows.specs.Formats.{at_record, step_of};
-ghost use Rattle.tb_model.specs.Schemas.{RecodeValue, SchemaValue};
+ghost use Rattle.tb_schema.specs.Faults.{IsFaultOf};
 ghost use Rattle.tb_schema.specs.Partial.{ArePartial, record_count};
-ghost use Rattle.tb_schema.specs.Recodes.{RecodeLine, and_recode, at_recode, is_partial, recode_line};
-ghost use Rattle.tb_schema.specs.Recodes.{recode_line_of, recodes_file};
-ghost use Rattle.tb_schema.specs.Views.{partial_view, so_far_view};
+ghost use Rattle.tb_schema.specs.Recodes.{RecodeLine, and_recode, at_recode, is_partial};
+ghost use Rattle.tb_schema.specs.Recodes.{recode_line, recode_line_of, recodes_file};
+ghost use Rattle.tb_schema.specs.Views.{partial_views, so_far_view};
 
 use crate::fault::{SchemaKind, fault_at};
 use crate::limits::MOST_RECODES;
@@ -45,8 +46,11 @@ fn extend(
     requires known { ArePartial (so_far_view schema.now.variables recodes.old) }
     requires there { i < length recodes.old.entries }
     requires variable { variable < length schema.now.variables }
-    ensures ok { OnOk result (at_recode (so_far_view schema.now.variables recodes.old) at (recode_line_of line.now) variable (Some i) ≡ Ok (map partial_view recodes.new.entries)) }
-    ensures refused { IfErr result (λ e. e ≢ Fault.Memory → at_record at (at_recode (so_far_view schema.now.variables recodes.old) at (recode_line_of line.now) variable (Some i)) ≡ Err e) }
+    ensures ok { let old = so_far_view schema.now.variables recodes.old in OnOk result
+        (at_recode old at (recode_line_of line.now) variable (Some i)
+        ≡ Ok (partial_views recodes.new)) }
+    ensures refused { let old = so_far_view schema.now.variables recodes.old in IfErr result
+        (IsFaultOf at (at_recode old at (recode_line_of line.now) variable (Some i))) }
 {
     let code = schema.code_of(NameOf::Variable(variable), line.code);
     let Some(recode) = recodes.get_index_mut(i) else {
@@ -66,7 +70,12 @@ fn push_recode(
     recode: Recode,
 ) -> Result<(), Memory>
     requires { is_some (get_by_text recodes.old name.now) ≡ false }
-    ensures { OnOk result (map partial_view recodes.new.entries ≡ map partial_view recodes.old.entries ++ (record { name = name.now; variable = recode.variable; grouping = recode.grouping; first = recode.first }) ∷ []) }
+    ensures { OnOk result (partial_views recodes.new ≡ partial_views recodes.old ++ record {
+      name = name.now;
+      variable = recode.variable;
+      grouping = recode.grouping;
+      first = recode.first;
+    } ∷ []) }
 {
     let name = String::from_str(alloc, name)?;
     recodes.insert(name, recode)?;
@@ -84,8 +93,11 @@ fn begin(
 ) -> Result<(), Fault<SchemaKind>>
     requires variable { variable < length schema.now.variables }
     requires fresh { is_some (get_by_text recodes.old line.now.name.now) ≡ false }
-    ensures ok { OnOk result (at_recode (so_far_view schema.now.variables recodes.old) at (recode_line_of line.now) variable None ≡ Ok (map partial_view recodes.new.entries)) }
-    ensures refused { IfErr result (λ e. e ≢ Fault.Memory → at_record at (at_recode (so_far_view schema.now.variables recodes.old) at (recode_line_of line.now) variable None) ≡ Err e) }
+    ensures ok { let old = so_far_view schema.now.variables recodes.old in OnOk result
+        (at_recode old at (recode_line_of line.now) variable None
+        ≡ Ok (partial_views recodes.new)) }
+    ensures refused { let old = so_far_view schema.now.variables recodes.old in IfErr result
+        (IsFaultOf at (at_recode old at (recode_line_of line.now) variable None)) }
 {
     let of = NameOf::Variable(variable);
     let code = schema.code_of(of, line.code);
@@ -111,8 +123,11 @@ fn add(
     at: u32,
 ) -> Result<(), Fault<SchemaKind>>
     requires known { ArePartial (so_far_view schema.now.variables recodes.old) }
-    ensures ok { OnOk result (and_recode at (so_far_view schema.now.variables recodes.old) (recode_line_of line.now) ≡ Ok (so_far_view schema.now.variables recodes.new)) }
-    ensures refused { IfErr result (λ e. e ≢ Fault.Memory → at_record at (and_recode at (so_far_view schema.now.variables recodes.old) (recode_line_of line.now)) ≡ Err e) }
+    ensures ok { let old = so_far_view schema.now.variables recodes.old in OnOk result
+        (and_recode at old (recode_line_of line.now)
+        ≡ Ok (so_far_view schema.now.variables recodes.new)) }
+    ensures refused { let old = so_far_view schema.now.variables recodes.old in IfErr result
+        (IsFaultOf at (and_recode at old (recode_line_of line.now))) }
 {
     let Some(variable) = schema.find_variable(line.variable) else {
         return Err(fault_at(SchemaKind::UnknownVariable, at));
@@ -131,7 +146,8 @@ fn add(
 // What a record says, or the fault that it has by itself.
 fn read_line<'a>(fields: &'a Fields<'_>) -> Result<RecodeTexts<'a>, SchemaKind>
     requires { length fields.now ≡ 4 }
-    ensures { MatchResult result (λ t. recode_line fields.now ≡ Ok (recode_line_of t)) (λ k. recode_line fields.now ≡ Err k) }
+    ensures { MatchResult result (λ t. recode_line fields.now ≡ Ok (recode_line_of t))
+        (λ k. recode_line fields.now ≡ Err k) }
 {
     let Some(name) = as_name(fields.at(0)) else {
         return Err(SchemaKind::BadName);
@@ -146,12 +162,9 @@ fn read_line<'a>(fields: &'a Fields<'_>) -> Result<RecodeTexts<'a>, SchemaKind>
 
 // The number of the first record of the first recode that lacks a code of its variable.
 fn first_partial(recodes: &IndexMap<String, Recode>) -> Option<u32>
-    ensures { result ≡ option_map (λ r. r.first) (find is_partial (map partial_view recodes.now.entries)) }
+    ensures { result ≡ option_map (λ r. r.first) (find is_partial (partial_views recodes.now)) }
 {
-    match recodes
-        .values()
-        .find(|recode| recode.grouping.is_partial())
-    {
+    match recodes.values().find(|recode| recode.grouping.is_partial()) {
         Some(recode) => Some(recode.first),
         None => None,
     }

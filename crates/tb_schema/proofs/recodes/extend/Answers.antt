@@ -13,7 +13,7 @@ use Rattle.tb_schema.proofs.recodes.extend.Goals as goal
 pub returns-then-recode-variable-clause-refused : goal.returns-then-recode-variable-clause-refused
 returns-then-recode-variable-clause-refused c =
     rw c.fault_at.ensures (λ _. ap (at_record c.args.at)
-      (old-other c.args.schema.now.variables c.args.recodes.now.entries c.args.at (recode_line_of c.args.line.now) c.args.variable c.args.i c.in-Some.recode.now (sym c.in-Some.ensures.value) c.if-recode-variable.true))
+    (old-other c.args.schema.now.variables c.args.recodes.now.entries c.args.at (recode_line_of c.args.line.now) c.args.variable c.args.i c.in-Some.recode.now (sym c.in-Some.ensures.value) c.if-recode-variable.true))
 
 pub put-requires-clause-there : goal.put-requires-clause-there
 put-requires-clause-there c =
