@@ -9,9 +9,9 @@ use Rattle.tablebuilder.specs.declared.endings.Input.{Input}
 use Rattle.tablebuilder.specs.declared.endings.Input.TheVariants as input
 use Rattle.tablebuilder.specs.declared.endings.End.{End}
 use Rattle.tablebuilder.specs.declared.endings.End.TheVariants as end
-use Rattle.tb_ptable.specs.Kinds.{kind_name as ptable_name}
+use Rattle.tb_ptable.specs.Kinds.{fault_name as ptable_name}
 use Rattle.tb_ptable.specs.Lines.{perturbation_of}
-use Rattle.tb_records.specs.Kinds.{kind_name as people_name}
+use Rattle.tb_records.specs.Kinds.{fault_name as people_name}
 use Rattle.tb_records.specs.People.{people_of}
 use Rattle.tb_base.specs.declared.records.Record.{Record}
 use Rattle.tb_model.specs.declared.names.PerturbationLine.{PerturbationLine}

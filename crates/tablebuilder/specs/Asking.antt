@@ -5,14 +5,14 @@ use Rattle.tb_base.specs.declared.records.Record.{Record}
 use Rattle.tb_model.specs.declared.names.PerturbationLine.{PerturbationLine}
 use Rattle.tb_model.specs.Schemas.{SchemaValue}
 use Rattle.tb_model.specs.Setups.{SetupValue}
-use Rattle.tb_ptable.specs.Kinds.{kind_name as ptable_name}
+use Rattle.tb_ptable.specs.Kinds.{fault_name as ptable_name}
 use Rattle.tb_ptable.specs.Lines.{perturbation_of}
-use Rattle.tb_records.specs.Kinds.{kind_name as people_name}
+use Rattle.tb_records.specs.Kinds.{fault_name as people_name}
 use Rattle.tb_records.specs.People.{people_of}
 use Rattle.tb_rows.specs.FaultNames.{FaultNameValue}
 use Rattle.tb_rows.specs.declared.fault.Fault.{Fault}
 use Rattle.tb_rows.specs.declared.fault.Fault.TheVariants as fault
-use Rattle.tb_schema.specs.Kinds.{kind_name as schema_name}
+use Rattle.tb_schema.specs.Kinds.{fault_name as schema_name}
 use Rattle.tb_schema.specs.Recodes.{schema_of}
 use Rattle.tb_schema.specs.declared.fault.ClassFile.{ClassFile}
 use Rattle.tb_schema.specs.declared.fault.ClassFile.TheVariants as class_file

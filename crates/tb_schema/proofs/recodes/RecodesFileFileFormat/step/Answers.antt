@@ -1,4 +1,4 @@
-use Rattle.std.proofs.Common.{◌+◌, ◌∙◌, ap, subst, sym}
+use Rattle.std.proofs.Common.{◌+◌, ◌∙◌, ap, arith, subst, sym}
 use Rattle.tb_schema.specs.Partial.{ArePartial, record_count}
 use Rattle.tb_schema.specs.Recodes.{recode_line_of}
 use Rattle.tb_schema.specs.Views.{so_far_view}
@@ -18,4 +18,4 @@ returns-in-Ok-clause-count c =
     (λ h. (kept c.args.at before after (recode_line_of c.in-Ok.line) (subst ArePartial (sym c.so_far.view_is) c.requires.known) h).count ∙ ap (λ v. record_count v + 1) c.so_far.view_is)
 
 pub returns-in-Ok-clause-few : goal.returns-in-Ok-clause-few
-returns-in-Ok-clause-few c = on_ok_then c.add.result (returns-in-Ok-clause-known c) (λ s. record_count-few _ s)
+returns-in-Ok-clause-few c = on_ok_then c.add.result (returns-in-Ok-clause-known c) (λ s. omega (arith, record_count-few _ s))
