@@ -1,16 +1,19 @@
 // Whole runs over files and a sink in memory.
 
-use crate::laws::run_surely;
-use crate::top::tablebuilder;
+use crate::laws::{run_in_memory, run_surely};
 use std::alloc::Global;
 use std::test::Fail;
 use tb_base::{Memory, Status};
 use tb_io::{MemFiles, MemSink, SureFiles, SureSink};
 
-mod faults;
+mod cuts;
+mod memory;
 
 pub const CLASSES: &[u8] = b"variable,code,label\nSEX,1,Male\nSEX,2,Female\nAGE,0-15,Under 16\n\
     AGE,16-64,Working age\nAGE,65+,65 and over\nAREA,E1,\"North, rural\"\nAREA,E2,South\n";
+
+pub const RECODES: &[u8] = b"recode,variable,code,group\nAGE2,AGE,0-15,young\n\
+    AGE2,AGE,16-64,old\nAGE2,AGE,65+,old\n";
 
 pub const PTABLE: &[u8] = b"pcv,ckey,pvalue\n3,64,-2\n1,7,1\n4,71,2\n3,127,3\n2,27,-1\n";
 
@@ -19,98 +22,422 @@ pub const PEOPLE: &[u8] = b"person,record_key,SEX,AGE,AREA\n101,200,1,0-15,E1\n\
 
 pub const SEX: &[u8] = b"release 0\nSEX,count\n1,1\n2,2\n.\n";
 
-// The words of a command, which blanks part.
-pub fn words(alloc: Global, text: &str) -> Result<Vec<String>, Memory> {
-    let mut all = Vec::new(alloc);
+pub const WITHOUT_RECODES: &str = "script classes - ptable people 0 script";
+
+pub const WITH_RECODES: &str = "script classes recodes ptable people 0 script";
+
+// The arguments of a command, which blanks part.
+pub fn arguments(alloc: Global, text: &str) -> Result<Vec<String>, Memory> {
+    let mut words = Vec::new(alloc);
     for word in text.split(' ') {
-        all.push(String::from_str(alloc, word)?)?;
+        words.push(String::from_str(alloc, word)?)?;
     }
-    Ok(all)
+    Ok(words)
 }
 
-// The small setup, with this microdata and this script; the numbered readings fail.
-pub fn files(
-    alloc: Global,
-    people: &[u8],
-    script: &[u8],
-    fails: &[u32],
-) -> Result<MemFiles, Memory> {
-    let mut files = MemFiles::new(alloc, fails)?;
-    files.hold("classes", CLASSES)?;
-    files.hold("ptable", PTABLE)?;
-    files.hold("people", people)?;
-    files.hold("script", script)?;
-    Ok(files)
+// The number of the status whose last line, if it is one, a text ends with.
+fn status_in(text: &[u8]) -> u8 {
+    if text.starts_with(b"fault usage") {
+        2
+    } else if text.starts_with(b"fault classes") || text.starts_with(b"fault recodes") {
+        3
+    } else if text.starts_with(b"fault ptable") {
+        4
+    } else if text.starts_with(b"fault people") {
+        5
+    } else if text.starts_with(b"fault script") {
+        6
+    } else if text.starts_with(b"fault read") {
+        7
+    } else {
+        0
+    }
 }
 
-// How a run ends over the small setup, and whether this was written.
-pub fn ends_so(
+// Whether a run over the small setup writes this text and ends with its status, where some files
+// have other bytes, the numbered readings fail and the sink takes so many bytes.
+pub fn is_so(
     alloc: Global,
     command: &str,
-    files: &mut MemFiles,
+    others: &[(&str, &[u8])],
+    fails: &[u32],
     bound: usize,
-    want: (Status, &[u8]),
+    want: &[u8],
 ) -> Result<bool, Memory> {
-    let words = words(alloc, command)?;
+    let mut files = MemFiles::new(alloc, fails)?;
+    files.hold("classes", CLASSES)?;
+    files.hold("recodes", RECODES)?;
+    files.hold("ptable", PTABLE)?;
+    files.hold("people", PEOPLE)?;
+    files.hold("script", b"a table SEX\n")?;
+    for (name, bytes) in others {
+        files.hold(name, bytes)?;
+    }
+    let words = arguments(alloc, command)?;
     let mut out = MemSink::new(alloc, bound)?;
-    let status = tablebuilder(alloc, &words, files, &mut out);
-    Ok(status == want.0 && out.taken() == want.1)
+    let status = run_in_memory(alloc, &words, &mut files, &mut out);
+    let number = if want.len() > bound {
+        8
+    } else {
+        status_in(want)
+    };
+    let part = if want.len() > bound {
+        &want[..bound]
+    } else {
+        want
+    };
+    Ok(status.number() == number && out.taken() == part)
 }
 
-pub const COMMAND: &str = "script classes - ptable people 0 script";
+// What a run shows, the command, a file with other bytes than the small setup's, and the text.
+const ROWS: [(&str, &str, &str, &[u8], &[u8]); 24] = [
+    (
+        "one_variable",
+        WITHOUT_RECODES,
+        "script",
+        b"a table SEX\n",
+        SEX,
+    ),
+    ("one_variable", WITH_RECODES, "script", b"a table SEX", SEX),
+    (
+        "one_variable",
+        WITH_RECODES,
+        "script",
+        b"a table AREA\r\na table AGE\r\n",
+        b"release 0\nAREA,count\nE1,2\nE2,1\n.\nrelease 0\nAGE,count\n0-15,1\n16-64,2\n65+,1\n.\n",
+    ),
+    ("one_variable", WITHOUT_RECODES, "script", b"", b""),
+    (
+        "threshold_on_shown_count",
+        "script classes - ptable people 2 script",
+        "script",
+        b"a table SEX\n",
+        b"release 0\nSEX,count\n1,c\n2,2\n.\n",
+    ),
+    (
+        "no_records",
+        WITHOUT_RECODES,
+        "people",
+        b"person,record_key,SEX,AGE,AREA\n",
+        b"release 0\nSEX,count\n1,0\n2,0\n.\n",
+    ),
+    (
+        "no_records",
+        "script classes recodes ptable people 10 script",
+        "people",
+        b"person,record_key,SEX,AGE,AREA\n",
+        b"release 0\nSEX,count\n1,c\n2,c\n.\n",
+    ),
+    (
+        "perturbation_file_faults",
+        WITHOUT_RECODES,
+        "ptable",
+        b"pcv,ckey,pvalue\n1,7,1\n4,71,2\n",
+        b"release 0\nSEX,count\n1,3\n2,2\n.\n",
+    ),
+    (
+        "perturbation_file_faults",
+        WITHOUT_RECODES,
+        "ptable",
+        b"pcv,ckey,pvalue\n1,7,1\n1,7,1\n",
+        b"fault ptable 5 PairTwice 2\n",
+    ),
+    (
+        "perturbation_file_faults",
+        WITHOUT_RECODES,
+        "ptable",
+        b"pcv,ckey,pvalue\n3,10,-4\n",
+        b"fault ptable 4 Negative 1\n",
+    ),
+    (
+        "perturbation_file_faults",
+        WITHOUT_RECODES,
+        "ptable",
+        b"pcv,ckey,pvalue\n0,0,1\n",
+        b"fault ptable 6 ZeroRow 1\n",
+    ),
+    (
+        "perturbation_file_faults",
+        WITHOUT_RECODES,
+        "ptable",
+        b"pcv,ckey,pvalue\n751,0,0\n",
+        b"fault ptable 3 OutOfRange 1\n",
+    ),
+    (
+        "any_accepted_spelling",
+        WITHOUT_RECODES,
+        "ptable",
+        b"note,pvalue,ckey,pcv\nx,-2,64,3\nx,1,7,1\n",
+        SEX,
+    ),
+    (
+        "any_accepted_spelling",
+        WITH_RECODES,
+        "people",
+        b"\xEF\xBB\xBFSEX,person,AREA,record_key,AGE,NOTE\r\n\"1\",101,\"E1\",200,\"0-15\",x\r\n\
+        1,102,E1,100,16-64,x\r\n1,103,E2,20,65+,x\r\n2,104,E2,7,16-64,x\r\n",
+        SEX,
+    ),
+    (
+        "command_faults",
+        "script classes - ptable nobody 0 script",
+        "script",
+        b"a table SEX\n",
+        b"fault read people\n",
+    ),
+    (
+        "command_faults",
+        WITHOUT_RECODES,
+        "people",
+        b"person,record_key,SEX,AGE,AREA\n101,200,1,0-15,E1\n102,256,1,16-64,E1\n",
+        b"fault people 3 BadKey 2\n",
+    ),
+    (
+        "command_faults",
+        WITH_RECODES,
+        "recodes",
+        b"recode,variable,code,group\nAGE2,AGE,0-15,young\nAGE2,AGE,16-64,old\n",
+        b"fault recodes 8 CodeMissing 1\n",
+    ),
+    (
+        "command_faults",
+        WITHOUT_RECODES,
+        "recodes",
+        b"recode,variable,code,group\nAGE2,AGE,0-15,young\nAGE2,AGE,16-64,old\n",
+        SEX,
+    ),
+    (
+        "command_faults",
+        WITH_RECODES,
+        "script",
+        b"a table SEX\na table AREA\n!x\n",
+        b"fault script 3\n",
+    ),
+    (
+        "command_faults",
+        WITHOUT_RECODES,
+        "script",
+        b"a table SEX\n\n",
+        b"fault script 2\n",
+    ),
+    (
+        "command_faults",
+        WITHOUT_RECODES,
+        "script",
+        b"a table  SEX\n",
+        b"fault script 1\n",
+    ),
+    (
+        "a_recode_has_no_table_yet",
+        WITH_RECODES,
+        "script",
+        b"a table AGE2\n",
+        b"fault script 1\n",
+    ),
+    (
+        "command_faults",
+        WITH_RECODES,
+        "classes",
+        b"variable,code,label\nSEX,1,Male\nSEX,1,Female\n",
+        b"fault classes 4 RepeatedCode 2\n",
+    ),
+    (
+        "classification_before_recodes",
+        WITH_RECODES,
+        "classes",
+        b"variable,code,label\nSEX,1,Male\n",
+        b"fault recodes 5 UnknownVariable 1\n",
+    ),
+];
 
 #[test]
-fn one_variable(rt: HostRuntime) -> Result<(), Fail> {
-    let cases: [(&str, &[u8], &[u8]); 5] = [
-        (COMMAND, b"a table SEX\n", SEX),
-        (COMMAND, b"a table SEX", SEX),
-        (
-            COMMAND,
-            b"a table AREA\r\na table AGE\r\n",
-            b"release 0\nAREA,count\nE1,2\nE2,1\n.\nrelease 0\nAGE,count\n0-15,1\n16-64,2\n65+,1\n.\n",
-        ),
-        (
-            "script classes - ptable people 2 script",
-            b"a table SEX\n",
-            b"release 0\nSEX,count\n1,c\n2,2\n.\n",
-        ),
-        (COMMAND, b"", b""),
-    ];
-    for (command, script, want) in cases {
-        let mut files = files(rt.alloc(), PEOPLE, script, &[])?;
-        assert!(rt; ends_so(rt.alloc(), command, &mut files, 200, (Status::Done, want))?);
+fn worked_rows(rt: HostRuntime) -> Result<(), Fail> {
+    for (name, command, file, bytes, want) in ROWS {
+        assert!(rt;
+            is_so(rt.alloc(), command, &[(file, bytes)], &[], 200, want)?,
+            "{name}"
+        );
     }
     Ok(())
 }
 
+// Two files with other bytes, the readings that fail, and the last line: CLASSES and RECODES are
+// both read before either is checked, and each other file is checked before the next is read.
+const ORDER: [(&str, &[u8], &str, &[u8], &[u32], &[u8]); 13] = [
+    (
+        "classes",
+        b"",
+        "recodes",
+        b"",
+        &[2],
+        b"fault read recodes\n",
+    ),
+    (
+        "classes",
+        b"",
+        "recodes",
+        b"",
+        &[],
+        b"fault classes 1 BadHeader 0\n",
+    ),
+    (
+        "recodes",
+        b"",
+        "ptable",
+        b"",
+        &[3],
+        b"fault recodes 1 BadHeader 0\n",
+    ),
+    (
+        "ptable",
+        b"",
+        "people",
+        b"",
+        &[4],
+        b"fault ptable 1 BadHeader 0\n",
+    ),
+    (
+        "people",
+        b"",
+        "script",
+        b"!x\n",
+        &[5],
+        b"fault people 1 BadHeader 0\n",
+    ),
+    (
+        "script",
+        b"!x\n",
+        "script",
+        b"!x\n",
+        &[],
+        b"fault script 1\n",
+    ),
+    (
+        "classes",
+        b"",
+        "recodes",
+        b"",
+        &[1],
+        b"fault read classes\n",
+    ),
+    ("ptable", b"", "people", b"", &[3], b"fault read ptable\n"),
+    (
+        "people",
+        b"",
+        "script",
+        b"!x\n",
+        &[4],
+        b"fault read people\n",
+    ),
+    (
+        "script",
+        b"!x\n",
+        "script",
+        b"!x\n",
+        &[5],
+        b"fault read script\n",
+    ),
+    (
+        "ptable",
+        b"",
+        "people",
+        b"",
+        &[2, 3],
+        b"fault read recodes\n",
+    ),
+    (
+        "ptable",
+        b"",
+        "people",
+        b"",
+        &[6, 7],
+        b"fault ptable 1 BadHeader 0\n",
+    ),
+    (
+        "script",
+        b"a table SEX\n",
+        "script",
+        b"a table SEX\n",
+        &[6],
+        SEX,
+    ),
+];
+
 #[test]
-fn no_records(rt: HostRuntime) -> Result<(), Fail> {
-    let cases: [(&str, &[u8]); 2] = [
-        (COMMAND, b"release 0\nSEX,count\n1,0\n2,0\n.\n"),
-        (
-            "script classes - ptable people 10 script",
-            b"release 0\nSEX,count\n1,c\n2,c\n.\n",
-        ),
-    ];
-    for (command, want) in cases {
-        let mut files = files(
-            rt.alloc(),
-            b"person,record_key,SEX,AGE,AREA\n",
-            b"a table SEX\n",
-            &[],
-        )?;
-        assert!(rt; ends_so(rt.alloc(), command, &mut files, 200, (Status::Done, want))?);
+fn order_of_the_files(rt: HostRuntime) -> Result<(), Fail> {
+    for (one, first, two, second, fails, want) in ORDER {
+        let others = [(one, first), (two, second)];
+        assert!(rt; is_so(rt.alloc(), WITH_RECODES, &others, fails, 200, want)?);
     }
+    // Without recodes the files after them are read one earlier.
+    let line: &[u8] = b"fault read ptable\n";
+    assert!(rt; is_so(rt.alloc(), WITHOUT_RECODES, &[], &[2], 200, line)?);
     Ok(())
 }
 
+// Arguments, and whether they are the command's; only the threshold 1,000,000 hides the counts.
+const ARGUMENTS: [(&str, bool); 21] = [
+    ("", false),
+    ("script", false),
+    ("gen 1 1", false),
+    ("--help", false),
+    ("script classes - ptable people -1 script", false),
+    ("script classes - ptable people 1000001 script", false),
+    ("script classes - ptable people 00000000001 script", false),
+    ("script classes - ptable people +1 script", false),
+    ("script classes - ptable people  script", false),
+    ("script  - ptable people 0 script", false),
+    ("script classes  ptable people 0 script", false),
+    ("script classes - ptable  0 script", false),
+    ("script classes - ptable people 0", false),
+    ("script classes - ptable people 0 script script", false),
+    ("script -classes - ptable people 0 script", false),
+    ("script classes -recodes ptable people 0 script", false),
+    ("script classes - ptable people 0 -script", false),
+    ("Script classes - ptable people 0 script", false),
+    ("script classes - ptable people 000 script", true),
+    ("script classes - ptable people 01 script", true),
+    ("script classes recodes ptable people 1 script", true),
+];
+
 #[test]
-fn any_accepted_spelling(rt: HostRuntime) -> Result<(), Fail> {
-    let people = b"\xEF\xBB\xBFSEX,person,AREA,record_key,AGE,NOTE\r\n\
-        \"1\",101,\"E1\",200,\"0-15\",x\r\n1,102,E1,100,16-64,x\r\n\
-        1,103,E2,20,65+,x\r\n2,104,E2,7,16-64,x\r\n";
-    let mut files = files(rt.alloc(), people, b"a table SEX\n", &[])?;
-    assert!(rt; ends_so(rt.alloc(), COMMAND, &mut files, 200, (Status::Done, SEX))?);
+fn arguments_of_the_command(rt: HostRuntime) -> Result<(), Fail> {
+    for (command, is_command) in ARGUMENTS {
+        let want: &[u8] = if is_command { SEX } else { b"fault usage\n" };
+        assert!(rt;
+            is_so(rt.alloc(), command, &[], &[], 200, want)?,
+            "{command}"
+        );
+    }
+    let hidden: &[u8] = b"release 0\nSEX,count\n1,c\n2,c\n.\n";
+    let most = "script classes - ptable people 1000000 script";
+    assert!(rt; is_so(rt.alloc(), most, &[], &[], 200, hidden)?);
+    // No arguments at all, over forms that never fail.
+    let mut out = SureSink::new(rt.alloc());
+    let none = Vec::new(rt.alloc());
+    let status = run_surely(rt.alloc(), &none, &mut SureFiles::new(rt.alloc()), &mut out);
+    assert_eq!(rt; status, Status::Usage);
+    assert_eq!(rt; out.text()?, b"fault usage\n".as_slice());
+    Ok(())
+}
+
+// A sink that takes so many bytes has taken the first so many, whatever was to be written.
+#[test]
+fn bounded_output(rt: HostRuntime) -> Result<(), Fail> {
+    for bound in 0..31 {
+        assert!(rt; is_so(rt.alloc(), WITHOUT_RECODES, &[], &[], bound, SEX)?);
+        let line: &[u8] = b"fault people 1 BadHeader 0\n";
+        assert!(rt;
+            is_so(
+                rt.alloc(),
+                WITHOUT_RECODES,
+                &[("people", b"")],
+                &[],
+                bound,
+                line
+            )?
+        );
+    }
     Ok(())
 }
 
@@ -120,53 +447,44 @@ fn rows_above_750(rt: HostRuntime) -> Result<(), Fail> {
     let cases: [(u32, &[u8], &[u8]); 4] = [
         (
             750,
-            b"pcv,ckey,pvalue\n750,238,3\n",
+            b"750,238,3\n",
             b"release 0\nSEX,count\n1,753\n2,0\n.\n",
         ),
         (
             751,
-            b"pcv,ckey,pvalue\n501,239,-1\n",
+            b"501,239,-1\n",
             b"release 0\nSEX,count\n1,750\n2,0\n.\n",
         ),
         (
             1000,
-            b"pcv,ckey,pvalue\n750,232,4\n",
+            b"750,232,4\n",
             b"release 0\nSEX,count\n1,1004\n2,0\n.\n",
         ),
         (
             1001,
-            b"pcv,ckey,pvalue\n501,233,5\n",
+            b"501,233,5\n",
             b"release 0\nSEX,count\n1,1006\n2,0\n.\n",
         ),
     ];
-    for (persons, ptable, want) in cases {
+    for (persons, line, want) in cases {
+        let mut ptable = Vec::from_slice(rt.alloc(), b"pcv,ckey,pvalue\n")?;
+        ptable.extend_from_slice(line)?;
         let mut people = String::from_str(rt.alloc(), "person,record_key,SEX,AGE,AREA\n")?;
         for person in 1..=persons {
             people.push_str(format!(in rt.alloc(); "{person},1,1,0-15,E1\n")?.as_str())?;
         }
-        let mut files = files(rt.alloc(), people.as_bytes(), b"a table SEX\n", &[])?;
-        files.hold("ptable", ptable)?;
-        assert!(rt; ends_so(rt.alloc(), COMMAND, &mut files, 200, (Status::Done, want))?);
+        let others = [("ptable", ptable.as_slice()), ("people", people.as_bytes())];
+        assert!(rt; is_so(rt.alloc(), WITHOUT_RECODES, &others, &[], 200, want)?);
     }
     Ok(())
 }
 
-// Over forms that never fail.
+// A script of 16 MiB and one byte; the other files' limit stands by its clause alone.
 #[test]
-fn sure_forms(rt: HostRuntime) -> Result<(), Fail> {
-    let mut some = SureFiles::new(rt.alloc());
-    some.hold("classes", CLASSES)?;
-    some.hold("ptable", PTABLE)?;
-    some.hold("people", PEOPLE)?;
-    some.hold("script", b"a table SEX\n")?;
-    let mut out = SureSink::new(rt.alloc());
-    let status = run_surely(
-        rt.alloc(),
-        &words(rt.alloc(), COMMAND)?,
-        &mut some,
-        &mut out,
-    );
-    assert_eq!(rt; status, Status::Done);
-    assert_eq!(rt; out.text()?, SEX);
+fn script_too_long(rt: HostRuntime) -> Result<(), Fail> {
+    let script = vec![in rt.alloc(); b'a'; 16_777_217]?;
+    let line: &[u8] = b"fault script TooLong\n";
+    let others = [("script", script.as_slice())];
+    assert!(rt; is_so(rt.alloc(), WITHOUT_RECODES, &others, &[], 200, line)?);
     Ok(())
 }
