@@ -241,7 +241,7 @@ members-few before s r is =
     let v : IsVariable (variable_number before.variables r.variable) = All-get_or IsVariable before.variables r.variable no_variable is.variable s.variables in
     omega (arith, count_by-le-length is_some r.grouping.group_of, is.grouping.total, v.few)
 
-pub record_count-few : (before : PartialValue) → ArePartial before → record_count before ≤ 4000000000
+pub record_count-few : (before : PartialValue) → ArePartial before → record_count before < 4294967295
 record_count-few before s =
     omega (arith, sum_by-le members MOST_CATEGORIES before.recodes (All-weaker (IsPartialOf before.variables) (λ r. members r ≤ MOST_CATEGORIES) (members-few before s) before.recodes s.recodes), s.few)
 
