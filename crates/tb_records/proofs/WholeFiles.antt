@@ -8,8 +8,7 @@ use Rattle.tb_base.specs.declared.people.TheConstants.{MOST_PERSONS}
 use Rattle.tb_base.specs.declared.records.Record.{Record}
 use Rattle.tb_base.proofs.PersonLemmas.{AreDistinct-push, distinct-new}
 use Rattle.tb_model.specs.Schemas.{SchemaValue}
-use Rattle.tb_rows.specs.WholeFiles.{Means}
-use Rattle.tb_rows.proofs.Meaning.{means_good}
+use Rattle.tb_rows.proofs.Meaning.{Means, means_good}
 use Rattle.tb_records.specs.People.{and_record, people_file}
 use Rattle.tb_records.specs.WholeFiles.{ArePeople, MayStand}
 

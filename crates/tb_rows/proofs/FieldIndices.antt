@@ -56,7 +56,7 @@ pub index_found : (name : List ℕ) (found : Option ℕ) (i : ℕ) (fields : Lis
 index_found name None i fields h at = rw (← h, drop-no_field fields i at) refl
 index_found name (Some j) i fields h at = rw (← h, drop-no_field fields i at) refl
 
--- the field at a index, or nothing
+-- the field at an index, or nothing
 pub field_some : (fields : List (List ℕ)) (i : ℕ) (f : List ℕ) → field_at fields i ≡ Some f → get_or fields i [] ≡ f
 unfolding field_at
 field_some [] i f h = cc

@@ -1,6 +1,6 @@
--- Texts of which no two are equal.
-use Rattle.std.proofs.Common.{◌≡◌, ◌∙◌, ap, sym, subst, refl, ℕ, suc, ◌+◌, ◌<◌, get_or, Bool, true, false, true≢false, cond, List, [], ◌∷◌, ◌++◌, ◌||◌, Option, Some, None, length, length-append, arith, inl, inr, add_comm, add-one}
-use Rattle.std.specs.Prelude.{bytes_eq, nat_lt, position}
+-- Texts, their places, and texts of which no two are equal.
+use Rattle.std.proofs.Common.{◌≡◌, ◌∙◌, ap, sym, subst, refl, ℕ, suc, ◌<◌, Bool, true, false, true≢false, cond, List, [], ◌∷◌, ◌++◌, ◌||◌, Option, Some, None, IfSome, length, length-append, arith, inl, inr, add_comm, add-one}
+use Rattle.std.specs.Prelude.{bytes_eq, nat_lt}
 use Rattle.std.specs.Cmp.{IsEquivalence}
 use Rattle.std.specs.List.{AllByRecursion, IsDistinct, list_any, position_or_len}
 use Rattle.std.proofs.lemmas.Bool.{cases_Bool}
@@ -10,6 +10,7 @@ use Rattle.std.proofs.lemmas.Map.Keys.{IsDistinct-from_apart, IsDistinct-push, a
 use Rattle.std.proofs.Math.ListN.{get_or-append}
 use Rattle.tb_base.proofs.Texts.{same_text, text_itself, text_other_way}
 use Rattle.tb_schema.specs.Names.{place_in}
+use Rattle.tb_schema.proofs.Orders.{less}
 
 either_way : (x y : List ℕ) → bytes_eq x y ≡ bytes_eq y x
 either_way x y = elim (cases_Bool (bytes_eq x y)) [
@@ -41,15 +42,25 @@ nowhere : (b : Bool) (x : ℕ) → cond b (Some x) None ≡ None → b ≡ false
 nowhere true x h = cc
 nowhere false x h = refl
 
-somewhere : (b : Bool) (x i : ℕ) → cond b (Some x) None ≡ Some i → b ≡ true
-somewhere true x i h = refl
+somewhere : (b : Bool) (x i : ℕ) → cond b (Some x) None ≡ Some i → (b ≡ true) × (x ≡ i)
+somewhere true x i h = (refl, cc)
 somewhere false x i h = cc
 
 pub absent : (texts : List (List ℕ)) (text : List ℕ) → place_in texts text ≡ None → list_any (bytes_eq text) texts ≡ false
 absent texts text h = sym (any-place texts (bytes_eq text)) ∙ nowhere _ _ h
 
 pub present : (texts : List (List ℕ)) (text : List ℕ) (i : ℕ) → place_in texts text ≡ Some i → list_any (bytes_eq text) texts ≡ true
-present texts text i h = sym (any-place texts (bytes_eq text)) ∙ somewhere _ _ _ h
+present texts text i h = sym (any-place texts (bytes_eq text)) ∙ (somewhere _ _ _ h).0
+
+-- a place is in range
+pub place-below : (texts : List (List ℕ)) (text : List ℕ) (i : ℕ) → place_in texts text ≡ Some i → i < length texts
+place-below texts text i h =
+    let (b, e) = somewhere _ _ i h in
+    omega (arith, less _ _ b, e)
+
+pub place-inside : (texts : List (List ℕ)) (text : List ℕ) (o : Option ℕ) → o ≡ place_in texts text → IfSome o (λ i. i < length texts)
+place-inside texts text None h = tt
+place-inside texts text (Some i) h = place-below texts text i (sym h)
 
 -- one more text that isn't there
 pub distinct-push : (texts : List (List ℕ)) (text : List ℕ) → IsDistinct bytes_eq texts → list_any (bytes_eq text) texts ≡ false → IsDistinct bytes_eq (texts ++ text ∷ [])
@@ -70,11 +81,11 @@ distinct-front a b h =
     rw (← get_or-append a b d i most, ← get_or-append a b d j inside) (apart_from_distinct bytes_eq (a ++ b) i j d h less (omega (arith, length-append a b))))
 
 -- a text of one of two lists is not in the other
-none-equal : (texts : List (List ℕ)) (text : List ℕ) → AllByRecursion (λ other. bytes_eq text other ≡ false) texts → list_any (bytes_eq text) texts ≡ false
+pub none-equal : (texts : List (List ℕ)) (text : List ℕ) → AllByRecursion (λ other. bytes_eq text other ≡ false) texts → list_any (bytes_eq text) texts ≡ false
 none-equal [] text h = refl
 none-equal (x ∷ texts) text h = rw h.0 (none-equal texts text h.1)
 
-or_true : (a : Bool) → (a || true) ≡ true
+pub or_true : (a : Bool) → (a || true) ≡ true
 or_true true = refl
 or_true false = refl
 

@@ -1,6 +1,6 @@
 -- One more line leaves recodes that are being read sound, and puts one more category into a group.
-use Rattle.std.proofs.Common.{◌≡◌, ◌∙◌, ap, sym, subst, refl, ℕ, ◌+◌, ◌*◌, ◌<◌, ◌≤◌, Bool, true, false, cond, List, [], ◌∷◌, ◌++◌, length, map, get_or, replicate, Option, Some, None, Result, Ok, Err, All, IfSome, append-nil, append_assoc, length-append, arith, inl, inr, nat_eq, is_some}
-use Rattle.std.specs.Prelude.{bytes_eq, count_by, nat_le, not, slice_set, sum_by}
+use Rattle.std.proofs.Common.{◌≡◌, ◌∙◌, ap, sym, subst, refl, ℕ, ◌+◌, ◌<◌, ◌≤◌, Bool, true, false, cond, List, [], ◌∷◌, ◌++◌, length, get_or, Option, Some, None, Result, Ok, Err, IfSome, append-nil, append_assoc, length-append, arith, inl, inr, nat_eq, is_some}
+use Rattle.std.specs.Prelude.{bytes_eq, nat_le, not, slice_set}
 use Rattle.std.specs.List.{IsDistinct}
 use Rattle.std.proofs.lemmas.Bool.{cases_Bool}
 use Rattle.std.proofs.lemmas.Bool.Decides.{nat_tests}
@@ -19,15 +19,12 @@ use Rattle.tb_schema.specs.Sound.{IsSound, IsVariable}
 use Rattle.tb_schema.specs.Spelling.{is_code}
 use Rattle.tb_schema.specs.declared.fault.SchemaKind.{SchemaKind}
 use Rattle.tb_schema.specs.declared.limits.TheConstants.{MOST_CATEGORIES, MOST_RECODES}
-use Rattle.tb_schema.proofs.Distinct.{absent, absent-both, distinct-front, distinct-push}
-use Rattle.tb_schema.proofs.Lookups.{place-below}
+use Rattle.tb_schema.proofs.Distinct.{absent, absent-both, distinct-front, distinct-push, place-below}
+use Rattle.tb_schema.proofs.Orders.{above}
 
 pub then-ok : {A B : Type 0} (r : Result A SchemaKind) (next : A → Result B SchemaKind) (y : B) → and_then r next ≡ Ok y → (x : A) × (r ≡ Ok x) × (next x ≡ Ok y)
 then-ok (Ok x) next y h = (x, refl, h)
 then-ok (Err e) next y h = cc
-
-above : (n m : ℕ) → nat_le n m ≡ false → m < n
-above n m h = grind (arith, nat_tests)
 
 not_not : (b : Bool) → not b ≡ false → b ≡ true
 not_not true h = refl
@@ -244,7 +241,7 @@ members-few before s r is =
     let v : IsVariable (variable_number before.variables r.variable) = All-get_or IsVariable before.variables r.variable no_variable is.variable s.variables in
     omega (arith, count_by-le-length is_some r.grouping.group_of, is.grouping.total, v.few)
 
-pub record_count-few : (before : PartialValue) → ArePartial before → record_count before ≤ 4000000000
+pub record_count-few : (before : PartialValue) → ArePartial before → record_count before < 4294967295
 record_count-few before s =
     omega (arith, sum_by-le members MOST_CATEGORIES before.recodes (All-weaker (IsPartialOf before.variables) (λ r. members r ≤ MOST_CATEGORIES) (members-few before s) before.recodes s.recodes), s.few)
 

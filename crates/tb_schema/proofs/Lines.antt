@@ -1,16 +1,15 @@
 -- The variables of lines, and what one more line makes of them.
-use Rattle.std.proofs.Common.{◌≡◌, ◌∙◌, ap, sym, subst, refl, ℕ, suc, Bool, true, false, cond, List, [], ◌∷◌, ◌++◌, ◌||◌, length, map, get_or, Some, None, Ok, arith, inl, inr, add_comm, add-one}
-use Rattle.std.specs.Prelude.{bytes_eq, nat_le, nat_lt}
-use Rattle.std.specs.List.{list_any, position_or_len}
+use Rattle.std.proofs.Common.{◌≡◌, ◌∙◌, ap, sym, subst, refl, ℕ, Bool, true, false, cond, List, [], ◌∷◌, ◌++◌, ◌||◌, length, map, get_or, Some, None, Ok, inl, inr, add_comm, add-one}
+use Rattle.std.specs.Prelude.{bytes_eq, nat_le}
+use Rattle.std.specs.List.{IsDistinct, list_any, position_or_len}
 use Rattle.std.proofs.lemmas.Bool.{cases_Bool}
-use Rattle.std.proofs.lemmas.Bool.Decides.{nat_tests}
 use Rattle.std.proofs.lemmas.List.Folds.{list_any-append}
 use Rattle.tb_base.proofs.Texts.{same_text, text_itself, text_other_way}
 use Rattle.tb_model.specs.Schemas.{VariableValue, CategoryValue}
 use Rattle.tb_schema.specs.Classes.{ClassLine, and_line, at_number, is_code_of, with_category}
 use Rattle.tb_schema.specs.Names.{no_variable}
 use Rattle.tb_schema.specs.declared.limits.TheConstants.{MOST_CATEGORIES, MOST_VARIABLES}
-use Rattle.tb_schema.proofs.Distinct.{any-place}
+use Rattle.tb_schema.proofs.Distinct.{any-place, distinct-push, none-equal, or_true}
 use Rattle.tb_schema.specs.WholeFiles.{and_name, names_after, categories_under, variables_in, is_repeat}
 
 -- the names after one more line
@@ -33,32 +32,18 @@ categories-other (l ∷ lines) line name h = elim (cases_Bool (bytes_eq name l.n
   | inr t ↦ rw t (categories-other lines line name h)
 ]
 
--- names, no two of them equal
-Apart : List (List ℕ) → Type 0
-Apart [] = Unit {0}
-Apart (n ∷ names) = (list_any (bytes_eq n) names ≡ false) × Apart names
-
-any-push : (names : List (List ℕ)) (n name : List ℕ) → list_any (bytes_eq n) names ≡ false → bytes_eq n name ≡ false → list_any (bytes_eq n) (names ++ name ∷ []) ≡ false
-any-push names n name h e = list_any-append (bytes_eq n) names (name ∷ []) ∙ rw (h, e) refl
-
 first_no : (a b : Bool) → (a || b) ≡ false → (a ≡ false) × (b ≡ false)
 first_no true b h = cc
 first_no false b h = (refl, h)
 
-apart-push : (names : List (List ℕ)) (name : List ℕ) → Apart names → list_any (bytes_eq name) names ≡ false → Apart (names ++ name ∷ [])
-unfolding Apart
-apart-push [] name a h = (refl, tt)
-apart-push (n ∷ names) name a h =
-    let (e, f) = first_no (bytes_eq name n) (list_any (bytes_eq name) names) h in
-    (any-push names n name a.0 (text_other_way name n e), apart-push names name a.1 f)
-
-apart-name : (names : List (List ℕ)) (name : List ℕ) → Apart names → Apart (and_name names name)
+-- names stay distinct
+apart-name : (names : List (List ℕ)) (name : List ℕ) → IsDistinct bytes_eq names → IsDistinct bytes_eq (and_name names name)
 apart-name names name a = elim (cases_Bool (list_any (bytes_eq name) names)) [
   | inl t ↦ rw t a
-  | inr t ↦ rw t (apart-push names name a t)
+  | inr t ↦ rw t (distinct-push names name a t)
 ]
 
-apart-after : (lines : List ClassLine) (names : List (List ℕ)) → Apart names → Apart (names_after names lines)
+apart-after : (lines : List ClassLine) (names : List (List ℕ)) → IsDistinct bytes_eq names → IsDistinct bytes_eq (names_after names lines)
 apart-after [] names a = a
 apart-after (l ∷ lines) names a = apart-after lines (and_name names l.name) (apart-name names l.name a)
 
@@ -68,10 +53,6 @@ there-name names n name h = elim (cases_Bool (list_any (bytes_eq name) names)) [
   | inl t ↦ rw t h
   | inr t ↦ rw t (list_any-append (bytes_eq n) names (name ∷ []) ∙ rw h refl)
 ]
-
-or_true : (a : Bool) → (a || true) ≡ true
-or_true true = refl
-or_true false = refl
 
 there-own : (names : List (List ℕ)) (name : List ℕ) → list_any (bytes_eq name) (and_name names name) ≡ true
 there-own names name = elim (cases_Bool (list_any (bytes_eq name) names)) [
@@ -126,13 +107,13 @@ flipped : (a b : List ℕ) → bytes_eq a b ≡ true → bytes_eq b a ≡ true
 flipped a b h = subst (λ x. bytes_eq x a ≡ true) (same_text a b h) (text_itself a)
 
 -- among names of which one is its own, a line adds its category there
-named-set : (names : List (List ℕ)) (lines : List ClassLine) (line : ClassLine) → Apart names → list_any (bytes_eq line.name) names ≡ true
+named-set : (names : List (List ℕ)) (lines : List ClassLine) (line : ClassLine) → IsDistinct bytes_eq names → list_any (bytes_eq line.name) names ≡ true
     → named (categories_under (lines ++ line ∷ [])) names ≡ with_category (named (categories_under lines) names) (position_or_len (bytes_eq line.name) names) line.category
-unfolding Apart named
+unfolding IsDistinct named
 named-set [] lines line a h = cc
 named-set (n ∷ names) lines line a h = elim (cases_Bool (bytes_eq line.name n)) [
   | inl t ↦
-      let apart = subst (λ x. list_any (bytes_eq x) names ≡ false) (sym (same_text line.name n t)) a.0 in
+      let apart = subst (λ x. list_any (bytes_eq x) names ≡ false) (sym (same_text line.name n t)) (none-equal names n a.0) in
       rw (t, categories-own lines line n (flipped line.name n t))
       (ap (λ vs. let v : VariableValue = record { name = n; categories = categories_under lines n ++ line.category ∷ [] } in v ∷ vs) (named-others names lines line apart))
   | inr t ↦
@@ -159,7 +140,7 @@ line-new lines line h =
 -- a line of a name that is there
 pub line-old : (lines : List ClassLine) (line : ClassLine) → list_any (bytes_eq line.name) (names_after [] lines) ≡ true
     → variables_in (lines ++ line ∷ []) ≡ with_category (variables_in lines) (position_or_len (bytes_eq line.name) (names_after [] lines)) line.category
-unfolding Apart named
+unfolding IsDistinct named
 line-old lines line h =
     ap (named (categories_under (lines ++ line ∷ []))) (names-append lines [] line ∙ rw h refl)
     ∙ named-set (names_after [] lines) lines line (apart-after lines [] tt) h

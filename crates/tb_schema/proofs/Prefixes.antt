@@ -1,10 +1,9 @@
 -- What holds of all lines of a file, seen from the lines at its front.
 use Rattle.std.proofs.Common.{◌≡◌, ◌∙◌, ap, sym, subst, refl, ℕ, ◌≤◌, ◌<◌, true, false, List, [], ◌∷◌, ◌++◌, length, get_or, Some, None, Ok, length-append, append_assoc, arith, inl, inr}
-use Rattle.std.specs.Prelude.{bytes_eq, nat_le, nat_lt}
+use Rattle.std.specs.Prelude.{bytes_eq, nat_le}
 use Rattle.std.specs.List.{list_any, position_or_len}
 use Rattle.std.proofs.lemmas.List.{append-nil, length-map}
 use Rattle.std.proofs.lemmas.Bool.{cases_Bool}
-use Rattle.std.proofs.lemmas.Bool.Decides.{nat_tests}
 use Rattle.tb_model.specs.Schemas.{VariableValue, CategoryValue}
 use Rattle.tb_schema.specs.Classes.{ClassLine, and_line, at_number, is_code_of}
 use Rattle.tb_schema.specs.Names.{no_variable}
@@ -15,6 +14,7 @@ use Rattle.tb_schema.specs.WholeFiles.{and_name, names_after, categories_under, 
 use Rattle.tb_schema.proofs.Lines.{categories-own, line-new, line-old, named, named-at, names-append, number-of, repeats-code}
 use Rattle.tb_base.proofs.Texts.{text_itself}
 use Rattle.std.proofs.lemmas.List.Elements.{All-cons, All-get_or, All-head, All-nil, All-tail}
+use Rattle.tb_schema.proofs.Orders.{below, less}
 
 -- the names of the lines at the front stay, and come first
 names-both : (front back : List ClassLine) (names : List (List ℕ)) → names_after names (front ++ back) ≡ names_after (names_after names front) back
@@ -62,12 +62,6 @@ within-front front back s =
       small = small-front names more f g (categories-grow front back) w.small;
       few = omega (arith, w.few, length-map names (λ (name : List ℕ). let v : VariableValue = record { name = name; categories = f name } in v), length-map (names ++ more) (λ (name : List ℕ). let v : VariableValue = record { name = name; categories = g name } in v), length-append names more);
     }
-
-below : (n m : ℕ) → m < n → nat_le n m ≡ false
-below n m h = grind (arith, nat_tests)
-
-less : (n m : ℕ) → nat_lt n m ≡ true → n < m
-less n m h = grind (arith, nat_tests)
 
 -- a line of a new name
 takes-new : (lines : List ClassLine) (line : ClassLine) → list_any (bytes_eq line.name) (names_after [] lines) ≡ false → AreWithin (variables_in (lines ++ line ∷ []))

@@ -1,5 +1,5 @@
 -- What is true of recodes that were read.
-use Rattle.std.proofs.Common.{◌≡◌, ◌∙◌, ap, sym, subst, refl, ℕ, ◌+◌, ◌<◌, ◌≤◌, List, [], ◌∷◌, ◌++◌, length, map, get_or, Option, Some, None, Result, Ok, Err, All, IfSome, arith}
+use Rattle.std.proofs.Common.{◌≡◌, ◌∙◌, ap, sym, subst, refl, ℕ, ◌+◌, ◌<◌, ◌≤◌, List, [], ◌∷◌, ◌++◌, length, map, Option, Some, None, Ok, IfSome, arith}
 use Rattle.std.specs.Prelude.{bytes_eq, find, unwrap_or}
 use Rattle.std.specs.List.{IsDistinct}
 use Rattle.std.proofs.lemmas.List.{length-map}
@@ -9,13 +9,12 @@ use Rattle.tb_rows.specs.WholeFiles.{AddUp}
 use Rattle.tb_rows.proofs.Meaning.{means_itself}
 use Rattle.tb_rows.proofs.WholeFiles.{accepted_where}
 use Rattle.tb_model.specs.Schemas.{RecodeValue, SchemaValue, VariableValue}
-use Rattle.tb_schema.specs.Names.{recode_names, variable_names, variable_number}
+use Rattle.tb_schema.specs.Names.{recode_names, variable_names}
 use Rattle.tb_schema.specs.Partial.{ArePartial, IsPartialOf}
 use Rattle.tb_schema.specs.RecodeFiles.{AreRecodes}
 use Rattle.tb_schema.specs.Recodes.{PartialRecode, PartialValue, RecodeLine, and_recode, is_partial, partial_names, recodes_file, recodes_of, unless_partial, whole_recode}
 use Rattle.tb_schema.specs.Sound.{IsRecodeOf, IsSound}
 use Rattle.tb_schema.specs.declared.fault.ClassFile.TheVariants.{Recodes}
-use Rattle.tb_schema.specs.declared.fault.SchemaKind.{SchemaKind}
 use Rattle.tb_schema.specs.declared.limits.TheConstants.{MOST_VARIABLES}
 use Rattle.tb_schema.proofs.Kept.{groups-few, kept, kept-variables, nothing-read}
 use Rattle.tb_schema.proofs.WholeFiles.{in_file-ok}

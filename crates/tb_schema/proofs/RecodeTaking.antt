@@ -1,8 +1,7 @@
 -- What one more line makes of the recodes.
 use Rattle.std.proofs.Common.{◌≡◌, ◌≢◌, ◌∙◌, ap, sym, subst, refl, ℕ, zero, suc, ◌<◌, ◌≤◌, Bool, true, false, List, [], ◌∷◌, ◌++◌, length, map, get_or, Option, Some, None, Result, Ok, Err, IfErr, IfSome, String, Global, string_bytes, arith, inl, inr, nat_eq, is_some, add_comm, add-one}
-use Rattle.std.specs.Prelude.{bytes_eq, string_eq, find, nat_le, not, option_map, slice_get, slice_set}
+use Rattle.std.specs.Prelude.{bytes_eq, string_eq, find, not, option_map, slice_get, slice_set}
 use Rattle.std.specs.List.{list_any, position_or_len}
-use Rattle.std.specs.HashMap.{HashMap, get_by_text}
 use Rattle.std.specs.Map.{keys_of, lookup, values_of}
 use Rattle.std.proofs.lemmas.Bool.{cases_Bool}
 use Rattle.std.proofs.lemmas.Bool.Decides.{nat_tests}
@@ -13,7 +12,7 @@ use Rattle.indexmap.specs.Layout.{set_value_at}
 use Rattle.tb_rows.specs.Formats.{and_then, at_record}
 use Rattle.tb_rows.specs.declared.fault.Fault.{Fault}
 use Rattle.tb_rows.specs.declared.fault.Fault.TheVariants.{Memory}
-use Rattle.tb_model.specs.Schemas.{RecodeValue, VariableValue}
+use Rattle.tb_model.specs.Schemas.{VariableValue}
 use Rattle.tb_schema.specs.Groupings.{GroupingValue, no_groups, with_code, with_group}
 use Rattle.tb_schema.specs.Names.{category_codes, place_in, variable_names, variable_number}
 use Rattle.tb_schema.specs.Partial.{ArePartial, IsPartialOf}
@@ -21,11 +20,11 @@ use Rattle.tb_schema.specs.Recodes.{PartialRecode, PartialValue, RecodeLine, and
 use Rattle.tb_schema.specs.Views.{partial_view, recode_view}
 use Rattle.tb_schema.specs.declared.fault.SchemaKind.{SchemaKind}
 use Rattle.tb_schema.specs.declared.fault.SchemaKind.TheVariants.{NameTwice, TooMany}
-use Rattle.tb_schema.specs.declared.limits.TheConstants.{MOST_CATEGORIES, MOST_RECODES}
+use Rattle.tb_schema.specs.declared.limits.TheConstants.{MOST_RECODES}
 use Rattle.tb_schema.specs.declared.recode.Recode.{Recode as RecodeText}
-use Rattle.tb_schema.proofs.Distinct.{absent, nowhere-else}
+use Rattle.tb_schema.proofs.Distinct.{absent, nowhere-else, place-inside}
 use Rattle.tb_schema.proofs.Kept.{groups-few}
-use Rattle.tb_schema.proofs.Lookups.{place-inside}
+use Rattle.tb_schema.proofs.Orders.{at_most, below}
 
 -- a fault of one step is one of both
 pub refused-then : {A B T : Type 0} (n : ℕ) (a : Result A SchemaKind) (next : A → Result B SchemaKind) (r : Result T (Fault SchemaKind)) → IfErr r (λ e. e ≢ Memory → at_record n a ≡ Err e)
@@ -142,12 +141,6 @@ module _ (vs : List VariableValue) (es : List (String Global × RecodeText)) (n 
         let (k, is) = own in
         let total : length m.grouping.group_of ≡ length (category_codes (variable_number vs v)) = is.grouping.total ∙ ap (λ u. length (variable_number vs u).categories) same ∙ sym (length-map (variable_number vs v).categories (λ c. c.code)) in
         subst (λ n. IfSome code (λ c. c < n)) (sym total) (place-inside (category_codes (variable_number vs v)) line.code code c)
-
-at_most : (n m : ℕ) → n ≤ m → nat_le n m ≡ true
-at_most n m h = grind (arith, nat_tests)
-
-below : (n m : ℕ) → m < n → nat_le n m ≡ false
-below n m h = grind (arith, nat_tests)
 
 -- a line of a new recode
 module _ (so_far : PartialValue) (n : ℕ) (line : RecodeLine) (v : ℕ) (code : Option ℕ) (c : code ≡ place_in (category_codes (variable_number so_far.variables v)) line.code) where

@@ -1,6 +1,3 @@
-use Rattle.std.proofs.Common.{map, subst, sym}
-use Rattle.tb_schema.specs.Sound.{AreVariables}
-use Rattle.tb_schema.specs.Views.{variable_view}
 use Rattle.tb_schema.proofs.Within.{no_variables}
 use Rattle.tb_schema.proofs.classes.ClassesFileFileFormat.start.Goals as goal
 
