@@ -1,6 +1,6 @@
 -- One more line leaves recodes that are being read sound, and puts one more category into a group.
-use Rattle.std.proofs.Common.{◌≡◌, ◌∙◌, ap, sym, subst, refl, ℕ, ◌+◌, ◌<◌, ◌≤◌, Bool, true, false, cond, List, [], ◌∷◌, ◌++◌, length, get_or, Option, Some, None, Result, Ok, Err, IfSome, append-nil, append_assoc, length-append, arith, inl, inr, nat_eq, is_some}
-use Rattle.std.specs.Prelude.{bytes_eq, nat_le, not, slice_set}
+use Rattle.std.proofs.Common.{◌≡◌, ◌∙◌, ap, sym, subst, refl, ℕ, ◌+◌, ◌<◌, ◌≤◌, true, false, cond, List, [], ◌∷◌, ◌++◌, length, get_or, Option, Some, None, Result, Ok, Err, IfSome, append-nil, append_assoc, length-append, arith, inl, inr, nat_eq, is_some}
+use Rattle.std.specs.Prelude.{bytes_eq, nat_le, slice_set}
 use Rattle.std.specs.List.{IsDistinct}
 use Rattle.std.proofs.lemmas.Bool.{cases_Bool}
 use Rattle.std.proofs.lemmas.Bool.Decides.{nat_tests}
@@ -12,7 +12,7 @@ use Rattle.std.proofs.Math.Seq.{map-set_same}
 use Rattle.tb_rows.specs.Formats.{and_then}
 use Rattle.tb_model.specs.Schemas.{CategoryValue, SchemaValue, VariableValue}
 use Rattle.tb_schema.specs.Groupings.{GroupingValue, no_groups, with_code, with_group, with_member}
-use Rattle.tb_schema.specs.Names.{category_codes, recode_names, no_variable, place_in, variable_names, variable_number}
+use Rattle.tb_schema.specs.Names.{category_codes, recode_names, no_variable, place_in, variable_names, nth_variable}
 use Rattle.tb_schema.specs.Partial.{ArePartial, IsGrouping, IsPartialOf, member_count, record_count}
 use Rattle.tb_schema.specs.Recodes.{PartialRecode, PartialValue, RecodeLine, and_recode, at_recode, at_variable, no_recode, partial_names, with_line, with_recode}
 use Rattle.tb_schema.specs.Sound.{IsSound, IsVariable}
@@ -25,10 +25,6 @@ use Rattle.tb_schema.proofs.Orders.{above}
 pub then-ok : {A B : Type 0} (r : Result A SchemaKind) (next : A → Result B SchemaKind) (y : B) → and_then r next ≡ Ok y → (x : A) × (r ≡ Ok x) × (next x ≡ Ok y)
 then-ok (Ok x) next y h = (x, refl, h)
 then-ok (Err e) next y h = cc
-
-not_not : (b : Bool) → not b ≡ false → b ≡ true
-not_not true h = refl
-not_not false h = cc
 
 equal : (n m : ℕ) → nat_eq n m ≡ true → n ≡ m
 equal n m h = grind (arith, nat_tests)
@@ -135,7 +131,7 @@ no-members n = omega (arith, sum_by-replicate one n None)
 
 -- a record of a new recode
 new : (before : PartialValue) (r : PartialRecode) (rs : List PartialRecode) → ArePartial before → place_in (variable_names before.variables) r.name ≡ None → place_in (partial_names before.recodes) r.name ≡ None
-    → r.variable < length before.variables → Placed (length (variable_number before.variables r.variable).categories) (no_groups (length (variable_number before.variables r.variable).categories)) r.grouping
+    → r.variable < length before.variables → Placed (length (nth_variable before.variables r.variable).categories) (no_groups (length (nth_variable before.variables r.variable).categories)) r.grouping
     → with_recode before.recodes r ≡ Ok rs → Kept before (record before { recodes = rs })
 new before r rs s p q inside placed h = elim (cases_Bool (nat_le MOST_RECODES (length before.recodes))) [
   | inl t ↦ let e = rw t at h in cc
@@ -154,13 +150,13 @@ new before r rs s p q inside placed h = elim (cases_Bool (nat_le MOST_RECODES (l
           variables = s.variables;
           recodes = All-push (IsPartialOf before.variables) before.recodes r s.recodes (record { variable = inside; grouping = placed.grouping; some = placed.some });
         };
-        count = omega (arith, sum_by_push members before.recodes r, placed.count, no-members (length (variable_number before.variables r.variable).categories));
+        count = omega (arith, sum_by_push members before.recodes r, placed.count, no-members (length (nth_variable before.variables r.variable).categories));
       })
 ]
 
 -- a record of the recode of number i
 old : (before : PartialValue) (i : ℕ) (grouping : GroupingValue) → ArePartial before → i < length before.recodes
-    → Placed (length (variable_number before.variables (get_or before.recodes i no_recode).variable).categories) (get_or before.recodes i no_recode).grouping grouping
+    → Placed (length (nth_variable before.variables (get_or before.recodes i no_recode).variable).categories) (get_or before.recodes i no_recode).grouping grouping
     → Kept before (record before { recodes = slice_set before.recodes i (record (get_or before.recodes i no_recode) { grouping = grouping }) })
 old before i grouping s inside placed =
     let r = get_or before.recodes i no_recode in
@@ -180,12 +176,12 @@ old before i grouping s inside placed =
 kept-at : (n : ℕ) (before : PartialValue) (line : RecodeLine) (v : ℕ) (rs : List PartialRecode) (o : Option ℕ) → ArePartial before → v < length before.variables → place_in (variable_names before.variables) line.name ≡ None
     → place_in (partial_names before.recodes) line.name ≡ o → at_recode before n line v o ≡ Ok rs → Kept before (record before { recodes = rs })
 kept-at n before line v rs None s inside p q h =
-    let variable = variable_number before.variables v in
+    let variable = nth_variable before.variables v in
     let (grouping, with, pushed) = then-ok (with_line variable (no_groups (length variable.categories)) line) (λ g. with_recode before.recodes (record { name = line.name; variable = v; grouping = g; first = n })) rs h in
     new before (record { name = line.name; variable = v; grouping = grouping; first = n }) rs s p q inside (placed-line variable (no_groups (length variable.categories)) grouping line (empty (length variable.categories)) with) pushed
 kept-at n before line v rs (Some i) s inside p q h =
     let r = get_or before.recodes i no_recode in
-    let variable = variable_number before.variables v in
+    let variable = nth_variable before.variables v in
     let there : i < length before.recodes = omega (arith, place-below (partial_names before.recodes) line.name i q, length-map before.recodes (λ (r : PartialRecode). r.name)) in
     elim (cases_Bool (nat_eq r.variable v)) [
       | inr t ↦ let e = rw t at h in cc
@@ -194,11 +190,11 @@ kept-at n before line v rs (Some i) s inside p q h =
           let same : r.variable ≡ v = equal r.variable v t in
           let is : IsPartialOf before.variables r = All-get_or (IsPartialOf before.variables) before.recodes i no_recode there s.recodes in
           let (grouping, with, written) = then-ok (with_line variable r.grouping line) (λ g. Ok (slice_set before.recodes i (record r { grouping = g }))) rs g in
-          let own : IsGrouping (length variable.categories) r.grouping = subst (λ u. IsGrouping (length (variable_number before.variables u).categories) r.grouping) same is.grouping in
+          let own : IsGrouping (length variable.categories) r.grouping = subst (λ u. IsGrouping (length (nth_variable before.variables u).categories) r.grouping) same is.grouping in
           let placed = placed-line variable r.grouping grouping line own with in
           let is_rs : slice_set before.recodes i (record r { grouping = grouping }) ≡ rs = cc in
           subst (λ rs. Kept before (record before { recodes = rs })) is_rs
-          (old before i grouping s there (subst (λ u. Placed (length (variable_number before.variables u).categories) r.grouping grouping) (sym same) placed))
+          (old before i grouping s there (subst (λ u. Placed (length (nth_variable before.variables u).categories) r.grouping grouping) (sym same) placed))
     ]
 
 kept-variable : (n : ℕ) (before : PartialValue) (line : RecodeLine) (rs : List PartialRecode) (o : Option ℕ) → place_in (variable_names before.variables) line.variable ≡ o → ArePartial before → at_variable before n line o ≡ Ok rs
@@ -238,7 +234,7 @@ nothing-read schema s = record {
 -- there are not too many records
 members-few : (before : PartialValue) → ArePartial before → (r : PartialRecode) → IsPartialOf before.variables r → members r ≤ MOST_CATEGORIES
 members-few before s r is =
-    let v : IsVariable (variable_number before.variables r.variable) = All-get_or IsVariable before.variables r.variable no_variable is.variable s.variables in
+    let v : IsVariable (nth_variable before.variables r.variable) = All-get_or IsVariable before.variables r.variable no_variable is.variable s.variables in
     omega (arith, count_by-le-length is_some r.grouping.group_of, is.grouping.total, v.few)
 
 pub record_count-few : (before : PartialValue) → ArePartial before → record_count before < 4294967295

@@ -14,7 +14,7 @@ use Rattle.tb_rows.specs.declared.fault.Fault.{Fault}
 use Rattle.tb_rows.specs.declared.fault.Fault.TheVariants.{Memory}
 use Rattle.tb_model.specs.Schemas.{VariableValue}
 use Rattle.tb_schema.specs.Groupings.{GroupingValue, no_groups, with_code, with_group}
-use Rattle.tb_schema.specs.Names.{category_codes, place_in, variable_names, variable_number}
+use Rattle.tb_schema.specs.Names.{category_codes, place_in, variable_names, nth_variable}
 use Rattle.tb_schema.specs.Partial.{ArePartial, IsPartialOf}
 use Rattle.tb_schema.specs.Recodes.{PartialRecode, PartialValue, RecodeLine, and_recode, at_recode, is_partial, no_recode, partial_names, unless_partial, whole_recode, with_line, with_recode}
 use Rattle.tb_schema.specs.Views.{partial_view, recode_view}
@@ -112,13 +112,13 @@ module _ (vs : List VariableValue) (es : List (String Global × RecodeText)) (n 
       let no = ap (λ (r : PartialRecode). nat_eq r.variable v) is ∙ unequal m.variable v other in
       rw no refl
 
-  pub old-goes : (code : Option ℕ) → m.variable ≡ v → code ≡ place_in (category_codes (variable_number vs v)) line.code
+  pub old-goes : (code : Option ℕ) → m.variable ≡ v → code ≡ place_in (category_codes (nth_variable vs v)) line.code
       → at_recode before n line v (Some i) ≡ and_then (with_code m.grouping line.group code) (λ g. Ok (map partial_view (set_value_at es i (with_grouping m g))))
   old-goes code same c =
       let (k, is) = recode-there es i m there in
       let yes = ap (λ (r : PartialRecode). nat_eq r.variable v) is ∙ equal m.variable v same in
       rw yes
-      (ap (λ (r : PartialRecode). and_then (with_line (variable_number vs v) r.grouping line) (λ g. Ok (slice_set (map partial_view es) i (record (get_or (map partial_view es) i no_recode) { grouping = g })))) is
+      (ap (λ (r : PartialRecode). and_then (with_line (nth_variable vs v) r.grouping line) (λ g. Ok (slice_set (map partial_view es) i (record (get_or (map partial_view es) i no_recode) { grouping = g })))) is
       ∙ ap (λ o. and_then (with_code m.grouping line.group o) (λ g. Ok (slice_set (map partial_view es) i (record (get_or (map partial_view es) i no_recode) { grouping = g })))) (sym c)
       ∙ written (with_code m.grouping line.group code))
     where
@@ -136,16 +136,16 @@ module _ (vs : List VariableValue) (es : List (String Global × RecodeText)) (n 
     pub old-few : length m.grouping.groups < 65536
     old-few = let (k, is) = own in omega (arith, groups-few before known (partial_view (k, m)) is)
 
-    pub old-there : (code : Option ℕ) → m.variable ≡ v → code ≡ place_in (category_codes (variable_number vs v)) line.code → IfSome code (λ c. c < length m.grouping.group_of)
+    pub old-there : (code : Option ℕ) → m.variable ≡ v → code ≡ place_in (category_codes (nth_variable vs v)) line.code → IfSome code (λ c. c < length m.grouping.group_of)
     old-there code same c =
         let (k, is) = own in
-        let total : length m.grouping.group_of ≡ length (category_codes (variable_number vs v)) = is.grouping.total ∙ ap (λ u. length (variable_number vs u).categories) same ∙ sym (length-map (variable_number vs v).categories (λ c. c.code)) in
-        subst (λ n. IfSome code (λ c. c < n)) (sym total) (place-inside (category_codes (variable_number vs v)) line.code code c)
+        let total : length m.grouping.group_of ≡ length (category_codes (nth_variable vs v)) = is.grouping.total ∙ ap (λ u. length (nth_variable vs u).categories) same ∙ sym (length-map (nth_variable vs v).categories (λ c. c.code)) in
+        subst (λ n. IfSome code (λ c. c < n)) (sym total) (place-inside (category_codes (nth_variable vs v)) line.code code c)
 
 -- a line of a new recode
-module _ (so_far : PartialValue) (n : ℕ) (line : RecodeLine) (v : ℕ) (code : Option ℕ) (c : code ≡ place_in (category_codes (variable_number so_far.variables v)) line.code) where
+module _ (so_far : PartialValue) (n : ℕ) (line : RecodeLine) (v : ℕ) (code : Option ℕ) (c : code ≡ place_in (category_codes (nth_variable so_far.variables v)) line.code) where
   abbrev none : GroupingValue
-  none = no_groups (length (variable_number so_far.variables v).categories)
+  none = no_groups (length (nth_variable so_far.variables v).categories)
 
   abbrev pushed : GroupingValue → Result (List PartialRecode) SchemaKind
   pushed g = with_recode so_far.recodes (record { name = line.name; variable = v; grouping = g; first = n })

@@ -4,7 +4,7 @@ use Rattle.std.specs.Prelude.{is_some, length, sum_by}
 use Rattle.std.specs.List.{IsDistinct}
 use Rattle.tb_model.specs.Schemas.{VariableValue}
 use Rattle.tb_schema.specs.Groupings.{GroupingValue}
-use Rattle.tb_schema.specs.Names.{variable_names, variable_number}
+use Rattle.tb_schema.specs.Names.{variable_names, nth_variable}
 use Rattle.tb_schema.specs.Recodes.{PartialRecode, PartialValue, partial_names}
 use Rattle.tb_schema.specs.Sound.{IsVariable}
 use Rattle.tb_schema.specs.declared.limits.TheConstants.{MOST_RECODES}
@@ -23,7 +23,7 @@ pub record IsGrouping (categories : ℕ) (grouping : GroupingValue) : Type 0 whe
 -- a recode has a group at least, of categories of a variable that there is
 pub record IsPartialOf (variables : List VariableValue) (r : PartialRecode) : Type 0 where
   pub variable : r.variable < length variables
-  pub grouping : IsGrouping (length (variable_number variables r.variable).categories) r.grouping
+  pub grouping : IsGrouping (length (nth_variable variables r.variable).categories) r.grouping
   pub some : 1 ≤ length r.grouping.groups
 
 -- the names of variables and recodes are together distinct, and there are not too many recodes
