@@ -8,7 +8,7 @@ use Rattle.tb_schema.specs.declared.fault.SchemaFault.{SchemaFault}
 use Rattle.tb_schema.specs.declared.fault.SchemaFault.TheVariants as fault
 use Rattle.tb_schema.specs.declared.fault.SchemaKind.{SchemaKind}
 
--- it is the one of record n, which says this, or memory ran out
+-- it is the one of record n, which says this, or there is no more memory
 abbrev pub IsFaultOf : {A : Type 0} → ℕ → Result A SchemaKind → Fault SchemaKind → Type 0
 IsFaultOf n says e = e ≢ file_fault.Memory → at_record n says ≡ Err e
 

@@ -13,14 +13,15 @@ use Rattle.tb_schema.specs.declared.limits.TheConstants.{MOST_RECODES}
 abbrev pub member_count : GroupingValue → ℕ
 member_count grouping = count_by is_some grouping.group_of
 
--- groups of so many categories: their codes are distinct, and each has a category
+-- groups of so many categories: their codes are distinct, and they are no more than the categories
+-- that are in one
 pub record IsGrouping (categories : ℕ) (grouping : GroupingValue) : Type 0 where
   pub total : length grouping.group_of ≡ categories
   pub groups : All (λ o. IfSome o (λ g. g < length grouping.groups)) grouping.group_of
   pub codes : IsDistinct bytes_eq grouping.groups
   pub few : length grouping.groups ≤ member_count grouping
 
--- a recode has a group at least, of categories of a variable that there is
+-- a recode has at least one group, of categories of a variable that there is
 pub record IsPartialOf (variables : List VariableValue) (r : PartialRecode) : Type 0 where
   pub variable : r.variable < length variables
   pub grouping : IsGrouping (length (nth_variable variables r.variable).categories) r.grouping

@@ -1,8 +1,8 @@
 // The recodes of a classification, read from their file.
 
 ghost use Rattle.std.specs.Prelude.{◌≡◌, ◌≢◌, ◌<◌, ◌≤◌, ◌+◌, ◌∷◌, ◌++◌, [], Ok, Err, Some, None};
-ghost use Rattle.std.specs.Prelude.{true, false, is_some, length, IfErr, IfOk, MatchResult, OnOk, find};
-ghost use Rattle.std.specs.Prelude.{get_or, option_map};
+ghost use Rattle.std.specs.Prelude.{true, false, is_some, length, IfErr, IfOk, MatchResult, OnOk};
+ghost use Rattle.std.specs.Prelude.{find, get_or, option_map};
 ghost use Rattle.indexmap.specs.IndexMap.{get_by_text};
 ghost use Rattle.tb_rows.specs.Formats.{at_record, step_of};
 ghost use Rattle.tb_schema.specs.Faults.{IsFaultOf};

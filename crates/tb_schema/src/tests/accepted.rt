@@ -93,7 +93,8 @@ fn accepted_files(rt: HostRuntime) -> Result<(), Fail> {
         ),
         // One mark, both line ends, quotes, other columns in another order.
         (
-            b"\xEF\xBB\xBFcode,note,label,variable\r\n\"1\",x,\"a \"\"b\"\"\",SEX\r\n-,y,\"1, 2\",SEX",
+            b"\xEF\xBB\xBFcode,note,label,variable\r\n\
+            \"1\",x,\"a \"\"b\"\"\",SEX\r\n-,y,\"1, 2\",SEX",
             "SEX(1 a \"b\")(- 1, 2)\n",
         ),
         // A label may be empty, or `Total`, or not ASCII.

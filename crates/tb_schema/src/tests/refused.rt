@@ -6,7 +6,8 @@ use std::alloc::{AllocError, Global};
 use std::test::Fail;
 use tb_rows::FaultKind;
 
-// A file of a header, the records of the numbers below `n`, each between two texts, and a last line.
+// A file of a header, the records of the numbers below `n`, each between two texts, and a last
+// line.
 fn numbered(
     alloc: Global,
     header: &str,
