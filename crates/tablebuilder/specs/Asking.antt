@@ -1,5 +1,5 @@
--- What the arguments and the files ask for: a setup, the microdata's records and the script; or why the
--- run ends before the script's first line.
+-- What the arguments and the files ask for: a setup, the microdata's records and the script; or why
+-- the run ends before the script's first line.
 use Rattle.std.specs.Prelude.{◌==◌, ℕ, List, length, Option, Some, None, Result, Ok, Err, ok_or, nat_lt, if◌then◌else◌}
 use Rattle.tb_base.specs.declared.records.Record.{Record}
 use Rattle.tb_model.specs.declared.names.PerturbationLine.{PerturbationLine}

@@ -3,9 +3,9 @@ use Rattle.std.specs.Prelude.{◌≡◌, ℕ, suc, zero, List, Option, option_ma
 use Rattle.tb_io.specs.Faults.{HasRisen, one_more}
 use Rattle.tb_io.specs.Taken.{Took}
 
--- The arguments; what stands under each name, where the files tell it; the counts of faults of the files
--- and of the sink, before and after; how many readings there were, where the files tell it; and the
--- bytes that the sink took, where it tells them.
+-- The arguments; what stands under each name, where the files tell it; the counts of faults of the
+-- files and of the sink, before and after; how many readings there were, where the files tell it;
+-- and the bytes that the sink took, where it tells them.
 pub record Call : Type 0 where
   pub words : List (List ℕ)
   pub content : Option (List ℕ → Option (List ℕ))

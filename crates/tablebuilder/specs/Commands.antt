@@ -37,9 +37,10 @@ word_at words i = get_or words i []
 -- whatever threshold; RECODES may be `-`
 abbrev pub are_words : List (List ℕ) → Bool
 are_words words =
-    (length words == 7) && bytes_eq (word_at words 0) (codes "script") && is_file_name (word_at words 1)
-    && may_name_recodes (word_at words 2)
-    && is_file_name (word_at words 3) && is_file_name (word_at words 4) && is_file_name (word_at words 6)
+    (length words == 7) && bytes_eq (word_at words 0) (codes "script")
+    && is_file_name (word_at words 1) && may_name_recodes (word_at words 2)
+    && is_file_name (word_at words 3) && is_file_name (word_at words 4)
+    && is_file_name (word_at words 6)
 
 -- the command with these arguments and this threshold
 abbrev pub command_with : List (List ℕ) → ℕ → CommandValue
@@ -55,4 +56,5 @@ command_with words threshold = record {
 -- what the arguments ask for; others than those of the command ask for nothing
 abbrev pub command_of : List (List ℕ) → Option CommandValue
 command_of words =
-    if are_words words then option_map (command_with words) (threshold_in (word_at words 5)) else None
+    if are_words words then option_map (command_with words) (threshold_in (word_at words 5))
+    else None

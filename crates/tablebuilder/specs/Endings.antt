@@ -33,7 +33,8 @@ status_of (end.Refused file name at) = input_status file
 status_of (end.BadLine at) = status.Script
 status_of end.Memory = status.Memory
 
--- the line for a file that is refused: the file, the number and the word of its first fault, and where
+-- the line for a file that is refused: the file, the number and the word of its first fault, and
+-- the number of the record
 abbrev pub refusal_line : Input → FaultNameValue → ℕ → List ℕ
 refusal_line file name at =
     codes "fault " ++ input_name file ++ codes " " ++ decimal name.number ++ codes " " ++ name.word

@@ -12,7 +12,8 @@ use Rattle.tablebuilder.specs.Endings.{last_line}
 use Rattle.tablebuilder.specs.Promises.{IsTextOf, reading_number}
 
 -- what such a call saw
-abbrev pub memory_call : List (List ℕ) → FailingFiles → FailingFiles → BoundedSink → BoundedSink → Call
+abbrev pub memory_call : List (List ℕ) → FailingFiles → FailingFiles → BoundedSink → BoundedSink
+    → Call
 memory_call words files files' out out' = record {
   words = words;
   content = Some (bytes_of files.held);
@@ -29,10 +30,12 @@ memory_call words files files' out out' = record {
 -- the bytes that a run with this status added to those of the sink
 abbrev pub Adds : Call → FailingFiles → BoundedSink → BoundedSink → Status → Type 0
 Adds call files out out' s =
-    (bytes : List ℕ) × (out'.taken ≡ out.taken ++ bytes) × IsTextOf call (bytes_of files.held) s bytes
+    (bytes : List ℕ)
+    × (out'.taken ≡ out.taken ++ bytes) × IsTextOf call (bytes_of files.held) s bytes
 
 -- a read fault's line names the file of the reading that failed, which was the run's last
-abbrev pub NamesTheFailingRead : List (List ℕ) → FailingFiles → FailingFiles → BoundedSink → BoundedSink → Type 0
+abbrev pub NamesTheFailingRead : List (List ℕ) → FailingFiles → FailingFiles → BoundedSink
+    → BoundedSink → Type 0
 NamesTheFailingRead words files files' out out' =
     (file : Input) × (out'.taken ≡ out.taken ++ last_line (end.Unread file))
     × ((command : CommandValue) → command_of words ≡ Some command

@@ -11,7 +11,9 @@ use Rattle.tb_model.specs.Schemas.{SchemaValue, codes_of}
 -- the line of a category of a variable, which shows this cell
 abbrev pub cell_line : SchemaValue → (ℕ → ℕ → ℤ) → ℕ → ℕ → ℕ → Cell → List ℕ
 cell_line schema pvalues threshold v category cell =
-    row_text default_writer (slice_index_or (codes_of schema (name_of.Variable v)) category [] ∷ shown_text (shown pvalues threshold cell) ∷ [])
+    row_text default_writer
+    (slice_index_or (codes_of schema (name_of.Variable v)) category []
+    ∷ shown_text (shown pvalues threshold cell) ∷ [])
 
 -- what a writer has written, into the text under it or its buffer
 abbrev pub text_so_far : Writer (Vec ℕ Global) → List ℕ

@@ -16,8 +16,8 @@ use Rattle.tablebuilder.specs.Calls.{readings_more}
 use Rattle.tablebuilder.specs.Commands.{CommandValue}
 use Rattle.tablebuilder.specs.Promises.{reading_number}
 
--- what a step saw of the files: what stands under each name, the count of faults, and how many readings
--- there were, before and after
+-- what a step saw of the files: what stands under each name, the count of faults, and how many
+-- readings there were, before and after
 pub record Reading : Type 0 where
   pub content : Option (List ℕ → Option (List ℕ))
   pub content_after : Option (List ℕ → Option (List ℕ))
@@ -26,14 +26,17 @@ pub record Reading : Type 0 where
   pub readings : Option ℕ
   pub readings_after : Option ℕ
 
--- what a step gives, seen by `view`, is what is defined over the contents; so is an end, but for want of
--- memory, over the contents without the file that couldn't be read
-abbrev pub Gives : {A B : Type 0} → (A → B) → (Contents → Result B End) → Contents → Result A End → Type 0
+-- what a step gives, seen by `view`, is what is defined over the contents; so is an end other than
+-- Memory, over the contents without the file that couldn't be read
+abbrev pub Gives : {A B : Type 0} → (A → B) → (Contents → Result B End) → Contents → Result A End
+    → Type 0
 Gives view defined contents (Ok x) = defined contents ≡ Ok (view x)
 Gives view defined contents (Err e) = e ≢ end.Memory → defined (contents_for e contents) ≡ Err e
 
--- a step over the files of a command from a place on, before and after which there were so many readings
-pub record Loads {A B : Type 0} (saw : Reading) (command : CommandValue) (place before after : ℕ) (view : A → B) (defined : Contents → Result B End) (result : Result A End) : Type 0 where
+-- a step over the files of a command from a place on, before and after which there were so many
+-- readings
+pub record Loads {A B : Type 0} (saw : Reading) (command : CommandValue) (place before after : ℕ)
+    (view : A → B) (defined : Contents → Result B End) (result : Result A End) : Type 0 where
   pub usage : result ≢ Err end.Usage
   pub count : saw.faults ≤ saw.faults_after
   pub same : saw.content_after ≡ saw.content

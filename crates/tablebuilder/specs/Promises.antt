@@ -43,18 +43,19 @@ IsCaused call (end.Refused file name at) = Unit {0}
 IsCaused call (end.BadLine at) = Unit {0}
 IsCaused call end.Memory = Unit {0}
 
--- the run ends so before the script's first line: by the arguments, by what the files hold, or at a file
--- that couldn't be read, where each earlier file is there, not too long and accepted
+-- the run ends so before the script's first line: by the arguments, by what the files hold, or at a
+-- file that couldn't be read, where each earlier file is there, not too long and accepted
 abbrev pub EndsBy : Call → (List ℕ → Option (List ℕ)) → End → Type 0
 EndsBy call at e =
-    (asked_by (λ command. contents_for e (contents_at at command)) call.words ≡ Err e) × IsCaused call e
+    (asked_by (λ command. contents_for e (contents_at at command)) call.words ≡ Err e)
+    × IsCaused call e
 
 -- a text is the last line of a run that ends so with this status, and nothing else
 abbrev pub IsLastLine : Call → (List ℕ → Option (List ℕ)) → Status → List ℕ → Type 0
 IsLastLine call at s text = (e : End) × EndsBy call at e × (status_of e ≡ s) × (text ≡ last_line e)
 
--- a text is what a run with this status writes where no write fails: with Done an output of the script,
--- with another status its last line
+-- a text is what a run with this status writes where no write fails: with Done an output of the
+-- script, with another status its last line
 abbrev pub IsWhole : Call → (List ℕ → Option (List ℕ)) → Status → List ℕ → Type 0
 IsWhole call at status.Done text =
     (asked : AskedValue) × (asked_of at call.words ≡ Ok asked) × IsOutput asked text
@@ -75,12 +76,16 @@ IsTextOf call at s text =
     ⊎ ((s ≡ status.WriteFault)
     × ((cause : Status) × (rest : List ℕ) × IsWhole call at cause (text ++ rest)))
 
+-- the sink took the text of that status, and nothing else
+abbrev pub Tells : Call → (List ℕ → Option (List ℕ)) → Status → Type 0
+Tells call at s = (bytes : List ℕ) × IsTextOf call at s bytes × HasTaken call bytes
+
 -- the status where no read or write fails and memory suffices
 abbrev pub defined_status : Result AskedValue End → Status
 defined_status (Ok asked) = status.Done
 defined_status (Err e) = status_of e
 
--- no other status comes but for want of memory, or where a count of faults rose
+-- no other status comes but Memory, or where a count of faults rose
 abbrev pub IsDefined : Call → (List ℕ → Option (List ℕ)) → Status → Type 0
 IsDefined call at s =
     (s ≡ defined_status (asked_of at call.words))
@@ -90,9 +95,10 @@ IsDefined call at s =
 -- what a call keeps, whatever its status
 pub record Keeps (call : Call) (s : Status) : Type 0 where
   -- What the sink took is the text of that status.
-  pub text : IfSome call.content (λ at. (bytes : List ℕ) × IsTextOf call at s bytes × HasTaken call bytes)
+  pub text : IfSome call.content (λ at. Tells call at s)
   -- The arguments alone decide Usage, and its line tells it whatever the files are.
-  pub usage : s ≡ status.Usage → (command_of call.words ≡ None) × HasTaken call (last_line end.Usage)
+  pub usage : s ≡ status.Usage
+      → (command_of call.words ≡ None) × HasTaken call (last_line end.Usage)
   pub words : command_of call.words ≡ None → (s ≡ status.Usage) ⊎ (s ≡ status.WriteFault)
   -- A fault of the outside comes only where its count rose.
   pub read_fault : s ≡ status.ReadFault → ReadFailed call

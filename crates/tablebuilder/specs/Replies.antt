@@ -1,5 +1,6 @@
 -- The replies to a script's lines, counted over release 0.
 use Rattle.std.specs.Prelude.{◌≡◌, ◌⊎◌, ℕ, List, codes}
+use Rattle.tb_base.specs.declared.records.Record.{Record}
 use Rattle.tb_model.specs.Releases.{ReleaseValue, first_release}
 use Rattle.tb_model.specs.Setups.{SetupValue}
 use Rattle.tb_model.specs.Texts.{table_text}
@@ -17,7 +18,12 @@ abbrev pub IsReply : SetupValue → ReleaseValue → Unit {0} → ℕ → List �
 IsReply setup release before v text after =
     (text ≡ table_text setup release (query_of v)) ⊎ (text ≡ memory_line)
 
+-- a text is a reply to a line over a setup and microdata
+abbrev pub IsReplyOver : SetupValue → List Record → ℕ → List ℕ → Type 0
+IsReplyOver setup records v text = IsReply setup (first_release setup records) tt v text tt
+
 -- a text is an output of what is asked for
 abbrev pub IsOutput : AskedValue → List ℕ → Type 0
 IsOutput asked text =
-    IsScriptOutput (IsReply asked.setup (first_release asked.setup asked.records)) tt asked.script text
+    IsScriptOutput (IsReply asked.setup (first_release asked.setup asked.records)) tt asked.script
+    text

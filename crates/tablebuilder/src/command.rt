@@ -9,8 +9,8 @@ use tb_base::read_number;
 /// The greatest threshold.
 pub const MOST_THRESHOLD: u32 = 1_000_000;
 
-/// What a run over a script is asked for: the names of its files, and the threshold. There may be no
-/// recodes.
+/// What a run over a script is asked for: the names of its files, and the threshold. There may be
+/// no recodes.
 #[derive(Drop)]
 pub struct Command<'a> {
     pub classes: &'a str,
@@ -27,7 +27,14 @@ impl<'a> Model for Command<'a> {
 
     ghost Value = { CommandValue };
 
-    ghost view = { λ c. record { classes = c.classes.now; recodes = option_map (λ name. name.now) c.recodes; ptable = c.ptable.now; people = c.people.now; threshold = c.threshold; script = c.script.now } };
+    ghost view = { λ c. record {
+      classes = c.classes.now;
+      recodes = option_map (λ name. name.now) c.recodes;
+      ptable = c.ptable.now;
+      people = c.people.now;
+      threshold = c.threshold;
+      script = c.script.now;
+    } };
 }
 
 // Whether an argument may be a file's name.
@@ -65,8 +72,8 @@ fn read_threshold(word: &str) -> Option<u32>
     }
 }
 
-/// What the arguments `script CLASSES RECODES PTABLE PEOPLE THRESHOLD SCRIPT` ask for, RECODES being
-/// a file's name or `-`. None at all other arguments.
+/// What the arguments `script CLASSES RECODES PTABLE PEOPLE THRESHOLD SCRIPT` ask for, RECODES
+/// being a file's name or `-`. None at all other arguments.
 pub fn read_command(words: &[String]) -> Option<Command<'_>>
     ensures { result ≡ command_of (map string_bytes words.now) }
 {

@@ -12,8 +12,8 @@ use std::alloc::Global;
 use tb_base::{Cell, Memory, Record};
 use tb_schema::{NameOf, Schema};
 
-/// The cells of the table of one variable: one for each of its categories, in order. It takes memory
-/// for them alone.
+/// The cells of the table of one variable: one for each of its categories, in order. It takes
+/// memory for them alone.
 pub fn count_by(
     alloc: Global,
     schema: &Schema,
@@ -23,8 +23,10 @@ pub fn count_by(
     requires there { variable < length schema.now.variables }
     requires fit { AllFit (shape_of schema.now) records.now }
     requires few { length records.now ≤ MOST_PERSONS }
-    ensures cells { IfOk result (λ cells. cells.items ≡ cells_of schema.now (query_of variable) records.now) }
-    ensures long { IfOk result (λ cells. length cells.items ≡ category_count schema.now (name_of.Variable variable)) }
+    ensures cells { IfOk result
+        (λ cells. cells.items ≡ cells_of schema.now (query_of variable) records.now) }
+    ensures long { IfOk result
+        (λ cells. length cells.items ≡ category_count schema.now (name_of.Variable variable)) }
     ensures few { IfOk result (λ cells. All (λ cell. cell.count ≤ MOST_PERSONS) cells.items) }
 {
     let categories = schema.categories(NameOf::Variable(variable));

@@ -122,8 +122,10 @@ impl End {
     pub fn write_last_line<O: Sink>(&self, out: &mut O) -> Wrote
         ensures count { O.faults out.old ≤ O.faults out.new }
         ensures failed { result ≡ wrote.Failed → HasRisen (O.faults out.old) (O.faults out.new) }
-        ensures all { result ≡ wrote.All → Took (O.taken out.old) (O.taken out.new) (last_line self.now) }
-        ensures part { result ≡ wrote.Failed → TookPart (O.taken out.old) (O.taken out.new) (last_line self.now) }
+        ensures all { result ≡ wrote.All
+            → Took (O.taken out.old) (O.taken out.new) (last_line self.now) }
+        ensures part { result ≡ wrote.Failed
+            → TookPart (O.taken out.old) (O.taken out.new) (last_line self.now) }
     {
         match self {
             End::Usage => out.write(b"fault usage\n"),
@@ -175,8 +177,10 @@ impl Input {
 fn write_refusal<O: Sink>(out: &mut O, file: Input, name: &FaultName, at: u32) -> Wrote
     ensures count { O.faults out.old ≤ O.faults out.new }
     ensures failed { result ≡ wrote.Failed → HasRisen (O.faults out.old) (O.faults out.new) }
-    ensures all { result ≡ wrote.All → Took (O.taken out.old) (O.taken out.new) (refusal_line file name.now at) }
-    ensures part { result ≡ wrote.Failed → TookPart (O.taken out.old) (O.taken out.new) (refusal_line file name.now at) }
+    ensures all { result ≡ wrote.All
+        → Took (O.taken out.old) (O.taken out.new) (refusal_line file name.now at) }
+    ensures part { result ≡ wrote.Failed
+        → TookPart (O.taken out.old) (O.taken out.new) (refusal_line file name.now at) }
 {
     let mut first = [0; 10];
     let mut second = [0; 10];
@@ -202,8 +206,10 @@ fn write_refusal<O: Sink>(out: &mut O, file: Input, name: &FaultName, at: u32) -
 fn write_all<O: Sink>(out: &mut O, pieces: &[&[u8]]) -> Wrote
     ensures count { O.faults out.old ≤ O.faults out.new }
     ensures failed { result ≡ wrote.Failed → HasRisen (O.faults out.old) (O.faults out.new) }
-    ensures all { result ≡ wrote.All → Took (O.taken out.old) (O.taken out.new) (concat (map (λ p. p.now) pieces.now)) }
-    ensures part { result ≡ wrote.Failed → TookPart (O.taken out.old) (O.taken out.new) (concat (map (λ p. p.now) pieces.now)) }
+    ensures all { result ≡ wrote.All
+        → Took (O.taken out.old) (O.taken out.new) (concat (map (λ p. p.now) pieces.now)) }
+    ensures part { result ≡ wrote.Failed
+        → TookPart (O.taken out.old) (O.taken out.new) (concat (map (λ p. p.now) pieces.now)) }
 {
     for piece in pieces {
         match out.write(piece) {

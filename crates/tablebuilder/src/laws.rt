@@ -12,8 +12,8 @@ use std::alloc::Global;
 use tb_base::Status;
 use tb_io::{MemFiles, MemSink, SureFiles, SureSink};
 
-/// Runs one command over files and a sink whose counts of faults are the constant 0: no fault of the
-/// outside can come, and the status is the one that the arguments and the files define, or Memory.
+/// Runs one command over files and a sink whose counts of faults are the constant 0: no fault of
+/// the outside can come, and the status is the one that the arguments and the files define, or Memory.
 pub fn run_surely(
     alloc: Global,
     words: &[String],
@@ -39,12 +39,16 @@ pub fn run_in_memory(
     out: &mut MemSink,
 ) -> Status
     // The bytes are the text of the status.
-    ensures bytes { let call = memory_call (map string_bytes words.now) files.old files.new out.old out.new in
+    ensures bytes {
+        let arguments = map string_bytes words.now in
+        let call = memory_call arguments files.old files.new out.old out.new in
         Adds call files.old out.old out.new result }
     // A read fault's line names the file of the reading that failed, which was the last.
     ensures read { result ≡ status.ReadFault
         → NamesTheFailingRead (map string_bytes words.now) files.old files.new out.old out.new }
-    ensures defined { let call = memory_call (map string_bytes words.now) files.old files.new out.old out.new in
+    ensures defined {
+        let arguments = map string_bytes words.now in
+        let call = memory_call arguments files.old files.new out.old out.new in
         IsDefined call (bytes_of files.old.held) result }
 {
     tablebuilder(alloc, words, files, out)

@@ -195,7 +195,8 @@ fn load_script<F: Files>(
     command: &Command<'_>,
     schema: &Schema,
 ) -> Result<Vec<u16>, End>
-    ensures there { IfOk result (λ script. All (λ v. v < length schema.now.variables) script.items) }
+    ensures there { IfOk result
+        (λ script. All (λ v. v < length schema.now.variables) script.items) }
     ensures loads { Loads
         (record {
           content = F.content files.old;

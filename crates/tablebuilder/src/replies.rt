@@ -7,7 +7,7 @@ ghost use Rattle.tb_io.specs.declared.answers.Wrote.TheVariants as wrote;
 ghost use Rattle.tb_model.specs.Releases.{first_release};
 ghost use Rattle.tb_model.specs.Texts.{table_text as text_of_table};
 ghost use Rattle.tablebuilder.specs.Loading.{AreCountable, asked_value, setup_value};
-ghost use Rattle.tablebuilder.specs.Replies.{IsOutput, IsReply};
+ghost use Rattle.tablebuilder.specs.Replies.{IsOutput, IsReplyOver};
 ghost use Rattle.tablebuilder.specs.Scripts.{query_of};
 
 use crate::count::count_by;
@@ -27,8 +27,8 @@ fn print_table(
 ) -> Result<Vec<u8>, Memory>
     requires there { variable < length setup.now.schema.variables }
     requires countable { AreCountable setup.now.schema people.now }
-    ensures { IfOk result (λ text. text.items
-        ≡ text_of_table (setup_value setup.now) (first_release (setup_value setup.now) people.now) (query_of variable)) }
+    ensures { let s = setup_value setup.now in IfOk result (λ text.
+        text.items ≡ text_of_table s (first_release s people.now) (query_of variable)) }
 {
     let cells = count_by(alloc, &setup.schema, variable, people.all())?;
     table_text(alloc, setup, variable, 0, &cells)
@@ -47,10 +47,10 @@ fn reply<O: Sink>(
     ensures count { O.faults out.old ≤ O.faults out.new }
     ensures failed { result ≡ wrote.Failed → HasRisen (O.faults out.old) (O.faults out.new) }
     ensures all { result ≡ wrote.All → (text : List ℕ)
-        × IsReply (setup_value setup.now) (first_release (setup_value setup.now) people.now) tt variable text tt
+        × IsReplyOver (setup_value setup.now) people.now variable text
         × Took (O.taken out.old) (O.taken out.new) text }
     ensures part { result ≡ wrote.Failed → (text : List ℕ)
-        × IsReply (setup_value setup.now) (first_release (setup_value setup.now) people.now) tt variable text tt
+        × IsReplyOver (setup_value setup.now) people.now variable text
         × TookPart (O.taken out.old) (O.taken out.new) text }
 {
     match print_table(alloc, setup, people, variable) {
@@ -59,8 +59,8 @@ fn reply<O: Sink>(
     }
 }
 
-/// Writes the reply to each line of the script, one after another: its table counted over release 0,
-/// or that the memory for it was refused. It takes memory for one table at a time.
+/// Writes the reply to each line of the script, one after another: its table counted over release
+/// 0, or that the memory for it was refused. It takes memory for one table at a time.
 pub fn run_script<O: Sink>(alloc: Global, asked: &Asked, out: &mut O) -> Wrote
     requires there { All (λ v. v < length asked.now.setup.schema.variables) asked.now.script.items }
     requires countable { AreCountable asked.now.setup.schema asked.now.people }

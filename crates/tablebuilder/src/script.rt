@@ -22,8 +22,8 @@ fn read_line(schema: &Schema, line: &[u8]) -> Option<u16>
     }
 }
 
-/// The variables that a script asks for, line by line, or the end by its first line that asks for no
-/// table. It takes memory for the list.
+/// The variables that a script asks for, line by line, or the end by its first line that asks for
+/// no table. It takes memory for the list.
 pub fn read_script(alloc: Global, schema: &Schema, file: &[u8]) -> Result<Vec<u16>, End>
     requires { length file.now < 2 ^ 32 }
     ensures ok { IfOk result (λ script. script_of schema.now file.now ≡ Ok script.items) }

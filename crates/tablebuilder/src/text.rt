@@ -65,7 +65,8 @@ fn first_lines(
     requires { variable < length setup.now.schema.variables }
     ensures between { IfOk result (λ rows. IsBetween rows) }
     ensures text { IfOk result (λ rows. text_so_far rows
-        ≡ line_text (codes "release " ++ decimal number) ++ heading setup.now.schema (query_of variable)) }
+        ≡ line_text (codes "release " ++ decimal number)
+          ++ heading setup.now.schema (query_of variable)) }
 {
     let mut rows = WriterBuilder::new().from_writer(release_line(alloc, number)?);
     let name = setup.schema.name(NameOf::Variable(variable));
@@ -87,7 +88,8 @@ fn write_cell(
     requires few { cell.count ≤ MOST_PERSONS }
     ensures between { OnOk result (IsBetween rows.new) }
     ensures text { OnOk result (text_so_far rows.new ≡ text_so_far rows.old
-        ++ cell_line setup.now.schema (pvalue_at setup.now.ptable) setup.now.threshold variable category cell) }
+        ++ cell_line setup.now.schema (pvalue_at setup.now.ptable) setup.now.threshold variable
+           category cell) }
 {
     let code = setup.schema.code_at(NameOf::Variable(variable), category);
     let shown = setup.ptable.shown(setup.threshold, cell);
@@ -119,8 +121,8 @@ pub fn table_text(
     requires long { length cells.now ≡ category_count setup.now.schema (name_of.Variable variable) }
     requires few { All (λ cell. cell.count ≤ MOST_PERSONS) cells.now }
     ensures { IfOk result (λ text. text.items
-        ≡ text_of_cells setup.now.schema (pvalue_at setup.now.ptable) setup.now.threshold (query_of variable)
-        number cells.now) }
+        ≡ text_of_cells setup.now.schema (pvalue_at setup.now.ptable) setup.now.threshold
+          (query_of variable) number cells.now) }
 {
     let mut rows = first_lines(alloc, setup, variable, number)?;
     for category in 0..setup.schema.categories(NameOf::Variable(variable)) {

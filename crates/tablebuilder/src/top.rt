@@ -18,7 +18,8 @@ use tb_io::{Files, Sink, Wrote};
 /// Writes the last line of a run that ends before the first line of its script, and returns how the
 /// run ended.
 pub fn end_by<O: Sink>(end: &End, out: &mut O) -> Status
-    ensures { ((result ≡ status_of end.now) × Took (O.taken out.old) (O.taken out.new) (last_line end.now))
+    ensures { ((result ≡ status_of end.now)
+          × Took (O.taken out.old) (O.taken out.new) (last_line end.now))
         ⊎ ((result ≡ status.WriteFault)
         × HasRisen (O.faults out.old) (O.faults out.new)
         × TookPart (O.taken out.old) (O.taken out.new) (last_line end.now)) }
