@@ -1,16 +1,20 @@
-.PHONY: test build demo bench bench-tools
+.PHONY: test try build demo bench bench-tools
 
 # The whole gate: every proof, the wrong bodies that must be refused, the tests and the program.
 test:
 	.ci/run
 
+# A first look: the first table within a minute, by a run that checks as it goes and proves nothing.
+try:
+	cd crates/tablebuilder && rt try -- script data/classes.csv data/recodes.csv data/ptable.csv data/people.csv 0 data/script.txt
+
 # Proves what the program stands on and builds it, as crates/tablebuilder/out/tablebuilder.
 build:
-	cd crates/tablebuilder && rt run -- script data/classes.csv - data/ptable.csv data/people.csv 0 data/script.txt >/dev/null
+	cd crates/tablebuilder && rt run -- script data/classes.csv data/recodes.csv data/ptable.csv data/people.csv 0 data/script.txt >/dev/null
 
 # The first table, from the files of examples/small.
 demo: build
-	cd examples/small && ../../crates/tablebuilder/out/tablebuilder script classes.csv - ptable.csv people.csv 0 script.txt
+	cd examples/small && ../../crates/tablebuilder/out/tablebuilder script classes.csv recodes.csv ptable.csv people.csv 0 script.txt
 
 # The program beside a plain one over generated persons: medians, spreads, peak memory and ratios.
 bench: bench-tools build

@@ -26,6 +26,18 @@ pub record Reading : Type 0 where
   pub readings : Option ℕ
   pub readings_after : Option ℕ
 
+-- the same of files by their ghost members, before and after a step
+abbrev pub reading : {F : Type 0} → (F → Option (List ℕ → Option (List ℕ))) → (F → ℕ)
+    → (F → Option ℕ) → F → F → Reading
+reading content faults readings files files' = record {
+  content = content files;
+  content_after = content files';
+  faults = faults files;
+  faults_after = faults files';
+  readings = readings files;
+  readings_after = readings files';
+}
+
 -- what a step gives, seen by `view`, is what is defined over the contents; so is an end other than
 -- Memory, over the contents without the file that couldn't be read
 abbrev pub Gives : {A B : Type 0} → (A → B) → (Contents → Result B End) → Contents → Result A End

@@ -39,15 +39,13 @@ pub fn run_in_memory(
     out: &mut MemSink,
 ) -> Status
     // The bytes are the text of the status.
-    ensures bytes {
-        let arguments = map string_bytes words.now in
+    ensures bytes { let arguments = map string_bytes words.now in
         let call = memory_call arguments files.old files.new out.old out.new in
         Adds call files.old out.old out.new result }
     // A read fault's line names the file of the reading that failed, which was the last.
     ensures read { result ≡ status.ReadFault
         → NamesTheFailingRead (map string_bytes words.now) files.old files.new out.old out.new }
-    ensures defined {
-        let arguments = map string_bytes words.now in
+    ensures defined { let arguments = map string_bytes words.now in
         let call = memory_call arguments files.old files.new out.old out.new in
         IsDefined call (bytes_of files.old.held) result }
 {

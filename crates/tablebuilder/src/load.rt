@@ -3,7 +3,7 @@
 ghost use Rattle.std.specs.Prelude.{◌≡◌, ◌≤◌, ◌<◌, ℕ, suc, List, Option, length, All, IfOk, option_map};
 ghost use Rattle.tablebuilder.specs.declared.endings.Input.TheVariants as input;
 ghost use Rattle.tablebuilder.specs.Asking.{asked_over, bytes_in, contents_at, input_place, most_bytes, people_in, perturbation_in, recodes_in, schema_in, script_in};
-ghost use Rattle.tablebuilder.specs.Loading.{AreCountable, Loads, asked_value};
+ghost use Rattle.tablebuilder.specs.Loading.{AreCountable, Loads, asked_value, reading};
 ghost use Rattle.tablebuilder.specs.Promises.{class_readings, readings_before};
 
 use crate::command::Command;
@@ -52,14 +52,7 @@ fn read_bytes<F: Files>(
     requires { (at : List ℕ → Option (List ℕ)) → contents_at at command.now file ≡ at name.now }
     ensures within { IfOk result (λ bytes. length bytes.items ≤ most_bytes file) }
     ensures loads { Loads
-        (record {
-          content = F.content files.old;
-          content_after = F.content files.new;
-          faults = F.faults files.old;
-          faults_after = F.faults files.new;
-          readings = F.readings files.old;
-          readings_after = F.readings files.new;
-        })
+        (reading F.content F.faults F.readings files.old files.new)
         command.now
         (input_place file)
         (readings_before command.now file)
@@ -82,14 +75,7 @@ fn read_recodes<F: Files>(
     command: &Command<'_>,
 ) -> Result<Option<Vec<u8>>, End>
     ensures loads { Loads
-        (record {
-          content = F.content files.old;
-          content_after = F.content files.new;
-          faults = F.faults files.old;
-          faults_after = F.faults files.new;
-          readings = F.readings files.old;
-          readings_after = F.readings files.new;
-        })
+        (reading F.content F.faults F.readings files.old files.new)
         command.now
         1
         1
@@ -115,14 +101,7 @@ fn bytes_of(file: &Option<Vec<u8>>) -> Option<&[u8]>
 // The classification and the recodes, both read before either is checked.
 fn load_schema<F: Files>(alloc: Global, files: &mut F, command: &Command<'_>) -> Result<Schema, End>
     ensures loads { Loads
-        (record {
-          content = F.content files.old;
-          content_after = F.content files.new;
-          faults = F.faults files.old;
-          faults_after = F.faults files.new;
-          readings = F.readings files.old;
-          readings_after = F.readings files.new;
-        })
+        (reading F.content F.faults F.readings files.old files.new)
         command.now
         0
         0
@@ -137,14 +116,7 @@ fn load_schema<F: Files>(alloc: Global, files: &mut F, command: &Command<'_>) ->
 
 fn load_ptable<F: Files>(alloc: Global, files: &mut F, command: &Command<'_>) -> Result<PTable, End>
     ensures loads { Loads
-        (record {
-          content = F.content files.old;
-          content_after = F.content files.new;
-          faults = F.faults files.old;
-          faults_after = F.faults files.new;
-          readings = F.readings files.old;
-          readings_after = F.readings files.new;
-        })
+        (reading F.content F.faults F.readings files.old files.new)
         command.now
         2
         (class_readings command.now)
@@ -167,14 +139,7 @@ fn load_people<F: Files>(
 ) -> Result<People, End>
     ensures countable { IfOk result (λ people. AreCountable schema.now people) }
     ensures loads { Loads
-        (record {
-          content = F.content files.old;
-          content_after = F.content files.new;
-          faults = F.faults files.old;
-          faults_after = F.faults files.new;
-          readings = F.readings files.old;
-          readings_after = F.readings files.new;
-        })
+        (reading F.content F.faults F.readings files.old files.new)
         command.now
         3
         (suc (class_readings command.now))
@@ -198,14 +163,7 @@ fn load_script<F: Files>(
     ensures there { IfOk result
         (λ script. All (λ v. v < length schema.now.variables) script.items) }
     ensures loads { Loads
-        (record {
-          content = F.content files.old;
-          content_after = F.content files.new;
-          faults = F.faults files.old;
-          faults_after = F.faults files.new;
-          readings = F.readings files.old;
-          readings_after = F.readings files.new;
-        })
+        (reading F.content F.faults F.readings files.old files.new)
         command.now
         4
         (suc (suc (class_readings command.now)))
@@ -225,14 +183,7 @@ pub fn load<F: Files>(alloc: Global, files: &mut F, command: &Command<'_>) -> Re
     ensures there { IfOk result
         (λ asked. All (λ v. v < length asked.setup.schema.variables) asked.script.items) }
     ensures loads { Loads
-        (record {
-          content = F.content files.old;
-          content_after = F.content files.new;
-          faults = F.faults files.old;
-          faults_after = F.faults files.new;
-          readings = F.readings files.old;
-          readings_after = F.readings files.new;
-        })
+        (reading F.content F.faults F.readings files.old files.new)
         command.now
         0
         0

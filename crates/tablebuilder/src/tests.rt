@@ -89,90 +89,85 @@ pub fn is_so(
     Ok(status.number() == number && out.taken() == part)
 }
 
-// What a run shows, the command, a file with other bytes than the small setup's, and the text.
-const ROWS: [(&str, &str, &str, &[u8], &[u8]); 24] = [
+// What a run shows, the threshold, a file with other bytes than the small setup's, and the text: the
+// same with no recodes and with those of the small setup.
+const ROWS: [(&str, &str, &str, &[u8], &[u8]); 21] = [
+    ("one_variable", "0", "script", b"a table SEX\n", SEX),
+    ("one_variable", "0", "script", b"a table SEX", SEX),
     (
         "one_variable",
-        WITHOUT_RECODES,
-        "script",
-        b"a table SEX\n",
-        SEX,
-    ),
-    ("one_variable", WITH_RECODES, "script", b"a table SEX", SEX),
-    (
-        "one_variable",
-        WITH_RECODES,
+        "0",
         "script",
         b"a table AREA\r\na table AGE\r\n",
         b"release 0\nAREA,count\nE1,2\nE2,1\n.\nrelease 0\nAGE,count\n0-15,1\n16-64,2\n65+,1\n.\n",
     ),
-    ("one_variable", WITHOUT_RECODES, "script", b"", b""),
+    ("one_variable", "0", "script", b"", b""),
     (
         "threshold_on_shown_count",
-        "script classes - ptable people 2 script",
+        "2",
         "script",
         b"a table SEX\n",
         b"release 0\nSEX,count\n1,c\n2,2\n.\n",
     ),
     (
         "no_records",
-        WITHOUT_RECODES,
+        "0",
         "people",
         b"person,record_key,SEX,AGE,AREA\n",
         b"release 0\nSEX,count\n1,0\n2,0\n.\n",
     ),
     (
         "no_records",
-        "script classes recodes ptable people 10 script",
+        "10",
         "people",
         b"person,record_key,SEX,AGE,AREA\n",
         b"release 0\nSEX,count\n1,c\n2,c\n.\n",
     ),
     (
         "perturbation_file_faults",
-        WITHOUT_RECODES,
+        "0",
         "ptable",
-        b"pcv,ckey,pvalue\n1,7,1\n4,71,2\n",
+        b"pcv,ckey,pvalue\n1,7,1\n4,71,2\n3,127,3\n2,27,-1\n",
         b"release 0\nSEX,count\n1,3\n2,2\n.\n",
     ),
     (
         "perturbation_file_faults",
-        WITHOUT_RECODES,
+        "0",
         "ptable",
         b"pcv,ckey,pvalue\n1,7,1\n1,7,1\n",
         b"fault ptable 5 PairTwice 2\n",
     ),
     (
         "perturbation_file_faults",
-        WITHOUT_RECODES,
+        "0",
         "ptable",
         b"pcv,ckey,pvalue\n3,10,-4\n",
         b"fault ptable 4 Negative 1\n",
     ),
     (
         "perturbation_file_faults",
-        WITHOUT_RECODES,
+        "0",
         "ptable",
         b"pcv,ckey,pvalue\n0,0,1\n",
         b"fault ptable 6 ZeroRow 1\n",
     ),
     (
         "perturbation_file_faults",
-        WITHOUT_RECODES,
+        "0",
         "ptable",
         b"pcv,ckey,pvalue\n751,0,0\n",
         b"fault ptable 3 OutOfRange 1\n",
     ),
     (
         "any_accepted_spelling",
-        WITHOUT_RECODES,
+        "0",
         "ptable",
         b"note,pvalue,ckey,pcv\nx,-2,64,3\nx,1,7,1\n",
         SEX,
     ),
     (
         "any_accepted_spelling",
-        WITH_RECODES,
+        "0",
         "people",
         b"\xEF\xBB\xBFSEX,person,AREA,record_key,AGE,NOTE\r\n\"1\",101,\"E1\",200,\"0-15\",x\r\n\
         1,102,E1,100,16-64,x\r\n1,103,E2,20,65+,x\r\n2,104,E2,7,16-64,x\r\n",
@@ -180,82 +175,118 @@ const ROWS: [(&str, &str, &str, &[u8], &[u8]); 24] = [
     ),
     (
         "command_faults",
-        "script classes - ptable nobody 0 script",
+        "-1",
         "script",
         b"a table SEX\n",
-        b"fault read people\n",
+        b"fault usage\n",
     ),
     (
         "command_faults",
-        WITHOUT_RECODES,
+        "0",
         "people",
         b"person,record_key,SEX,AGE,AREA\n101,200,1,0-15,E1\n102,256,1,16-64,E1\n",
         b"fault people 3 BadKey 2\n",
     ),
     (
         "command_faults",
-        WITH_RECODES,
-        "recodes",
-        b"recode,variable,code,group\nAGE2,AGE,0-15,young\nAGE2,AGE,16-64,old\n",
-        b"fault recodes 8 CodeMissing 1\n",
-    ),
-    (
-        "command_faults",
-        WITHOUT_RECODES,
-        "recodes",
-        b"recode,variable,code,group\nAGE2,AGE,0-15,young\nAGE2,AGE,16-64,old\n",
-        SEX,
-    ),
-    (
-        "command_faults",
-        WITH_RECODES,
+        "0",
         "script",
         b"a table SEX\na table AREA\n!x\n",
         b"fault script 3\n",
     ),
     (
         "command_faults",
-        WITHOUT_RECODES,
+        "0",
         "script",
         b"a table SEX\n\n",
         b"fault script 2\n",
     ),
     (
         "command_faults",
-        WITHOUT_RECODES,
+        "0",
         "script",
         b"a table  SEX\n",
         b"fault script 1\n",
     ),
     (
         "a_recode_has_no_table_yet",
-        WITH_RECODES,
+        "0",
         "script",
         b"a table AGE2\n",
         b"fault script 1\n",
     ),
     (
         "command_faults",
-        WITH_RECODES,
+        "0",
         "classes",
         b"variable,code,label\nSEX,1,Male\nSEX,1,Female\n",
         b"fault classes 4 RepeatedCode 2\n",
-    ),
-    (
-        "classification_before_recodes",
-        WITH_RECODES,
-        "classes",
-        b"variable,code,label\nSEX,1,Male\n",
-        b"fault recodes 5 UnknownVariable 1\n",
     ),
 ];
 
 #[test]
 fn worked_rows(rt: HostRuntime) -> Result<(), Fail> {
-    for (name, command, file, bytes, want) in ROWS {
+    for (name, threshold, file, bytes, want) in ROWS {
+        for recodes in ["-", "recodes"] {
+            let command = format!(in rt.alloc();
+                "script classes {recodes} ptable people {threshold} script"
+            )?;
+            assert!(rt;
+                is_so(
+                    rt.alloc(),
+                    command.as_str(),
+                    &[(file, bytes)],
+                    &[],
+                    200,
+                    want
+                )?,
+                "{name} {recodes}"
+            );
+        }
+    }
+    Ok(())
+}
+
+// The command, a file with other bytes, and the text: where the recodes or a name decide.
+const WITH_OR_WITHOUT: [(&str, &str, &[u8], &[u8]); 5] = [
+    (
+        WITH_RECODES,
+        "recodes",
+        b"recode,variable,code,group\nAGE2,AGE,0-15,young\nAGE2,AGE,16-64,old\n",
+        b"fault recodes 8 CodeMissing 1\n",
+    ),
+    (
+        WITHOUT_RECODES,
+        "recodes",
+        b"recode,variable,code,group\nAGE2,AGE,0-15,young\nAGE2,AGE,16-64,old\n",
+        SEX,
+    ),
+    (
+        WITH_RECODES,
+        "classes",
+        b"variable,code,label\nSEX,1,Male\n",
+        b"fault recodes 5 UnknownVariable 1\n",
+    ),
+    (
+        "script classes - ptable nobody 0 script",
+        "script",
+        b"a table SEX\n",
+        b"fault read people\n",
+    ),
+    (
+        "script classes nobody ptable people 0 script",
+        "classes",
+        b"",
+        b"fault read recodes\n",
+    ),
+];
+
+#[test]
+fn recodes_or_none(rt: HostRuntime) -> Result<(), Fail> {
+    for (command, file, bytes, want) in WITH_OR_WITHOUT {
         assert!(rt;
             is_so(rt.alloc(), command, &[(file, bytes)], &[], 200, want)?,
-            "{name}"
+            "{command}"
         );
     }
     Ok(())
@@ -475,6 +506,7 @@ fn rows_above_750(rt: HostRuntime) -> Result<(), Fail> {
         }
         let others = [("ptable", ptable.as_slice()), ("people", people.as_bytes())];
         assert!(rt; is_so(rt.alloc(), WITHOUT_RECODES, &others, &[], 200, want)?);
+        assert!(rt; is_so(rt.alloc(), WITH_RECODES, &others, &[], 200, want)?);
     }
     Ok(())
 }

@@ -66,7 +66,7 @@ fn first_lines(
     ensures between { IfOk result (λ rows. IsBetween rows) }
     ensures text { IfOk result (λ rows. text_so_far rows
         ≡ line_text (codes "release " ++ decimal number)
-          ++ heading setup.now.schema (query_of variable)) }
+        ++ heading setup.now.schema (query_of variable)) }
 {
     let mut rows = WriterBuilder::new().from_writer(release_line(alloc, number)?);
     let name = setup.schema.name(NameOf::Variable(variable));
@@ -89,7 +89,7 @@ fn write_cell(
     ensures between { OnOk result (IsBetween rows.new) }
     ensures text { OnOk result (text_so_far rows.new ≡ text_so_far rows.old
         ++ cell_line setup.now.schema (pvalue_at setup.now.ptable) setup.now.threshold variable
-           category cell) }
+        category cell) }
 {
     let code = setup.schema.code_at(NameOf::Variable(variable), category);
     let shown = setup.ptable.shown(setup.threshold, cell);
@@ -122,7 +122,7 @@ pub fn table_text(
     requires few { All (λ cell. cell.count ≤ MOST_PERSONS) cells.now }
     ensures { IfOk result (λ text. text.items
         ≡ text_of_cells setup.now.schema (pvalue_at setup.now.ptable) setup.now.threshold
-          (query_of variable) number cells.now) }
+        (query_of variable) number cells.now) }
 {
     let mut rows = first_lines(alloc, setup, variable, number)?;
     for category in 0..setup.schema.categories(NameOf::Variable(variable)) {

@@ -19,7 +19,7 @@ use tb_io::{Files, Sink, Wrote};
 /// run ended.
 pub fn end_by<O: Sink>(end: &End, out: &mut O) -> Status
     ensures { ((result ≡ status_of end.now)
-          × Took (O.taken out.old) (O.taken out.new) (last_line end.now))
+        × Took (O.taken out.old) (O.taken out.new) (last_line end.now))
         ⊎ ((result ≡ status.WriteFault)
         × HasRisen (O.faults out.old) (O.faults out.new)
         × TookPart (O.taken out.old) (O.taken out.new) (last_line end.now)) }
