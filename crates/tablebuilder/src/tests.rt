@@ -91,7 +91,15 @@ pub fn is_so(
 
 // What a run shows, the threshold, a file with other bytes than the small setup's, and the text: the
 // same with no recodes and with those of the small setup.
-const ROWS: [(&str, &str, &str, &[u8], &[u8]); 21] = [
+type Row = (
+    &'static str,
+    &'static str,
+    &'static str,
+    &'static [u8],
+    &'static [u8],
+);
+
+static ROWS: [Row; 21] = [
     ("one_variable", "0", "script", b"a table SEX\n", SEX),
     ("one_variable", "0", "script", b"a table SEX", SEX),
     (
@@ -224,9 +232,14 @@ const ROWS: [(&str, &str, &str, &[u8], &[u8]); 21] = [
     ),
 ];
 
+// A table behind a function: no proof reads what stands in it.
+fn rows() -> &'static [Row] {
+    &ROWS
+}
+
 #[test]
 fn worked_rows(rt: HostRuntime) -> Result<(), Fail> {
-    for (name, threshold, file, bytes, want) in ROWS {
+    for (name, threshold, file, bytes, want) in rows() {
         for recodes in ["-", "recodes"] {
             let command = format!(in rt.alloc();
                 "script classes {recodes} ptable people {threshold} script"
@@ -235,7 +248,7 @@ fn worked_rows(rt: HostRuntime) -> Result<(), Fail> {
                 is_so(
                     rt.alloc(),
                     command.as_str(),
-                    &[(file, bytes)],
+                    &[(*file, *bytes)],
                     &[],
                     200,
                     want
@@ -248,7 +261,9 @@ fn worked_rows(rt: HostRuntime) -> Result<(), Fail> {
 }
 
 // The command, a file with other bytes, and the text: where the recodes or a name decide.
-const WITH_OR_WITHOUT: [(&str, &str, &[u8], &[u8]); 5] = [
+type Choice = (&'static str, &'static str, &'static [u8], &'static [u8]);
+
+static WITH_OR_WITHOUT: [Choice; 5] = [
     (
         WITH_RECODES,
         "recodes",
@@ -281,11 +296,15 @@ const WITH_OR_WITHOUT: [(&str, &str, &[u8], &[u8]); 5] = [
     ),
 ];
 
+fn with_or_without() -> &'static [Choice] {
+    &WITH_OR_WITHOUT
+}
+
 #[test]
 fn recodes_or_none(rt: HostRuntime) -> Result<(), Fail> {
-    for (command, file, bytes, want) in WITH_OR_WITHOUT {
+    for (command, file, bytes, want) in with_or_without() {
         assert!(rt;
-            is_so(rt.alloc(), command, &[(file, bytes)], &[], 200, want)?,
+            is_so(rt.alloc(), command, &[(*file, *bytes)], &[], 200, want)?,
             "{command}"
         );
     }
@@ -294,7 +313,16 @@ fn recodes_or_none(rt: HostRuntime) -> Result<(), Fail> {
 
 // Two files with other bytes, the readings that fail, and the last line: CLASSES and RECODES are
 // both read before either is checked, and each other file is checked before the next is read.
-const ORDER: [(&str, &[u8], &str, &[u8], &[u32], &[u8]); 13] = [
+type Order = (
+    &'static str,
+    &'static [u8],
+    &'static str,
+    &'static [u8],
+    &'static [u32],
+    &'static [u8],
+);
+
+static ORDER: [Order; 13] = [
     (
         "classes",
         b"",
@@ -394,10 +422,14 @@ const ORDER: [(&str, &[u8], &str, &[u8], &[u32], &[u8]); 13] = [
     ),
 ];
 
+fn order() -> &'static [Order] {
+    &ORDER
+}
+
 #[test]
 fn order_of_the_files(rt: HostRuntime) -> Result<(), Fail> {
-    for (one, first, two, second, fails, want) in ORDER {
-        let others = [(one, first), (two, second)];
+    for (one, first, two, second, fails, want) in order() {
+        let others = [(*one, *first), (*two, *second)];
         assert!(rt; is_so(rt.alloc(), WITH_RECODES, &others, fails, 200, want)?);
     }
     // Without recodes the files after them are read one earlier.
@@ -407,7 +439,7 @@ fn order_of_the_files(rt: HostRuntime) -> Result<(), Fail> {
 }
 
 // Arguments, and whether they are the command's; only the threshold 1,000,000 hides the counts.
-const ARGUMENTS: [(&str, bool); 21] = [
+static ARGUMENTS: [(&str, bool); 21] = [
     ("", false),
     ("script", false),
     ("gen 1 1", false),
@@ -431,10 +463,14 @@ const ARGUMENTS: [(&str, bool); 21] = [
     ("script classes recodes ptable people 1 script", true),
 ];
 
+fn argument_cases() -> &'static [(&'static str, bool)] {
+    &ARGUMENTS
+}
+
 #[test]
 fn arguments_of_the_command(rt: HostRuntime) -> Result<(), Fail> {
-    for (command, is_command) in ARGUMENTS {
-        let want: &[u8] = if is_command { SEX } else { b"fault usage\n" };
+    for (command, is_command) in argument_cases() {
+        let want: &[u8] = if *is_command { SEX } else { b"fault usage\n" };
         assert!(rt;
             is_so(rt.alloc(), command, &[], &[], 200, want)?,
             "{command}"
@@ -472,41 +508,63 @@ fn bounded_output(rt: HostRuntime) -> Result<(), Fail> {
     Ok(())
 }
 
-// So many persons of SEX 1 with key 1, by which one line of the perturbation table is looked up.
+// How many persons there are, all of SEX 1 with key 1, a line of the perturbation table by which
+// they are looked up, and the text.
+type Crowd = (u32, &'static [u8], &'static [u8]);
+
+static CROWDS: [Crowd; 4] = [
+    (
+        750,
+        b"750,238,3\n",
+        b"release 0\nSEX,count\n1,753\n2,0\n.\n",
+    ),
+    (
+        751,
+        b"501,239,-1\n",
+        b"release 0\nSEX,count\n1,750\n2,0\n.\n",
+    ),
+    (
+        1000,
+        b"750,232,4\n",
+        b"release 0\nSEX,count\n1,1004\n2,0\n.\n",
+    ),
+    (
+        1001,
+        b"501,233,5\n",
+        b"release 0\nSEX,count\n1,1006\n2,0\n.\n",
+    ),
+];
+
+fn crowds() -> &'static [Crowd] {
+    &CROWDS
+}
+
+fn people_of(alloc: Global, persons: u32) -> Result<String, Memory> {
+    let mut people = String::from_str(alloc, "person,record_key,SEX,AGE,AREA\n")?;
+    for person in 1..=persons {
+        people.push_str(format!(in alloc; "{person},1,1,0-15,E1\n")?.as_str())?;
+    }
+    Ok(people)
+}
+
+fn ptable_of(alloc: Global, line: &[u8]) -> Result<Vec<u8>, Memory> {
+    let mut ptable = Vec::from_slice(alloc, b"pcv,ckey,pvalue\n")?;
+    ptable.extend_from_slice(line)?;
+    Ok(ptable)
+}
+
 #[test]
 fn rows_above_750(rt: HostRuntime) -> Result<(), Fail> {
-    let cases: [(u32, &[u8], &[u8]); 4] = [
-        (
-            750,
-            b"750,238,3\n",
-            b"release 0\nSEX,count\n1,753\n2,0\n.\n",
-        ),
-        (
-            751,
-            b"501,239,-1\n",
-            b"release 0\nSEX,count\n1,750\n2,0\n.\n",
-        ),
-        (
-            1000,
-            b"750,232,4\n",
-            b"release 0\nSEX,count\n1,1004\n2,0\n.\n",
-        ),
-        (
-            1001,
-            b"501,233,5\n",
-            b"release 0\nSEX,count\n1,1006\n2,0\n.\n",
-        ),
-    ];
-    for (persons, line, want) in cases {
-        let mut ptable = Vec::from_slice(rt.alloc(), b"pcv,ckey,pvalue\n")?;
-        ptable.extend_from_slice(line)?;
-        let mut people = String::from_str(rt.alloc(), "person,record_key,SEX,AGE,AREA\n")?;
-        for person in 1..=persons {
-            people.push_str(format!(in rt.alloc(); "{person},1,1,0-15,E1\n")?.as_str())?;
-        }
+    for (persons, line, want) in crowds() {
+        let ptable = ptable_of(rt.alloc(), line)?;
+        let people = people_of(rt.alloc(), *persons)?;
         let others = [("ptable", ptable.as_slice()), ("people", people.as_bytes())];
-        assert!(rt; is_so(rt.alloc(), WITHOUT_RECODES, &others, &[], 200, want)?);
-        assert!(rt; is_so(rt.alloc(), WITH_RECODES, &others, &[], 200, want)?);
+        for command in [WITHOUT_RECODES, WITH_RECODES] {
+            assert!(rt;
+                is_so(rt.alloc(), command, &others, &[], 200, want)?,
+                "{persons}"
+            );
+        }
     }
     Ok(())
 }
