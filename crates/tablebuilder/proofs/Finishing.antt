@@ -1,5 +1,5 @@
 -- What a call keeps, from how the run ended and what was taken of its text.
-use Rattle.std.proofs.Common.{◌≡◌, ◌≢◌, ◌⊎◌, ◌∙◌, sym, ap, subst, refl, ℕ, List, [], ◌++◌, take, drop, Option, Some, None, Result, Ok, Err, inl, inr}
+use Rattle.std.proofs.Common.{◌≡◌, ◌≢◌, ◌⊎◌, ◌∙◌, sym, ap, subst, refl, ℕ, List, ◌++◌, take, drop, Option, Some, None, Ok, Err, inl, inr}
 use Rattle.std.specs.Prelude.{IfSome}
 use Rattle.std.proofs.lemmas.List.{take-append-drop}
 use Rattle.tb_base.specs.declared.status.Status.{Status}
@@ -9,13 +9,12 @@ use Rattle.tablebuilder.specs.declared.endings.Input.{Input}
 use Rattle.tablebuilder.specs.declared.endings.Input.TheVariants as input
 use Rattle.tablebuilder.specs.declared.endings.End.{End}
 use Rattle.tablebuilder.specs.declared.endings.End.TheVariants as end
-use Rattle.tablebuilder.specs.declared.load.Asked.{Asked}
-use Rattle.tablebuilder.specs.Asking.{AskedValue, asked_by, asked_of, asked_over, contents_at, contents_for}
+use Rattle.tablebuilder.specs.Asking.{AskedValue, asked_of, asked_over, contents_at}
 use Rattle.tablebuilder.specs.Calls.{Call, HasTaken, ReadFailed, WriteFailed, readings_more}
 use Rattle.tablebuilder.specs.Commands.{CommandValue, command_of}
 use Rattle.tablebuilder.specs.Endings.{last_line, status_of}
-use Rattle.tablebuilder.specs.Loading.{Gives, Loads, Reading, asked_value}
-use Rattle.tablebuilder.specs.Promises.{EndsBy, IsCaused, IsDefined, IsLastLine, IsTextOf, IsWhole, Keeps, class_readings, defined_status, reading_number}
+use Rattle.tablebuilder.specs.Loading.{Loads, Reading}
+use Rattle.tablebuilder.specs.Promises.{EndsBy, IsCaused, IsDefined, IsLastLine, IsTextOf, IsWhole, Keeps, defined_status, reading_number}
 use Rattle.tablebuilder.specs.Replies.{IsOutput}
 
 -- what the sink took of the last line of an end, and the status

@@ -1,5 +1,5 @@
 -- What a call of the top call saw.
-use Rattle.std.specs.Prelude.{◌≡◌, ℕ, suc, zero, List, Option, option_map}
+use Rattle.std.specs.Prelude.{ℕ, suc, zero, List, Option, option_map}
 use Rattle.tb_io.specs.Faults.{HasRisen, one_more}
 use Rattle.tb_io.specs.Taken.{Took}
 

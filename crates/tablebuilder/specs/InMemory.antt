@@ -1,7 +1,6 @@
 -- What a run over files and a sink in memory tells.
 use Rattle.std.specs.Prelude.{◌≡◌, ℕ, List, ◌++◌, Some}
 use Rattle.tb_base.specs.declared.status.Status.{Status}
-use Rattle.tb_base.specs.declared.status.Status.TheVariants as status
 use Rattle.tb_io.specs.BoundedSink.{BoundedSink}
 use Rattle.tb_io.specs.HeldFiles.{FailingFiles, bytes_of}
 use Rattle.tablebuilder.specs.declared.endings.Input.{Input}

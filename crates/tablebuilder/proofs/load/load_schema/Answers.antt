@@ -1,4 +1,4 @@
-use Rattle.std.proofs.Common.{◌≡◌, ◌∙◌, ap, refl, Ok, arith}
+use Rattle.std.proofs.Common.{◌≡◌, ap, refl, Ok, arith}
 use Rattle.std.specs.Prelude.{option_map}
 use Rattle.tb_schema.specs.Recodes.{schema_of}
 use Rattle.tablebuilder.specs.declared.endings.Input.TheVariants as input

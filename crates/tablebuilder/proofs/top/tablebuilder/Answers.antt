@@ -1,5 +1,4 @@
 use Rattle.std.proofs.Common.{sym, refl, inl, inr}
-use Rattle.tablebuilder.specs.declared.endings.End.TheVariants as end
 use Rattle.tablebuilder.specs.Loading.{asked_value}
 use Rattle.tablebuilder.proofs.Finishing.{keeps_by_load, keeps_by_script, keeps_by_usage}
 use Rattle.tablebuilder.proofs.top.tablebuilder.Goals as goal
