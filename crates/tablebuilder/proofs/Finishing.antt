@@ -86,7 +86,7 @@ module _ (call : Call) (at : List ℕ → Option (List ℕ)) where
       let whole : IsWhole call at (status_of e) (take part.0 line ++ drop part.0 line) = rw (take-append-drop part.0 line) (whole_by_end e ends) in
       (take part.0 line, inr (is, (status_of e, drop part.0 line, whole)), part.1)
 
-  -- the defined status, but for want of memory and faults of the outside
+  -- the defined status, Memory or a fault of the outside
   defined_by_end : (e : End) (s : Status) → s ≡ status_of e → (e ≢ end.Memory → EndsBy call at e) → ((file : Input) → e ≡ end.Unread file → ReadFailed call) → IsDefined call at s
   defined_by_end end.Memory s is ends rose = inr (inl is)
   defined_by_end (end.Unread file) s is ends rose = inr (inr (inl (is, rose file refl)))

@@ -1,4 +1,4 @@
-pub mod Columns
+pub mod CategoryCells
 pub mod Finishing
 pub mod LoadSteps
 pub mod Outputs

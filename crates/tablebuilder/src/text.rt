@@ -42,7 +42,7 @@ fn shown_bytes(shown: Shown, digits: &mut [u8; 10]) -> &[u8]
     }
 }
 
-// Writes a line of two fields. Over a `Vec`, want of memory is the one way to fail.
+// Writes a line of two fields. Over a `Vec` it fails only where memory runs out.
 fn write_line(rows: &mut Writer<Vec<u8>>, first: &[u8], second: &[u8]) -> Result<(), Memory>
     requires { IsBetween rows.old }
     ensures between { OnOk result (IsBetween rows.new) }

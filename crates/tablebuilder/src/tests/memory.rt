@@ -63,11 +63,11 @@ fn sinks_take(alloc: Global) -> Result<bool, Memory> {
 
 // What the readers make of the small setup: what a recode's name stands for, what is shown of a
 // cell, and how many records there are.
-fn found(alloc: Global) -> Result<Option<NameOf>, Fail> {
+fn recode_name(alloc: Global) -> Result<Option<NameOf>, Fail> {
     Ok(Schema::read(alloc, CLASSES, Some(RECODES))?.find(b"AGE2"))
 }
 
-fn shown(alloc: Global) -> Result<Shown, Fail> {
+fn shown_cell(alloc: Global) -> Result<Shown, Fail> {
     Ok(PTable::read(alloc, PTABLE)?.shown(0, Cell { count: 3, key: 64 }))
 }
 
@@ -100,8 +100,8 @@ fn ample_memory_is_enough(rt: HostRuntime) -> Result<(), Fail> {
     assert_eq!(rt; records_and_lists(rt.alloc())?, [9, 9, 9, 9, 4]);
     assert!(rt; files_are_read(rt.alloc())?);
     assert!(rt; sinks_take(rt.alloc())?);
-    assert_eq!(rt; found(rt.alloc())?, Some(NameOf::Recode(0)));
-    assert_eq!(rt; shown(rt.alloc())?, Shown::Number(1));
+    assert_eq!(rt; recode_name(rt.alloc())?, Some(NameOf::Recode(0)));
+    assert_eq!(rt; shown_cell(rt.alloc())?, Shown::Number(1));
     assert_eq!(rt; people_count(rt.alloc())?, 4);
     assert!(rt; is_answered(rt.alloc())?);
     Ok(())
