@@ -62,11 +62,11 @@ filter-ext p q [] h = refl
 filter-ext p q (x ∷ xs) h = rw (h x, filter-ext p q xs h) refl
 
 -- each record's category of each of the variables is below the shape's count
-abbrev pub AllFit : List ℕ → List ℕ → List Record → Type 0
-AllFit shape vars [] = Unit {0}
-AllFit shape vars (r ∷ rs) = EachBelow (category_at r) (slice_index shape) vars × AllFit shape vars rs
+abbrev pub AllWithin : List ℕ → List ℕ → List Record → Type 0
+AllWithin shape vars [] = Unit {0}
+AllWithin shape vars (r ∷ rs) = EachBelow (category_at r) (slice_index shape) vars × AllWithin shape vars rs
 
-all_once : (shape vars : List ℕ) (rs : List Record) → AllFit shape vars rs → AllOnce (λ r. map (category_at r) vars) (category_lists shape vars) rs
+all_once : (shape vars : List ℕ) (rs : List Record) → AllWithin shape vars rs → AllOnce (λ r. map (category_at r) vars) (category_lists shape vars) rs
 all_once shape vars [] fit = tt
 all_once shape vars (r ∷ rs) fit = (grid_once (category_at r) (slice_index shape) vars fit.0, all_once shape vars rs fit.1)
 
@@ -79,7 +79,7 @@ map-filter_zip {A} {B} f p (x ∷ xs) =
     ]
 
 -- the cell of the records that pass a test of their categories is the merge of the cube's cells that pass it, where the cube's variables tell the test
-pub merged_where-cube_of : (test : (ℕ → ℕ) → Bool) (shape vars : List ℕ) (rs : List Record) → AllFit shape vars rs
+pub merged_where-cube_of : (test : (ℕ → ℕ) → Bool) (shape vars : List ℕ) (rs : List Record) → AllWithin shape vars rs
     → ((r : Record) → test (category_at r) ≡ test (category_in vars (map (category_at r) vars)))
     → merged_where test shape vars (cube_of shape vars rs) ≡ cell_of (filter (λ r. test (category_at r)) rs)
 merged_where-cube_of test shape vars rs fit told =
@@ -91,7 +91,7 @@ merged_where-cube_of test shape vars rs fit told =
 
 -- a table's cells from a cube over its variables are those counted from scratch
 pub rolled_up-cube_of : (schema : SchemaValue) (query : QueryValue) (shape vars : List ℕ) (rs : List Record)
-    → AllFit shape vars rs → AllAmong schema vars query.dimensions → AllAmong schema vars (map (λ x. x.of) query.filters)
+    → AllWithin shape vars rs → AllAmong schema vars query.dimensions → AllAmong schema vars (map (λ x. x.of) query.filters)
     → rolled_up schema query shape vars (cube_of shape vars rs) ≡ cells_of schema query rs
 rolled_up-cube_of schema query shape vars rs fit dimensions filters = map-ext _ _ (places_of schema query) (λ place.
     merged_where-cube_of (belongs schema query place) shape vars rs fit (λ r.
@@ -107,7 +107,7 @@ same_fewer f vars [] among = refl
 same_fewer f vars (v ∷ vs) among = rw (← category_in-map f vars v among.0, ← same_fewer f vars vs among.1) refl
 
 -- a cube over fewer variables
-pub narrowed-cube_of : (shape vars fewer : List ℕ) (rs : List Record) → AllFit shape vars rs → Includes vars fewer → narrowed shape vars fewer (cube_of shape vars rs) ≡ cube_of shape fewer rs
+pub narrowed-cube_of : (shape vars fewer : List ℕ) (rs : List Record) → AllWithin shape vars rs → Includes vars fewer → narrowed shape vars fewer (cube_of shape vars rs) ≡ cube_of shape fewer rs
 narrowed-cube_of shape vars fewer rs fit among = map-ext _ _ (category_lists shape fewer) (λ c.
     merged_where-cube_of (λ at. bytes_eq (map at fewer) c) shape vars rs fit (λ r. ap (λ cs. bytes_eq cs c) (same_fewer (category_at r) vars fewer among)))
 
@@ -125,6 +125,6 @@ each_below shape r [] fits below = tt
 each_below shape r (v ∷ vs) fits below = (fits.below v below.0, each_below shape r vs fits below.1)
 
 -- records that fit a shape fit it over some of its variables
-pub AllFit-from_Fits : (shape vars : List ℕ) (rs : List Record) → AllBelow (length shape) vars → AllByRecursion (Fits shape) rs → AllFit shape vars rs
-AllFit-from_Fits shape vars [] below fits = tt
-AllFit-from_Fits shape vars (r ∷ rs) below fits = (each_below shape r vars fits.0 below, AllFit-from_Fits shape vars rs below fits.1)
+pub AllWithin-from_Fits : (shape vars : List ℕ) (rs : List Record) → AllBelow (length shape) vars → AllByRecursion (Fits shape) rs → AllWithin shape vars rs
+AllWithin-from_Fits shape vars [] below fits = tt
+AllWithin-from_Fits shape vars (r ∷ rs) below fits = (each_below shape r vars fits.0 below, AllWithin-from_Fits shape vars rs below fits.1)

@@ -4,6 +4,9 @@ use Rattle.tb_base.specs.declared.records.Record.{Record}
 use Rattle.tb_base.specs.Cells.{cell_of}
 use Rattle.tb_base.specs.declared.cells.TheConstants.{KEY_RANGE}
 use Rattle.tb_model.specs.Schemas.{SchemaValue}
+use Rattle.tb_model.specs.Setups.{SetupValue}
+use Rattle.tb_model.specs.Releases.{ReleaseValue}
+use Rattle.tb_model.specs.Rules.{pvalues_of, threshold_of}
 use Rattle.tb_model.specs.Perturbations.{shown, shown_text, perturbation}
 use Rattle.tb_model.specs.Queries.{QueryValue}
 use Rattle.tb_model.specs.Places.{Place, own_records}
@@ -17,6 +20,18 @@ pub record World : Type 0 where
   pub records : List Record
   pub query : QueryValue
   pub place : Place
+
+-- the world of a place of a query's table over a setup and a release
+abbrev pub world_at : SetupValue → ReleaseValue → QueryValue → Place → World
+world_at setup release query place =
+    record {
+      schema = setup.schema;
+      pvalues = pvalues_of setup release;
+      threshold = threshold_of setup release;
+      records = release.records;
+      query = query;
+      place = place;
+    }
 
 -- the own records of the world's place
 abbrev pub own_of : World → List Record
