@@ -79,68 +79,82 @@ fn code_under(schema: &Schema, name: &[u8], code: &[u8]) -> Option<u16> {
     }
 }
 
+// A classification, and how it is shown.
+type File = (&'static [u8], &'static str);
+
+static FILES: [File; 8] = [
+    (SETUP, SETUP_SHOWN),
+    // A header alone has no variables.
+    (b"variable,code,label\n", ""),
+    (b"label,variable,note,code", ""),
+    // A variable's records need not be adjacent.
+    (
+        b"variable,code,label\nSEX,1,Male\nAREA,E1,North\nSEX,2,Female\nAREA,E2,South\n",
+        "SEX(1 Male)(2 Female)\nAREA(E1 North)(E2 South)\n",
+    ),
+    // One mark, both line ends, quotes, other columns in another order.
+    (
+        b"\xEF\xBB\xBFcode,note,label,variable\r\n\
+        \"1\",x,\"a \"\"b\"\"\",SEX\r\n-,y,\"1, 2\",SEX",
+        "SEX(1 a \"b\")(- 1, 2)\n",
+    ),
+    // A label may be empty, or `Total`, or not ASCII.
+    (
+        b"variable,code,label\nSEX,table,\nSEX,in,Total\nsex,A.b_c-d+e,\xC3\xA9\n",
+        "SEX(table )(in Total)\nsex(A.b_c-d+e é)\n",
+    ),
+    // The same code in two variables.
+    (
+        b"variable,code,label\nA,1,a\nB,1,b\nA,2,c\n",
+        "A(1 a)(2 c)\nB(1 b)\n",
+    ),
+    // The longest name and code.
+    (
+        b"variable,code,label\nA2345678901234567890123456789_32,1234567890123456,\n",
+        "A2345678901234567890123456789_32(1234567890123456 )\n",
+    ),
+];
+
+fn files() -> &'static [File] {
+    &FILES
+}
+
 #[test]
 fn accepted_files(rt: HostRuntime) -> Result<(), Fail> {
-    let cases: [(&[u8], &str); 8] = [
-        (SETUP, SETUP_SHOWN),
-        // A header alone has no variables.
-        (b"variable,code,label\n", ""),
-        (b"label,variable,note,code", ""),
-        // A variable's records need not be adjacent.
-        (
-            b"variable,code,label\nSEX,1,Male\nAREA,E1,North\nSEX,2,Female\nAREA,E2,South\n",
-            "SEX(1 Male)(2 Female)\nAREA(E1 North)(E2 South)\n",
-        ),
-        // One mark, both line ends, quotes, other columns in another order.
-        (
-            b"\xEF\xBB\xBFcode,note,label,variable\r\n\
-            \"1\",x,\"a \"\"b\"\"\",SEX\r\n-,y,\"1, 2\",SEX",
-            "SEX(1 a \"b\")(- 1, 2)\n",
-        ),
-        // A label may be empty, or `Total`, or not ASCII.
-        (
-            b"variable,code,label\nSEX,table,\nSEX,in,Total\nsex,A.b_c-d+e,\xC3\xA9\n",
-            "SEX(table )(in Total)\nsex(A.b_c-d+e é)\n",
-        ),
-        // The same code in two variables.
-        (
-            b"variable,code,label\nA,1,a\nB,1,b\nA,2,c\n",
-            "A(1 a)(2 c)\nB(1 b)\n",
-        ),
-        // The longest name and code.
-        (
-            b"variable,code,label\nA2345678901234567890123456789_32,1234567890123456,\n",
-            "A2345678901234567890123456789_32(1234567890123456 )\n",
-        ),
-    ];
-    for (file, want) in cases {
+    for (file, want) in files() {
         let schema = Schema::read(rt.alloc(), file, None)?;
-        assert_eq!(rt; shown(rt.alloc(), &schema)?.as_str(), want);
+        assert_eq!(rt; shown(rt.alloc(), &schema)?.as_str(), *want);
     }
     Ok(())
 }
 
+// Recodes of the small setup, and how they are shown.
+static RECODES: [File; 4] = [
+    (AGE2, "AGE2 of 1(young)(old) 0 1 1\n"),
+    // A header alone has no recodes.
+    (b"group,recode,code,note,variable\n", ""),
+    // One mark, both line ends, quotes, other columns, records that are not adjacent.
+    (
+        b"\xEF\xBB\xBFgroup,code,variable,note,recode\r\n\
+        b,2,SEX,,S\r\n\"old\",65+,AGE,\"x, y\",A\r\nyoung,0-15,AGE,,A\r\na,1,SEX,,S\r\n\
+        old,16-64,AGE,,\"A\"",
+        "S of 0(b)(a) 1 0\nA of 1(old)(young) 1 0 0\n",
+    ),
+    // The same groups in two recodes, the codes of another variable, and one group for all.
+    (
+        b"recode,variable,code,group\nA,SEX,1,E1\nA,SEX,2,0-15\nB,SEX,1,0-15\nB,SEX,2,E1\n\
+        C,SEX,1,E1\nC,SEX,2,E1\n",
+        "A of 0(E1)(0-15) 0 1\nB of 0(0-15)(E1) 0 1\nC of 0(E1) 0 0\n",
+    ),
+];
+
+fn recodes() -> &'static [File] {
+    &RECODES
+}
+
 #[test]
 fn accepted_recodes(rt: HostRuntime) -> Result<(), Fail> {
-    let cases: [(&[u8], &str); 4] = [
-        (AGE2, "AGE2 of 1(young)(old) 0 1 1\n"),
-        // A header alone has no recodes.
-        (b"group,recode,code,note,variable\n", ""),
-        // One mark, both line ends, quotes, other columns, records that are not adjacent.
-        (
-            b"\xEF\xBB\xBFgroup,code,variable,note,recode\r\n\
-            b,2,SEX,,S\r\n\"old\",65+,AGE,\"x, y\",A\r\nyoung,0-15,AGE,,A\r\na,1,SEX,,S\r\n\
-            old,16-64,AGE,,\"A\"",
-            "S of 0(b)(a) 1 0\nA of 1(old)(young) 1 0 0\n",
-        ),
-        // The same groups in two recodes, the codes of another variable, and one group for all.
-        (
-            b"recode,variable,code,group\nA,SEX,1,E1\nA,SEX,2,0-15\nB,SEX,1,0-15\nB,SEX,2,E1\n\
-            C,SEX,1,E1\nC,SEX,2,E1\n",
-            "A of 0(E1)(0-15) 0 1\nB of 0(0-15)(E1) 0 1\nC of 0(E1) 0 0\n",
-        ),
-    ];
-    for (file, want) in cases {
+    for (file, want) in recodes() {
         let schema = Schema::read(rt.alloc(), SETUP, Some(file))?;
         let want = format!(in rt.alloc(); "{SETUP_SHOWN}{want}")?;
         assert_eq!(rt; shown(rt.alloc(), &schema)?.as_str(), want.as_str());
@@ -148,35 +162,47 @@ fn accepted_recodes(rt: HostRuntime) -> Result<(), Fail> {
     Ok(())
 }
 
+// A name, and what it stands for.
+static NAMES: [(&'static [u8], Option<NameOf>); 8] = [
+    (b"SEX", Some(NameOf::Variable(0))),
+    (b"AREA", Some(NameOf::Variable(2))),
+    (b"AGE2", Some(NameOf::Recode(0))),
+    (b"AGE3", None),
+    (b"sex", None),
+    (b"SEX ", None),
+    (b"", None),
+    (b"\xFF", None),
+];
+
+fn names() -> &'static [(&'static [u8], Option<NameOf>)] {
+    &NAMES
+}
+
+// A name, a code, and its number.
+static CODES: [(&'static [u8], &'static [u8], Option<u16>); 9] = [
+    (b"SEX", b"1", Some(0)),
+    (b"AGE", b"65+", Some(2)),
+    (b"AGE", b"1", None),
+    (b"AREA", b"E2", Some(1)),
+    (b"AREA", b"", None),
+    (b"AREA", b"\xFF", None),
+    (b"AGE2", b"old", Some(1)),
+    (b"AGE2", b"65+", None),
+    (b"AGE2", b"\xFF", None),
+];
+
+fn codes() -> &'static [(&'static [u8], &'static [u8], Option<u16>)] {
+    &CODES
+}
+
 #[test]
 fn lookups(rt: HostRuntime) -> Result<(), Fail> {
     let schema = Schema::read(rt.alloc(), SETUP, Some(AGE2))?;
-    let names: [(&[u8], Option<NameOf>); 8] = [
-        (b"SEX", Some(NameOf::Variable(0))),
-        (b"AREA", Some(NameOf::Variable(2))),
-        (b"AGE2", Some(NameOf::Recode(0))),
-        (b"AGE3", None),
-        (b"sex", None),
-        (b"SEX ", None),
-        (b"", None),
-        (b"\xFF", None),
-    ];
-    for (name, want) in names {
-        assert_eq!(rt; schema.find(name), want);
+    for (name, want) in names() {
+        assert_eq!(rt; schema.find(name), *want);
     }
-    let codes: [(&[u8], &[u8], Option<u16>); 9] = [
-        (b"SEX", b"1", Some(0)),
-        (b"AGE", b"65+", Some(2)),
-        (b"AGE", b"1", None),
-        (b"AREA", b"E2", Some(1)),
-        (b"AREA", b"", None),
-        (b"AREA", b"\xFF", None),
-        (b"AGE2", b"old", Some(1)),
-        (b"AGE2", b"65+", None),
-        (b"AGE2", b"\xFF", None),
-    ];
-    for (name, code, want) in codes {
-        assert_eq!(rt; code_under(&schema, name, code), want);
+    for (name, code, want) in codes() {
+        assert_eq!(rt; code_under(&schema, name, code), *want);
     }
     assert_eq!(rt; sizes(rt.alloc(), &schema)?.as_str(), "2;3;2;");
     Ok(())
