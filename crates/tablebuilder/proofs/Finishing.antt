@@ -1,5 +1,5 @@
 -- What a call keeps, from how the run ended and what was taken of its text.
-use Rattle.std.proofs.Common.{◌≡◌, ◌≢◌, ◌⊎◌, ◌∙◌, sym, ap, subst, refl, ℕ, List, ◌++◌, take, drop, Option, Some, None, Ok, Err, inl, inr}
+use Rattle.std.proofs.Common.{◌≡◌, ◌≢◌, ◌⊎◌, ◌∙◌, ◌+◌, ◌≤◌, sym, ap, subst, refl, ℕ, List, ◌++◌, take, drop, Option, Some, None, Ok, Err, inl, inr}
 use Rattle.std.specs.Prelude.{IfSome}
 use Rattle.std.proofs.lemmas.List.{take-append-drop}
 use Rattle.tb_base.specs.declared.status.Status.{Status}
@@ -14,8 +14,10 @@ use Rattle.tablebuilder.specs.Calls.{Call, HasTaken, ReadFailed, WriteFailed, re
 use Rattle.tablebuilder.specs.Commands.{CommandValue, command_of}
 use Rattle.tablebuilder.specs.Endings.{last_line, status_of}
 use Rattle.tablebuilder.specs.Loading.{Loads, Reading}
-use Rattle.tablebuilder.specs.Promises.{EndsBy, IsCaused, IsDefined, IsLastLine, IsTextOf, IsWhole, Keeps, defined_status, reading_number}
-use Rattle.tablebuilder.specs.Replies.{IsOutput}
+use Rattle.tablebuilder.specs.Promises.{EndsBy, IsCaused, IsDefined, IsLastLine, IsPriced, IsTextOf, IsWhole, Keeps, defined_status, reading_number}
+use Rattle.tablebuilder.specs.Outputs.{AreAnswers, IsOutput}
+use Rattle.tb_script.specs.Outputs.{ReplyValue, price_of, text_of}
+use Rattle.tb_io.proofs.TakenLemmas.{TookPart-all}
 
 -- what the sink took of the last line of an end, and the status
 abbrev pub IsToldBy : Call → End → Status → Type 0
@@ -99,6 +101,11 @@ module _ (call : Call) (at : List ℕ → Option (List ℕ)) where
   exact_by_end e s ends rose (inl (is, took)) = defined_by_end e s is ends rose
   exact_by_end e s ends rose (inr (is, failed, part)) = inr (inr (inr (is, failed)))
 
+-- what is true of any contents is true where the files tell them
+always_told : {A : Type 0} (P : A → Type 0) (o : Option A) → ((x : A) → P x) → IfSome o P
+always_told P None f = tt
+always_told P (Some x) f = f x
+
 -- what is true where the files tell what they hold
 where_told : {A : Type 0} (P Q : A → Type 0) (o : Option A) → ((x : A) → P x → Q x) → IfSome o P → IfSome o Q
 where_told P Q None f h = tt
@@ -137,7 +144,7 @@ status-read (end.BadLine at) h = cc
 status-read end.Memory h = cc
 
 module _ (call : Call) (e : End) (s : Status) (usage : e ≡ end.Usage → command_of call.words ≡ None) (words : command_of call.words ≡ None → e ≡ end.Usage)
-    (rose : (file : Input) → e ≡ end.Unread file → ReadFailed call) (ends : IfSome call.content (λ at. e ≢ end.Memory → EndsBy call at e)) where
+    (rose : (file : Input) → e ≡ end.Unread file → ReadFailed call) (ends : IfSome call.content (λ at. e ≢ end.Memory → EndsBy call at e)) (free : call.steps_after ≡ call.steps) where
   usage_told : IsToldBy call e s → s ≡ status.Usage → (command_of call.words ≡ None) × HasTaken call (last_line end.Usage)
   usage_told (inl (is, took)) h = let u = status-usage e (sym is ∙ h) in (usage u, subst (λ x. HasTaken call (last_line x)) u took)
   usage_told (inr (is, failed, part)) h = cc
@@ -168,24 +175,32 @@ module _ (call : Call) (e : End) (s : Status) (usage : e ≡ end.Usage → comma
     write_fault = write_told told;
     no_net = net_told told;
     exact = where_told _ _ call.content (λ at by. exact_by_end call at e s by rose told) ends;
+    price = always_told _ call.content (λ at. inl free);
   }
 
 -- how the replies were taken, and the status
 abbrev pub IsAnsweredBy : Call → AskedValue → Status → Type 0
 IsAnsweredBy call asked s =
-    ((s ≡ status.Done) × ((text : List ℕ) × IsOutput asked text × HasTaken call text))
-    ⊎ ((s ≡ status.WriteFault) × WriteFailed call × ((text : List ℕ) × IsOutput asked text × TookPart call.taken call.taken_after text))
+    ((s ≡ status.Done) × ((replies : List ReplyValue) × AreAnswers asked replies × HasTaken call (text_of replies) × (call.steps_after ≤ call.steps + price_of replies)))
+    ⊎ ((s ≡ status.WriteFault) × WriteFailed call
+    × ((replies : List ReplyValue) × AreAnswers asked replies × TookPart call.taken call.taken_after (text_of replies) × (call.steps_after ≤ call.steps + price_of replies)))
 
 text_by_replies : (call : Call) (at : List ℕ → Option (List ℕ)) (asked : AskedValue) (s : Status) → asked_of at call.words ≡ Ok asked → IsAnsweredBy call asked s
     → (bytes : List ℕ) × IsTextOf call at s bytes × HasTaken call bytes
-text_by_replies call at asked s h (inl (is, (text, output, took))) = (text, inl (rw is (asked, h, output)), took)
-text_by_replies call at asked s h (inr (is, failed, (text, output, part))) =
+text_by_replies call at asked s h (inl (is, (replies, answers, took, cost))) = (text_of replies, inl (rw is (asked, h, (replies, answers, refl))), took)
+text_by_replies call at asked s h (inr (is, failed, (replies, answers, part, cost))) =
+    let text = text_of replies in
+    let output : IsOutput asked text = (replies, answers, refl) in
     let whole : IsWhole call at status.Done (take part.0 text ++ drop part.0 text) = rw (take-append-drop part.0 text) (asked, h, output) in
     (take part.0 text, inr (is, (status.Done, drop part.0 text, whole)), part.1)
 
 exact_by_replies : (call : Call) (at : List ℕ → Option (List ℕ)) (asked : AskedValue) (s : Status) → asked_of at call.words ≡ Ok asked → IsAnsweredBy call asked s → IsDefined call at s
 exact_by_replies call at asked s h (inl (is, taken)) = inl (is ∙ sym (ap defined_status h))
 exact_by_replies call at asked s h (inr (is, failed, part)) = inr (inr (inr (is, failed)))
+
+price_by_replies : (call : Call) (at : List ℕ → Option (List ℕ)) (asked : AskedValue) (s : Status) → asked_of at call.words ≡ Ok asked → IsAnsweredBy call asked s → IsPriced call at
+price_by_replies call at asked s h (inl (is, (replies, answers, took, cost))) = (asked, h, (replies, answers, TookPart-all call.taken call.taken_after (text_of replies) took, cost))
+price_by_replies call at asked s h (inr (is, failed, (replies, answers, part, cost))) = (asked, h, (replies, answers, part, cost))
 
 by_replies : (call : Call) (asked : AskedValue) (s : Status) → IsAnsweredBy call asked s
     → (s ≢ status.Usage) × (s ≢ status.ReadFault) × (s ≢ status.NetFault) × (s ≡ status.WriteFault → WriteFailed call)
@@ -205,6 +220,7 @@ keeps_by_replies call command asked s named told answered =
       write_fault = write;
       no_net = net;
       exact = where_told _ _ call.content (λ at h. exact_by_replies call at asked s h answered) told;
+      price = where_told _ _ call.content (λ at h. inr (price_by_replies call at asked s h answered)) told;
     }
 
 -- what the arguments ask for is what their command asks for
@@ -237,23 +253,19 @@ caused call command end.Memory named rose last = tt
 
 -- how loading ended the run
 pub keeps_by_load : {A : Type 0} (view : A → AskedValue) (call : Call) (after : Option (List ℕ → Option (List ℕ))) (command : CommandValue) (e : End) (s : Status) (n : ℕ) → command_of call.words ≡ Some command
-    → Loads (reading_of call after) command 0 0 n view (asked_over command) (Err e) → IsToldBy call e s → Keeps call s
-keeps_by_load view call after command e s n named loads told =
+    → Loads (reading_of call after) command 0 0 n view (asked_over command) (Err e) → call.steps_after ≡ call.steps → IsToldBy call e s → Keeps call s
+keeps_by_load view call after command e s n named loads free told =
     let rose = λ (file : Input) (h : e ≡ end.Unread file). loads.risen file (ap (λ (x : End). Err x) h) in
     let last = λ (file : Input) (h : e ≡ end.Unread file). loads.last file (ap (λ (x : End). Err x) h) call.readings refl in
     keeps_by_end call e s
     (λ h. absurd (loads.usage (ap (λ (x : End). Err x) h))) (λ h. cc) rose
     (where_told _ _ call.content (λ at g ne. (rw named (g ne), caused call command e named rose last)) loads.gives)
-    told
+    free told
 
 -- other arguments end the run at once
-pub keeps_by_usage : (call : Call) (s : Status) → command_of call.words ≡ None → IsToldBy call end.Usage s → Keeps call s
-keeps_by_usage call s none told =
-    keeps_by_end call end.Usage s (λ h. none) (λ h. refl) (λ file h. cc) (always call.content) told
-  where
-    always : (o : Option (List ℕ → Option (List ℕ))) → IfSome o (λ at. end.Usage ≢ end.Memory → EndsBy call at end.Usage)
-    always None = tt
-    always (Some at) = λ ne. (rw none refl, tt)
+pub keeps_by_usage : (call : Call) (s : Status) → command_of call.words ≡ None → call.steps_after ≡ call.steps → IsToldBy call end.Usage s → Keeps call s
+keeps_by_usage call s none free told =
+    keeps_by_end call end.Usage s (λ h. none) (λ h. refl) (λ file h. cc) (always_told _ call.content (λ at ne. (rw none refl, tt))) free told
 
 -- files that were all read lead to the script
 pub keeps_by_script : {A : Type 0} (view : A → AskedValue) (call : Call) (after : Option (List ℕ → Option (List ℕ))) (command : CommandValue) (x : A) (s : Status) (n : ℕ) → command_of call.words ≡ Some command

@@ -16,6 +16,7 @@ use Rattle.tb_records.specs.People.{people_of}
 use Rattle.tb_base.specs.declared.records.Record.{Record}
 use Rattle.tb_model.specs.declared.names.PerturbationLine.{PerturbationLine}
 use Rattle.tb_schema.specs.Recodes.{schema_of}
+use Rattle.tb_script.specs.Scripts.{ScriptValue}
 use Rattle.tablebuilder.specs.Asking.{◌>>=◌, AskedValue, Contents, bytes_in, contents_at, contents_for, file_end, input_place, or_end, people_in, perturbation_in, recodes_in, schema_end, schema_in, script_in}
 use Rattle.tablebuilder.specs.Commands.{CommandValue}
 use Rattle.tablebuilder.specs.Loading.{Gives, Loads, Reading}
@@ -168,7 +169,7 @@ skips-people schema contents e h =
     ap (λ r. r >>= (λ bytes. or_end (file_end input.People people_name) (people_of schema bytes))) (skips-bytes input.People 4 (omega arith) contents e h)
 
 -- what follows after each file of a command
-abbrev pub asked_with : CommandValue → SchemaValue → List PerturbationLine → List Record → List ℕ → AskedValue
+abbrev pub asked_with : CommandValue → SchemaValue → List PerturbationLine → List Record → ScriptValue → AskedValue
 asked_with command schema lines records script = record {
   setup = record { schema = schema; lines = lines; threshold = command.threshold };
   records = records;
@@ -176,7 +177,7 @@ asked_with command schema lines records script = record {
 }
 
 abbrev pub after_people : CommandValue → SchemaValue → List PerturbationLine → Contents → List Record → Result AskedValue End
-after_people command schema lines contents records = script_in schema contents >>= (λ script. Ok (asked_with command schema lines records script))
+after_people command schema lines contents records = script_in contents >>= (λ script. Ok (asked_with command schema lines records script))
 
 abbrev pub after_ptable : CommandValue → SchemaValue → Contents → List PerturbationLine → Result AskedValue End
 after_ptable command schema contents lines = people_in schema contents >>= after_people command schema lines contents

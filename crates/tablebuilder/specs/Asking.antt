@@ -18,13 +18,14 @@ use Rattle.tb_schema.specs.declared.fault.ClassFile.{ClassFile}
 use Rattle.tb_schema.specs.declared.fault.ClassFile.TheVariants as class_file
 use Rattle.tb_schema.specs.declared.fault.SchemaFault.{SchemaFault}
 use Rattle.tb_schema.specs.declared.fault.SchemaFault.TheVariants as schema_fault
+use Rattle.tb_script.specs.Scripts.{ScriptValue, script_of}
 use Rattle.tablebuilder.specs.declared.endings.Input.{Input}
 use Rattle.tablebuilder.specs.declared.endings.Input.TheVariants as input
 use Rattle.tablebuilder.specs.declared.endings.End.{End}
 use Rattle.tablebuilder.specs.declared.endings.End.TheVariants as end
-use Rattle.tablebuilder.specs.declared.load.TheConstants.{MOST_BYTES, MOST_SCRIPT_BYTES}
+use Rattle.tablebuilder.specs.declared.load.TheConstants.{MOST_BYTES}
+use Rattle.tb_script.specs.declared.limits.TheConstants.{MOST_SCRIPT_BYTES}
 use Rattle.tablebuilder.specs.Commands.{CommandValue, command_of}
-use Rattle.tablebuilder.specs.Scripts.{script_of}
 
 -- what the files hold: the bytes of each, where it is there
 abbrev pub Contents : Type 0
@@ -94,16 +95,16 @@ people_in schema contents =
     bytes_in input.People (contents input.People) >>= (λ bytes.
     or_end (file_end input.People people_name) (people_of schema bytes))
 
-abbrev pub script_in : SchemaValue → Contents → Result (List ℕ) End
-script_in schema contents =
+abbrev pub script_in : Contents → Result ScriptValue End
+script_in contents =
     bytes_in input.Script (contents input.Script) >>= (λ bytes.
-    or_end end.BadLine (script_of schema bytes))
+    or_end end.BadLine (script_of bytes))
 
--- what is asked for: tables of variables, one for each line of a script, over a setup and microdata
+-- what is asked for: replies to the lines of a script over a setup and microdata
 pub record AskedValue : Type 0 where
   pub setup : SetupValue
   pub records : List Record
-  pub script : List ℕ
+  pub script : ScriptValue
 
 -- what a command asks for over what its files hold
 abbrev pub asked_over : CommandValue → Contents → Result AskedValue End
@@ -111,7 +112,7 @@ asked_over command contents =
     schema_in command.recodes contents >>= (λ schema.
     perturbation_in contents >>= (λ lines.
     people_in schema contents >>= (λ records.
-    script_in schema contents >>= (λ script.
+    script_in contents >>= (λ script.
     Ok (record {
       setup = record { schema = schema; lines = lines; threshold = command.threshold };
       records = records;

@@ -5,7 +5,7 @@ use Rattle.tb_io.specs.Taken.{Took}
 
 -- The arguments; what stands under each name, where the files tell it; the counts of faults of the
 -- files and of the sink, before and after; how many readings there were, where the files tell it;
--- and the bytes that the sink took, where it tells them.
+-- the bytes that the sink took, where it tells them; and the counter of steps.
 pub record Call : Type 0 where
   pub words : List (List ℕ)
   pub content : Option (List ℕ → Option (List ℕ))
@@ -17,6 +17,8 @@ pub record Call : Type 0 where
   pub write_faults_after : ℕ
   pub taken : Option (List ℕ)
   pub taken_after : Option (List ℕ)
+  pub steps : ℕ
+  pub steps_after : ℕ
 
 -- a read failed, and a write failed
 abbrev pub ReadFailed : Call → Type 0

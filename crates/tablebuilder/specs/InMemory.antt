@@ -12,8 +12,8 @@ use Rattle.tablebuilder.specs.Promises.{IsTextOf, reading_number}
 
 -- what such a call saw
 abbrev pub memory_call : List (List ℕ) → FailingFiles → FailingFiles → BoundedSink → BoundedSink
-    → Call
-memory_call words files files' out out' = record {
+    → ℕ → ℕ → Call
+memory_call words files files' out out' steps steps' = record {
   words = words;
   content = Some (bytes_of files.held);
   read_faults = files.faults;
@@ -24,6 +24,8 @@ memory_call words files files' out out' = record {
   write_faults_after = out'.faults;
   taken = Some out.taken;
   taken_after = Some out'.taken;
+  steps = steps;
+  steps_after = steps';
 }
 
 -- the bytes that a run with this status added to those of the sink

@@ -1,11 +1,8 @@
 pub mod Commands
 pub mod Endings
-pub mod Scripts
 pub mod Asking
-pub mod ScriptOutputs
-pub mod Replies
+pub mod Outputs
 pub mod Calls
 pub mod Promises
 pub mod InMemory
 pub mod Loading
-pub mod Lines

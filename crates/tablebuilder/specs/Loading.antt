@@ -1,16 +1,11 @@
 -- How a step that reads some of a run's files may go.
-use Rattle.std.specs.Prelude.{◌≡◌, ◌≢◌, ◌≤◌, ℕ, List, length, IfSome, Option, Result, Ok, Err}
-use Rattle.tb_base.specs.Records.{AllFit}
-use Rattle.tb_base.specs.declared.people.TheConstants.{MOST_PERSONS}
-use Rattle.tb_base.specs.declared.records.Record.{Record}
+use Rattle.std.specs.Prelude.{◌≡◌, ◌≢◌, ◌≤◌, ℕ, List, IfSome, Option, Result, Ok, Err}
 use Rattle.tb_io.specs.Faults.{HasRisen}
-use Rattle.tb_model.specs.Schemas.{SchemaValue, shape_of}
-use Rattle.tb_model.specs.Setups.{SetupValue}
 use Rattle.tablebuilder.specs.declared.endings.Input.{Input}
 use Rattle.tablebuilder.specs.declared.endings.End.{End}
 use Rattle.tablebuilder.specs.declared.endings.End.TheVariants as end
 use Rattle.tablebuilder.specs.declared.load.Asked.{Asked}
-use Rattle.tablebuilder.specs.declared.setup.Setup.{Setup}
+use Rattle.tb_text.specs.Setups.{setup_value}
 use Rattle.tablebuilder.specs.Asking.{AskedValue, Contents, contents_at, contents_for, input_place}
 use Rattle.tablebuilder.specs.Calls.{readings_more}
 use Rattle.tablebuilder.specs.Commands.{CommandValue}
@@ -64,14 +59,7 @@ pub record Loads {A B : Type 0} (saw : Reading) (command : CommandValue) (place 
       → (start : Option ℕ) → saw.readings ≡ readings_more before start
       → saw.readings_after ≡ readings_more after start
 
--- a setup, and what is asked for, as the definitions see them
-abbrev pub setup_value : Setup → SetupValue
-setup_value s = record { schema = s.schema; lines = s.ptable; threshold = s.threshold }
-
+-- what is asked for, as the definitions see it
 abbrev pub asked_value : Asked → AskedValue
-asked_value a = record { setup = setup_value a.setup; records = a.people; script = a.script.items }
-
--- records fit the schema and are not too many
-pub record AreCountable (schema : SchemaValue) (records : List Record) : Type 0 where
-  pub fit : AllFit (shape_of schema) records
-  pub few : length records ≤ MOST_PERSONS
+asked_value a =
+    record { setup = setup_value a.setup; records = a.release.records; script = a.script }

@@ -1,7 +1,9 @@
 -- What each status of the top call tells.
-use Rattle.std.specs.Prelude.{◌≡◌, ◌≢◌, ◌⊎◌, ℕ, suc, List, ◌++◌, Option, None, Some, Result, Ok, Err, IfSome, is_some, if◌then◌else◌}
+use Rattle.std.specs.Prelude.{◌≡◌, ◌≢◌, ◌⊎◌, ◌+◌, ◌≤◌, ℕ, suc, List, ◌++◌, Option, None, Some, Result, Ok, Err, IfSome, is_some, if◌then◌else◌}
 use Rattle.tb_base.specs.declared.status.Status.{Status}
 use Rattle.tb_base.specs.declared.status.Status.TheVariants as status
+use Rattle.tb_io.specs.Taken.{TookPart}
+use Rattle.tb_script.specs.Outputs.{ReplyValue, price_of, text_of}
 use Rattle.tablebuilder.specs.declared.endings.Input.{Input}
 use Rattle.tablebuilder.specs.declared.endings.Input.TheVariants as input
 use Rattle.tablebuilder.specs.declared.endings.End.{End}
@@ -10,7 +12,7 @@ use Rattle.tablebuilder.specs.Asking.{AskedValue, asked_by, asked_of, contents_a
 use Rattle.tablebuilder.specs.Calls.{Call, HasTaken, ReadFailed, WriteFailed, readings_more}
 use Rattle.tablebuilder.specs.Commands.{CommandValue, command_of}
 use Rattle.tablebuilder.specs.Endings.{last_line, status_of}
-use Rattle.tablebuilder.specs.Replies.{IsOutput}
+use Rattle.tablebuilder.specs.Outputs.{AreAnswers, IsOutput}
 
 -- how many readings the classification and the recodes take
 abbrev pub class_readings : CommandValue → ℕ
@@ -92,6 +94,15 @@ IsDefined call at s =
     ⊎ ((s ≡ status.Memory)
     ⊎ (((s ≡ status.ReadFault) × ReadFailed call) ⊎ ((s ≡ status.WriteFault) × WriteFailed call)))
 
+-- the counter rose by no more than the price of some replies to the script, of whose text the sink
+-- took a beginning
+abbrev pub IsPriced : Call → (List ℕ → Option (List ℕ)) → Type 0
+IsPriced call at =
+    (asked : AskedValue) × (asked_of at call.words ≡ Ok asked)
+    × ((replies : List ReplyValue) × AreAnswers asked replies
+    × TookPart call.taken call.taken_after (text_of replies)
+    × (call.steps_after ≤ call.steps + price_of replies))
+
 -- what a call keeps, whatever its status
 pub record Keeps (call : Call) (s : Status) : Type 0 where
   -- What the sink took is the text of that status.
@@ -106,3 +117,6 @@ pub record Keeps (call : Call) (s : Status) : Type 0 where
   pub no_net : s ≢ status.NetFault
   -- No status comes but the defined one, Memory, or a fault whose count rose.
   pub exact : IfSome call.content (λ at. IsDefined call at s)
+  -- The counter rises by no more than the replies' price, and not at all where no line is answered.
+  pub price : IfSome call.content (λ at.
+      (call.steps_after ≡ call.steps) ⊎ IsPriced call at)

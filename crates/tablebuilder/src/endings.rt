@@ -1,7 +1,6 @@
 // How a run ends before the first line of its script, and the last line that it then writes.
 
-ghost use Rattle.std.specs.Prelude.{◌≡◌, ◌≤◌, map};
-ghost use Rattle.std.specs.List.{concat};
+ghost use Rattle.std.specs.Prelude.{◌≡◌, ◌≤◌};
 ghost use Rattle.tb_io.specs.Faults.{HasRisen};
 ghost use Rattle.tb_io.specs.Taken.{Took, TookPart};
 ghost use Rattle.tb_io.specs.declared.answers.Wrote.TheVariants as wrote;
@@ -11,7 +10,7 @@ ghost use Rattle.tablebuilder.specs.declared.endings.End.TheVariants as end;
 
 use std::alloc::AllocFailed;
 use tb_base::{Memory, Status, print_number};
-use tb_io::{Sink, Wrote};
+use tb_io::{Sink, Wrote, write_all};
 use tb_rows::{Fault, FaultKind, FaultName};
 use tb_schema::{ClassFile, SchemaFault};
 
@@ -200,22 +199,4 @@ fn write_refusal<O: Sink>(out: &mut O, file: Input, name: &FaultName, at: u32) -
             b"\n",
         ],
     )
-}
-
-// Writes some pieces, one after another, as far as the sink takes them.
-fn write_all<O: Sink>(out: &mut O, pieces: &[&[u8]]) -> Wrote
-    ensures count { O.faults out.old ≤ O.faults out.new }
-    ensures failed { result ≡ wrote.Failed → HasRisen (O.faults out.old) (O.faults out.new) }
-    ensures all { result ≡ wrote.All
-        → Took (O.taken out.old) (O.taken out.new) (concat (map (λ p. p.now) pieces.now)) }
-    ensures part { result ≡ wrote.Failed
-        → TookPart (O.taken out.old) (O.taken out.new) (concat (map (λ p. p.now) pieces.now)) }
-{
-    for piece in pieces {
-        match out.write(piece) {
-            Wrote::All => {}
-            Wrote::Failed => return Wrote::Failed,
-        }
-    }
-    Wrote::All
 }

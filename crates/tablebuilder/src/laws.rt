@@ -9,16 +9,18 @@ ghost use Rattle.tablebuilder.specs.Promises.{IsDefined, defined_status};
 
 use crate::top::tablebuilder;
 use std::alloc::Global;
-use tb_base::Status;
+use std::sync::ledger::Ledger;
+use tb_base::{Status, Steps};
 use tb_io::{MemFiles, MemSink, SureFiles, SureSink};
 
 /// Runs one command over files and a sink whose counts of faults are the constant 0: no fault of
 /// the outside can come, and the status is the one that the arguments and the files define, or Memory.
-pub fn run_surely(
+pub fn run_surely<L: Ledger>(
     alloc: Global,
     words: &[String],
     files: &mut SureFiles,
     out: &mut SureSink,
+    steps: &mut Steps<L>,
 ) -> Status
     ensures read { result ≢ status.ReadFault }
     ensures write { result ≢ status.WriteFault }
@@ -27,27 +29,28 @@ pub fn run_surely(
         (asked_of (λ name. Some (bytes_or_none files.old name)) (map string_bytes words.now)))
         ⊎ (result ≡ status.Memory) }
 {
-    tablebuilder(alloc, words, files, out)
+    tablebuilder(alloc, words, files, out, steps)
 }
 
 /// Runs one command over files and a sink in memory, of which some readings fail and which takes no
 /// more than its bound: the bytes that it adds to those of the sink are told outright.
-pub fn run_in_memory(
+pub fn run_in_memory<L: Ledger>(
     alloc: Global,
     words: &[String],
     files: &mut MemFiles,
     out: &mut MemSink,
+    steps: &mut Steps<L>,
 ) -> Status
     // The bytes are the text of the status.
     ensures bytes { let arguments = map string_bytes words.now in
-        let call = memory_call arguments files.old files.new out.old out.new in
+        let call = memory_call arguments files.old files.new out.old out.new steps.old steps.new in
         Adds call files.old out.old out.new result }
     // A read fault's line names the file of the reading that failed, which was the last.
     ensures read { result ≡ status.ReadFault
         → NamesTheFailingRead (map string_bytes words.now) files.old files.new out.old out.new }
     ensures defined { let arguments = map string_bytes words.now in
-        let call = memory_call arguments files.old files.new out.old out.new in
+        let call = memory_call arguments files.old files.new out.old out.new steps.old steps.new in
         IsDefined call (bytes_of files.old.held) result }
 {
-    tablebuilder(alloc, words, files, out)
+    tablebuilder(alloc, words, files, out, steps)
 }

@@ -1,35 +1,37 @@
 // The files of a run, read in their order.
 
-ghost use Rattle.std.specs.Prelude.{◌≡◌, ◌≤◌, ◌<◌, ℕ, suc, List, Option, length, All, IfOk, option_map};
+ghost use Rattle.std.specs.Prelude.{◌≡◌, ◌≤◌, ℕ, suc, List, Option, length, IfOk, option_map};
+ghost use Rattle.tb_base.specs.Records.{AllFit};
+ghost use Rattle.tb_model.specs.Releases.{first_release};
+ghost use Rattle.tb_model.specs.Schemas.{shape_of};
+ghost use Rattle.tb_model.specs.Setups.{SetupValue};
 ghost use Rattle.tablebuilder.specs.declared.endings.Input.TheVariants as input;
 ghost use Rattle.tablebuilder.specs.Asking.{asked_over, bytes_in, contents_at, input_place, most_bytes, people_in, perturbation_in, recodes_in, schema_in, script_in};
-ghost use Rattle.tablebuilder.specs.Loading.{AreCountable, Loads, asked_value, reading};
+ghost use Rattle.tablebuilder.specs.Loading.{Loads, asked_value, reading};
 ghost use Rattle.tablebuilder.specs.Promises.{class_readings, readings_before};
+ghost use Rattle.tb_text.specs.Setups.{setup_value};
 
 use crate::command::Command;
 use crate::endings::{End, Input};
-use crate::script::read_script;
-use crate::setup::Setup;
 use std::alloc::Global;
-use tb_base::People;
+use tb_base::Memory;
 use tb_io::{FileRead, Files};
 use tb_ptable::PTable;
 use tb_records::read_people;
+use tb_release::Release;
 use tb_schema::Schema;
+use tb_script::{MOST_SCRIPT_BYTES, Script, ScriptFault};
+use tb_text::Setup;
 
 /// The most bytes that a file may have, the script apart: 256 MiB.
 pub const MOST_BYTES: u64 = 268_435_456;
 
-/// The most bytes that a script may have: 16 MiB.
-pub const MOST_SCRIPT_BYTES: u64 = 16_777_216;
-
-/// What a run is asked for: the setup, the microdata's records, and the variable that each line of
-/// the script asks for.
+/// What a run is asked for: the setup, release 0 of the microdata, and the script.
 #[derive(Drop)]
 pub struct Asked {
     pub setup: Setup,
-    pub people: People,
-    pub script: Vec<u16>,
+    pub release: Release,
+    pub script: Script,
 }
 
 fn most_bytes_of(file: Input) -> u64
@@ -37,7 +39,7 @@ fn most_bytes_of(file: Input) -> u64
 {
     match file {
         Input::Classes | Input::Recodes | Input::Ptable | Input::People => MOST_BYTES,
-        Input::Script => MOST_SCRIPT_BYTES,
+        Input::Script => MOST_SCRIPT_BYTES as u64,
     }
 }
 
@@ -131,57 +133,61 @@ fn load_ptable<F: Files>(alloc: Global, files: &mut F, command: &Command<'_>) ->
     }
 }
 
+// The microdata's release 0.
 fn load_people<F: Files>(
     alloc: Global,
     files: &mut F,
     command: &Command<'_>,
     schema: &Schema,
-) -> Result<People, End>
-    ensures countable { IfOk result (λ people. AreCountable schema.now people) }
+) -> Result<Release, End>
+    ensures fit { IfOk result (λ release. AllFit (shape_of schema.now) release.records) }
+    ensures first { (setup : SetupValue) → IfOk result
+        (λ release. release ≡ first_release setup release.records) }
     ensures loads { Loads
         (reading F.content F.faults F.readings files.old files.new)
         command.now
         3
         (suc (class_readings command.now))
         (suc (suc (class_readings command.now)))
-        (λ people. people)
+        (λ release. release.records)
         (people_in schema.now) result }
 {
     let bytes = read_bytes(alloc, files, command, Input::People, command.people)?;
     match read_people(alloc, schema, &bytes) {
-        Ok(people) => Ok(people),
+        Ok(people) => match Release::first(alloc, people) {
+            Ok(release) => Ok(release),
+            Err(Memory) => Err(End::Memory),
+        },
         Err(fault) => Err(End::of(Input::People, fault)),
     }
 }
 
-fn load_script<F: Files>(
-    alloc: Global,
-    files: &mut F,
-    command: &Command<'_>,
-    schema: &Schema,
-) -> Result<Vec<u16>, End>
-    ensures there { IfOk result
-        (λ script. All (λ v. v < length schema.now.variables) script.items) }
+fn load_script<F: Files>(alloc: Global, files: &mut F, command: &Command<'_>) -> Result<Script, End>
     ensures loads { Loads
         (reading F.content F.faults F.readings files.old files.new)
         command.now
         4
         (suc (suc (class_readings command.now)))
         (suc (suc (suc (class_readings command.now))))
-        (λ script. script.items)
-        (script_in schema.now) result }
+        (λ script. script)
+        script_in result }
 {
     let bytes = read_bytes(alloc, files, command, Input::Script, command.script)?;
-    read_script(alloc, schema, &bytes)
+    match Script::read(alloc, &bytes) {
+        Ok(script) => Ok(script),
+        Err(ScriptFault::Line(line)) => Err(End::BadLine(line)),
+        Err(ScriptFault::Memory) => Err(End::Memory),
+    }
 }
 
 /// Reads the files of a command: CLASSES and RECODES, both before either is checked, then PTABLE,
 /// PEOPLE and SCRIPT, each checked before the next is read. It takes memory for each file while it
 /// is read, and for what it says.
 pub fn load<F: Files>(alloc: Global, files: &mut F, command: &Command<'_>) -> Result<Asked, End>
-    ensures countable { IfOk result (λ asked. AreCountable asked.setup.schema asked.people) }
-    ensures there { IfOk result
-        (λ asked. All (λ v. v < length asked.setup.schema.variables) asked.script.items) }
+    ensures fit { IfOk result
+        (λ asked. AllFit (shape_of asked.setup.schema) asked.release.records) }
+    ensures first { IfOk result
+        (λ asked. asked.release ≡ first_release (setup_value asked.setup) asked.release.records) }
     ensures loads { Loads
         (reading F.content F.faults F.readings files.old files.new)
         command.now
@@ -193,8 +199,8 @@ pub fn load<F: Files>(alloc: Global, files: &mut F, command: &Command<'_>) -> Re
 {
     let schema = load_schema(alloc, files, command)?;
     let ptable = load_ptable(alloc, files, command)?;
-    let people = load_people(alloc, files, command, &schema)?;
-    let script = load_script(alloc, files, command, &schema)?;
+    let release = load_people(alloc, files, command, &schema)?;
+    let script = load_script(alloc, files, command)?;
     let threshold = command.threshold;
     Ok(Asked {
         setup: Setup {
@@ -202,7 +208,7 @@ pub fn load<F: Files>(alloc: Global, files: &mut F, command: &Command<'_>) -> Re
             ptable,
             threshold,
         },
-        people,
+        release,
         script,
     })
 }

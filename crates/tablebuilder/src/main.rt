@@ -6,23 +6,22 @@
 #![tactic(auto)]
 
 mod command;
-mod count;
 mod endings;
 mod laws;
 mod load;
-mod replies;
-mod script;
-mod setup;
-mod text;
 mod top;
+
+ghost use Rattle.std.specs.Prelude.{◌≡◌, ◌<◌};
 
 use endings::End;
 use std::alloc::AllocError;
 use std::io::ErrorKind;
+use std::marker::Brand;
 use std::process::ExitCode;
 use std::rt::{Env, Files as FileSystem};
+use std::sync::ledger::{Blank, Ledger};
 use std::{env, io};
-use tb_base::Status;
+use tb_base::{Status, Steps};
 use tb_io::{RealFiles, RealSink, Wrote};
 
 #[cfg(test)]
@@ -37,25 +36,32 @@ fn arguments<R: Env + AllocGlobal>(rt: &R) -> io::Result<Vec<String>> {
     Ok(words)
 }
 
-// Runs the command of the arguments over the system's files, writing into `out`.
-fn run_command<R: Env + FileSystem + Print + AllocGlobal>(
+// Runs the command of the arguments over the system's files, writing into `out`, with a counter of
+// its own.
+fn run_command<R: Env + FileSystem + Print + AllocGlobal, L: Ledger>(
     rt: &R,
     out: &mut RealSink<'_, R>,
-) -> Status {
+    blank: Blank,
+) -> Status
+    requires name { blank.name ≡ L.name }
+    requires parts { blank.parts ≡ L.parts }
+    requires some { 0 < L.parts }
+{
     let words = match arguments(rt) {
         Ok(words) => words,
         Err(e) if e.kind() == ErrorKind::OutOfMemory => return top::end_by(&End::Memory, out),
         // An argument that isn't UTF-8 is none of the command's.
         Err(_) => return top::end_by(&End::Usage, out),
     };
-    top::tablebuilder(rt.alloc(), &words, &mut RealFiles::new(rt), out)
+    let mut steps = Steps::<L>::new(blank);
+    top::tablebuilder(rt.alloc(), &words, &mut RealFiles::new(rt), out, &mut steps)
 }
 
 fn run<R: Env + FileSystem + Print + AllocGlobal>(rt: &R) -> Status {
     let Ok(mut out) = RealSink::new(rt, rt.alloc()) else {
         return Status::Memory;
     };
-    let status = run_command(rt, &mut out);
+    let status = run_command::<R, Brand>(rt, &mut out, Blank::new(1));
     match out.flush() {
         Wrote::All => status,
         Wrote::Failed => Status::WriteFault,

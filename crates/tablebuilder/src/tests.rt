@@ -1,14 +1,19 @@
 // Whole runs over files and a sink in memory.
 
-use crate::laws::run_in_memory;
+ghost use Rattle.std.specs.Prelude.{◌≡◌, ◌<◌};
+
+use crate::laws::{run_in_memory, run_surely};
 use std::alloc::Global;
-use tb_base::Memory;
-use tb_io::{MemFiles, MemSink};
+use std::marker::Brand;
+use std::sync::ledger::{Blank, Ledger};
+use tb_base::{Memory, Status, Steps};
+use tb_io::{MemFiles, MemSink, SureFiles, SureSink};
 
 mod cuts;
 mod limits;
 mod memory;
 mod order;
+mod queries;
 mod rows;
 
 pub const CLASSES: &[u8] = b"variable,code,label\nSEX,1,Male\nSEX,2,Female\nAGE,0-15,Under 16\n\
@@ -35,6 +40,47 @@ pub fn arguments(alloc: Global, text: &str) -> Result<Vec<String>, Memory> {
         words.push(String::from_str(alloc, word)?)?;
     }
     Ok(words)
+}
+
+// A run over forms in memory, with a counter of its own.
+fn count_in_memory<L: Ledger>(
+    alloc: Global,
+    words: &[String],
+    files: &mut MemFiles,
+    out: &mut MemSink,
+    blank: Blank,
+) -> Status
+    requires name { blank.name ≡ L.name }
+    requires parts { blank.parts ≡ L.parts }
+    requires some { 0 < L.parts }
+{
+    let mut steps = Steps::<L>::new(blank);
+    run_in_memory(alloc, words, files, out, &mut steps)
+}
+
+// The same over forms that never fail.
+fn count_surely<L: Ledger>(
+    alloc: Global,
+    words: &[String],
+    files: &mut SureFiles,
+    out: &mut SureSink,
+    blank: Blank,
+) -> Status
+    requires name { blank.name ≡ L.name }
+    requires parts { blank.parts ≡ L.parts }
+    requires some { 0 < L.parts }
+{
+    let mut steps = Steps::<L>::new(blank);
+    run_surely(alloc, words, files, out, &mut steps)
+}
+
+pub fn run_over(
+    alloc: Global,
+    words: &[String],
+    files: &mut SureFiles,
+    out: &mut SureSink,
+) -> Status {
+    count_surely::<Brand>(alloc, words, files, out, Blank::new(1))
 }
 
 // The number of the status whose last line, if it is one, a text ends with.
@@ -77,7 +123,7 @@ pub fn is_so(
     }
     let words = arguments(alloc, command)?;
     let mut out = MemSink::new(alloc, bound)?;
-    let status = run_in_memory(alloc, &words, &mut files, &mut out);
+    let status = count_in_memory::<Brand>(alloc, &words, &mut files, &mut out, Blank::new(1));
     let number = if want.len() > bound {
         8
     } else {

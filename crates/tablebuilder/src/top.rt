@@ -1,19 +1,27 @@
 // The top call.
 
-ghost use Rattle.std.specs.Prelude.{◌≡◌, ◌⊎◌, map, string_bytes};
+ghost use Rattle.std.specs.Prelude.{◌≡◌, ◌⊎◌, ◌+◌, ◌≤◌, List, map, string_bytes};
+ghost use Rattle.tb_base.specs.Records.{AllFit};
 ghost use Rattle.tb_base.specs.declared.status.Status.TheVariants as status;
 ghost use Rattle.tb_io.specs.Faults.{HasRisen};
 ghost use Rattle.tb_io.specs.Taken.{Took, TookPart};
+ghost use Rattle.tb_model.specs.Releases.{first_release};
+ghost use Rattle.tb_model.specs.Schemas.{shape_of};
+ghost use Rattle.tb_script.specs.Outputs.{ReplyValue, price_of, text_of};
+ghost use Rattle.tb_text.specs.Setups.{setup_value};
 ghost use Rattle.tablebuilder.specs.Endings.{last_line, status_of};
+ghost use Rattle.tablebuilder.specs.Loading.{asked_value};
+ghost use Rattle.tablebuilder.specs.Outputs.{AreAnswers};
 ghost use Rattle.tablebuilder.specs.Promises.{Keeps};
 
 use crate::command::read_command;
 use crate::endings::End;
-use crate::load::load;
-use crate::replies::run_script;
+use crate::load::{Asked, load};
 use std::alloc::Global;
-use tb_base::Status;
+use std::sync::ledger::Ledger;
+use tb_base::{Status, Steps};
 use tb_io::{Files, Sink, Wrote};
+use tb_script::{RunEnd, run_script};
 
 /// Writes the last line of a run that ends before the first line of its script, and returns how the
 /// run ended.
@@ -30,21 +38,51 @@ pub fn end_by<O: Sink>(end: &End, out: &mut O) -> Status
     }
 }
 
+// Answers the script that is asked for.
+fn answer<O: Sink, L: Ledger>(
+    alloc: Global,
+    asked: &Asked,
+    out: &mut O,
+    steps: &mut Steps<L>,
+) -> Status
+    requires fit { AllFit (shape_of asked.now.setup.schema) asked.now.release.records }
+    requires first { asked.now.release
+        ≡ first_release (setup_value asked.now.setup) asked.now.release.records }
+    ensures { ((result ≡ status.Done) × ((replies : List ReplyValue)
+        × AreAnswers (asked_value asked.now) replies
+        × Took (O.taken out.old) (O.taken out.new) (text_of replies)
+        × (steps.new ≤ steps.old + price_of replies)))
+        ⊎ ((result ≡ status.WriteFault)
+        × HasRisen (O.faults out.old) (O.faults out.new)
+        × ((replies : List ReplyValue)
+        × AreAnswers (asked_value asked.now) replies
+        × TookPart (O.taken out.old) (O.taken out.new) (text_of replies)
+        × (steps.new ≤ steps.old + price_of replies))) }
+{
+    match run_script(alloc, &asked.setup, &asked.release, &asked.script, out, steps) {
+        RunEnd::Done => Status::Done,
+        RunEnd::WriteFault => Status::WriteFault,
+        RunEnd::Memory => end_by(&End::Memory, out),
+    }
+}
+
 /// Runs one command: reads its files, writes the reply to each line of its script into `out`, and
 /// returns how the run ended. Where it ends before the first line, the last line that `out` takes
 /// tells why.
 ///
 /// The arguments are `script CLASSES RECODES PTABLE PEOPLE THRESHOLD SCRIPT`; others are refused. A
-/// printed table is the perturbed table counted from scratch over the microdata. A line whose table
-/// finds no memory gets the reply `memory`, and the next line is answered. It takes memory for the
-/// files, for what they say, and for one table at a time.
-pub fn tablebuilder<F: Files, O: Sink>(
+/// printed table is the perturbed table counted from scratch over the microdata, and a query is
+/// refused for the first fault of its text. A line that finds no memory gets the reply `memory`,
+/// and the next line is answered. The counter rises by how many records are lent: once for each
+/// table. It takes memory for the files, for what they say, and for one table at a time.
+pub fn tablebuilder<F: Files, O: Sink, L: Ledger>(
     alloc: Global,
     words: &[String],
     files: &mut F,
     out: &mut O,
+    steps: &mut Steps<L>,
 ) -> Status
-    // What the call keeps, promise by promise, over what it saw of its files and its sink.
+    // What the call keeps, promise by promise, over what it saw.
     ensures { Keeps
         (record {
           words = map string_bytes words.now;
@@ -57,15 +95,14 @@ pub fn tablebuilder<F: Files, O: Sink>(
           write_faults_after = O.faults out.new;
           taken = O.taken out.old;
           taken_after = O.taken out.new;
+          steps = steps.old;
+          steps_after = steps.new;
         })
         result }
 {
     match read_command(words) {
         Some(command) => match load(alloc, files, &command) {
-            Ok(asked) => match run_script(alloc, &asked, out) {
-                Wrote::All => Status::Done,
-                Wrote::Failed => Status::WriteFault,
-            },
+            Ok(asked) => answer(alloc, &asked, out, steps),
             Err(end) => end_by(&end, out),
         },
         None => end_by(&End::Usage, out),

@@ -1,3 +1,4 @@
 pub mod FaultLemmas
 pub mod HeldLemmas
+pub mod Taking
 pub mod TakenLemmas

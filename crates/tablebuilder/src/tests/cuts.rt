@@ -9,9 +9,9 @@ const SCRIPT: &[u8] = b"a table SEX\na table AREA\r\n";
 // that is the first with another text, and the text.
 type Cut = (&'static str, usize, &'static [u8]);
 
-static CUTS: [Cut; 65] = [
+static CUTS: [Cut; 71] = [
     ("classes", 19, b"fault classes 1 BadHeader 0\n"),
-    ("classes", 21, b"fault script 1\n"),
+    ("classes", 21, b"refused 3 UnknownName 2\n"),
     ("classes", 26, b"fault classes 10 BadCsv 1\n"),
     ("classes", 32, b"fault people 4 UnknownCode 4\n"),
     ("classes", 37, b"fault classes 10 BadCsv 2\n"),
@@ -69,15 +69,37 @@ static CUTS: [Cut; 65] = [
     ("people", 100, b"fault people 4 UnknownCode 4\n"),
     ("people", 102, b"release 0\nSEX,count\n1,1\n2,2\n.\n"),
     ("script", 1, b""),
-    ("script", 11, b"fault script 1\n"),
+    ("script", 3, b"fault script 1\n"),
+    ("script", 7, b"refused 2 Syntax 1\n"),
+    ("script", 9, b"refused 2 Syntax 2\n"),
+    ("script", 11, b"refused 3 UnknownName 2\n"),
     ("script", 13, b"release 0\nSEX,count\n1,1\n2,2\n.\n"),
-    ("script", 24, b"fault script 2\n"),
+    ("script", 15, b"fault script 2\n"),
+    (
+        "script",
+        19,
+        b"release 0\nSEX,count\n1,1\n2,2\n.\nrefused 2 Syntax 1\n",
+    ),
+    (
+        "script",
+        21,
+        b"release 0\nSEX,count\n1,1\n2,2\n.\nrefused 2 Syntax 2\n",
+    ),
+    (
+        "script",
+        24,
+        b"release 0\nSEX,count\n1,1\n2,2\n.\nrefused 3 UnknownName 2\n",
+    ),
     (
         "script",
         25,
         b"release 0\nSEX,count\n1,1\n2,2\n.\nrelease 0\nAREA,count\nE1,2\nE2,1\n.\n",
     ),
-    ("script", 26, b"fault script 2\n"),
+    (
+        "script",
+        26,
+        b"release 0\nSEX,count\n1,1\n2,2\n.\nrefused 1 NotText 11\n",
+    ),
     (
         "script",
         27,

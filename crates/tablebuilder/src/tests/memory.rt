@@ -1,7 +1,6 @@
 // Calls that can run out of memory, each with ample memory.
 
-use super::{CLASSES, PEOPLE, PTABLE, RECODES, SEX, WITH_RECODES, arguments};
-use crate::laws::run_surely;
+use super::{CLASSES, PEOPLE, PTABLE, RECODES, SEX, WITH_RECODES, arguments, run_over};
 use std::alloc::Global;
 use std::test::Fail;
 use tb_base::{Cell, Codes, Memory, People, Record, Shape, Status, VarSet};
@@ -91,7 +90,7 @@ fn is_answered(alloc: Global) -> Result<bool, Memory> {
     let mut files = small_setup(alloc)?;
     let words = arguments(alloc, WITH_RECODES)?;
     let mut out = SureSink::new(alloc);
-    let status = run_surely(alloc, &words, &mut files, &mut out);
+    let status = run_over(alloc, &words, &mut files, &mut out);
     Ok(status == Status::Done && out.text()? == SEX)
 }
 

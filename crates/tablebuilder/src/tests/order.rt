@@ -1,7 +1,6 @@
 // The order of the files and the arguments of the command.
 
-use super::{SEX, WITH_RECODES, WITHOUT_RECODES, is_so};
-use crate::laws::run_surely;
+use super::{SEX, WITH_RECODES, WITHOUT_RECODES, is_so, run_over};
 use std::test::Fail;
 use tb_base::Status;
 use tb_io::{SureFiles, SureSink};
@@ -177,7 +176,7 @@ fn arguments_of_the_command(rt: HostRuntime) -> Result<(), Fail> {
     // No arguments at all, over forms that never fail.
     let mut out = SureSink::new(rt.alloc());
     let none = Vec::new(rt.alloc());
-    let status = run_surely(rt.alloc(), &none, &mut SureFiles::new(rt.alloc()), &mut out);
+    let status = run_over(rt.alloc(), &none, &mut SureFiles::new(rt.alloc()), &mut out);
     assert_eq!(rt; status, Status::Usage);
     assert_eq!(rt; out.text()?, b"fault usage\n".as_slice());
     Ok(())

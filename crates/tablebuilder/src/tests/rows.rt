@@ -13,7 +13,7 @@ type Row = (
     &'static [u8],
 );
 
-static ROWS: [Row; 21] = [
+static ROWS: [Row; 19] = [
     ("one_variable", "0", "script", b"a table SEX\n", SEX),
     ("one_variable", "0", "script", b"a table SEX", SEX),
     (
@@ -117,25 +117,11 @@ static ROWS: [Row; 21] = [
         b"fault script 3\n",
     ),
     (
-        "command_faults",
+        "lines_without_reply",
         "0",
         "script",
-        b"a table SEX\n\n",
-        b"fault script 2\n",
-    ),
-    (
-        "command_faults",
-        "0",
-        "script",
-        b"a table  SEX\n",
-        b"fault script 1\n",
-    ),
-    (
-        "a_recode_has_no_table_yet",
-        "0",
-        "script",
-        b"a table AGE2\n",
-        b"fault script 1\n",
+        b"# a comment\n\na \ttable  SEX\t\n--\n \t\nb #table SEX\n",
+        SEX,
     ),
     (
         "command_faults",

@@ -1,6 +1,6 @@
 use Rattle.std.proofs.Common.{arith}
 use Rattle.std.proofs.lemmas.Grind.{common_steps}
-use Rattle.tablebuilder.proofs.Taking.{TookPart-same}
+use Rattle.tb_io.proofs.Taking.{TookPart-same}
 use Rattle.tablebuilder.proofs.endings.write_refusal.Goals as goal
 
 pub returns-clause-part : goal.returns-clause-part

@@ -1,6 +1,6 @@
 use Rattle.std.proofs.Common.{arith}
 use Rattle.std.proofs.lemmas.Grind.{common_steps}
-use Rattle.tablebuilder.proofs.Taking.{Took-same, TookPart-same}
+use Rattle.tb_io.proofs.Taking.{Took-same, TookPart-same}
 use Rattle.tablebuilder.proofs.endings.End.write_last_line.Goals as goal
 
 pub returns-in-BadLine-clause-all : goal.returns-in-BadLine-clause-all

@@ -1,7 +1,7 @@
 use Rattle.std.proofs.Common.{map, [], arith, refl}
 use Rattle.std.proofs.lemmas.List.{get_or-map, length-map}
-use Rattle.tablebuilder.proofs.Taking.{Took-more, TookPart-more}
-use Rattle.tablebuilder.proofs.endings.write_all.Goals as goal
+use Rattle.tb_io.proofs.Taking.{Took-more, TookPart-more}
+use Rattle.tb_io.proofs.pieces.write_all.Goals as goal
 
 pub returns-in-Failed-clause-part : goal.returns-in-Failed-clause-part
 returns-in-Failed-clause-part g c = λ _.

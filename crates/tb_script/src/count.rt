@@ -1,0 +1,63 @@
+// A query's table over a release.
+
+ghost use Rattle.std.specs.Prelude.{◌≡◌, ◌+◌, ◌≤◌, IfOk, length};
+ghost use Rattle.tb_base.specs.Records.{AllFit};
+ghost use Rattle.tb_model.specs.Places.{cells_of};
+ghost use Rattle.tb_model.specs.Queries.{QueryValue};
+ghost use Rattle.tb_model.specs.Schemas.{SchemaValue, shape_of};
+ghost use Rattle.tb_model.specs.Texts.{table_text as text_of_table};
+ghost use Rattle.tb_plan.specs.Plans.{plan_of};
+ghost use Rattle.tb_query.specs.Over.{IsOver};
+ghost use Rattle.tb_text.specs.Setups.{setup_value};
+
+use std::alloc::Global;
+use std::sync::ledger::Ledger;
+use tb_base::{Cell, Memory, Steps};
+use tb_plan::Plan;
+use tb_query::Query;
+use tb_release::Release;
+use tb_scan::{empty_cells, put_all, put_totals};
+use tb_text::{Setup, table_text};
+
+// The cells of a plan's table over a release, whose records are lent once. It takes memory for the
+// cells alone.
+fn count<L: Ledger>(
+    alloc: Global,
+    plan: &Plan,
+    release: &Release,
+    steps: &mut Steps<L>,
+) -> Result<Vec<Cell>, Memory>
+    requires fit { AllFit plan.now.shape release.now.records }
+    ensures price { steps.new ≤ steps.old + length release.now.records }
+    ensures cells { (schema : SchemaValue) (query : QueryValue) → plan.now ≡ plan_of schema query
+        → IfOk result (λ cells. cells.items ≡ cells_of schema query release.now.records) }
+{
+    release.soundness();
+    let mut cells = empty_cells(alloc, plan)?;
+    let lent = release.lend(steps);
+    for i in 0..lent.pieces() {
+        put_all(plan, lent.piece(i), &mut cells);
+    }
+    put_totals(plan, &mut cells);
+    Ok(cells)
+}
+
+/// The text of a query's table over a release, whose records are lent once. It takes memory for
+/// the plan, the cells and the text.
+pub fn print_table<L: Ledger>(
+    alloc: Global,
+    setup: &Setup,
+    release: &Release,
+    query: &Query,
+    steps: &mut Steps<L>,
+) -> Result<Vec<u8>, Memory>
+    requires over { IsOver setup.now.schema query.now }
+    requires fit { AllFit (shape_of setup.now.schema) release.now.records }
+    ensures price { steps.new ≤ steps.old + length release.now.records }
+    ensures text { IfOk result (λ text. text.items
+        ≡ text_of_table (setup_value setup.now) release.now query.now) }
+{
+    let plan = Plan::of(alloc, &setup.schema, query)?;
+    let cells = count(alloc, &plan, release, steps)?;
+    table_text(alloc, setup, query, release.number(), &cells)
+}
