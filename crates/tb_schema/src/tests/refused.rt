@@ -109,15 +109,19 @@ fn files() -> &'static [File] {
     &FILES
 }
 
+// The classification is tested wholly before the recodes: none, good ones, bad ones.
+static BESIDE: [Option<&'static [u8]>; 3] = [None, Some(AGE2), Some(b"")];
+
+fn beside() -> &'static [Option<&'static [u8]>] {
+    &BESIDE
+}
+
 #[test]
 fn refused_files(rt: HostRuntime) -> Result<(), Fail> {
-    let good: Option<&[u8]> = Some(AGE2);
-    let bad: Option<&[u8]> = Some(b"");
     for (file, kind, at) in files() {
         let want = fault_at(ClassFile::Classes, *kind, *at);
-        // The classification is tested wholly before the recodes.
-        for recodes in [None, good, bad] {
-            assert_eq!(rt; fault_of(rt.alloc(), file, recodes), Some(want));
+        for recodes in beside() {
+            assert_eq!(rt; fault_of(rt.alloc(), file, *recodes), Some(want));
         }
     }
     Ok(())
