@@ -1,0 +1,36 @@
+use Rattle.std.proofs.Common.{ℕ, ◌≡◌, ◌+◌, ◌-◌, ◌*◌, ◌%◌, ◌<◌, ◌∙◌, ap, sym, inl, inr, arith}
+use Rattle.std.proofs.lemmas.Bool.{cases_lt, cases_order}
+use Rattle.tb_grid.specs.Totals.{modulus}
+use Rattle.tb_grid.proofs.Sums.{sum-range}
+use Rattle.tb_grid.proofs.Rows.{block-before, row-before, block-after, one-block}
+use Rattle.tb_grid.proofs.totals.untotal_blocks.Goals as goal
+
+pub loop-block-preserved : goal.loop-block-preserved
+loop-block-preserved c =
+    let n : ℕ = c.args.n in
+    let m : ℕ = c.args.m in
+    let b : ℕ = c.loop-block.block in
+    let next : (b + 1) * (n * m) ≡ b * (n * m) + n * m = one-block b (n * m) in
+    record {
+      last = λ p o r before below. elim (cases_lt o b) [
+        | inl h ↦
+            c.loop-block.invariant.last p o r h below
+            ∙ ap (λ x. x % modulus p) (sum-range _ _ 0 n (λ e inside.
+            let low : o * (n * m) + e * m + r < b * (n * m) = block-before o b n m e r h (omega arith) below in
+            sym (c.untotal_rows.ensures.rest p (o * (n * m) + e * m + r) (inl (omega arith)))))
+        | inr h ↦
+            let here : o ≡ b = omega arith in
+            rw here (ap (λ x. x % modulus p) (sym (c.loop-block.invariant.later p (b * (n * m) + (n - 1) * m + r) (omega arith))) ∙ c.untotal_rows.ensures.last p r below)
+      ];
+      rest = λ p o q r before below.
+          let i : ℕ = o * (n * m) + q * m + r in
+          let inner = row-before n m q r before below in
+          c.untotal_rows.ensures.rest p i (elim (cases_order o b) [
+            | inl h ↦ inl (rw h (omega arith))
+            | inr h ↦ elim h [
+              | inl k ↦ let low : i < b * (n * m) = block-before o b n m q r k (omega arith) below in inl (omega arith)
+              | inr k ↦ inr (omega (arith, block-after b o (n * m) k))
+            ]
+          ]) ∙ c.loop-block.invariant.rest p o q r before below;
+      later = λ p i after. c.untotal_rows.ensures.rest p i (inr (omega arith)) ∙ c.loop-block.invariant.later p i (omega arith);
+    }

@@ -1,0 +1,15 @@
+//! Dense arrays of cells in row-major order: how many cells there are, and the places with Total.
+//!
+//! It stands on `tb_base` and `tb_model`. A table's cells are one array, a record is put into the
+//! cell of its place without Total, and `add_totals` then makes the others. Its contracts cite
+//! `specs/Totals` (which cells a place with Total sums, each part modulo its modulus) and
+//! `specs/Products` (the size of a cube).
+#![tactic(auto)]
+
+mod cells;
+mod products;
+mod totals;
+
+pub use cells::{know_cells, minus, plus};
+pub use products::{MOST_CELLS, cells_over, places_from};
+pub use totals::{add_totals, take_totals};

@@ -1,0 +1,4 @@
+pub mod Plans
+pub mod Whole
+pub mod Steps
+pub mod Views

@@ -1,0 +1,14 @@
+//! The cells of a table, counted from records.
+//!
+//! It stands on `tb_base`, `tb_model`, `tb_grid` and `tb_plan`. `scan_into` merges each cell with
+//! that of the piece's own records. A caller that has many pieces and no cells yet begins with
+//! `empty_cells`, calls `put_all` for each piece and `put_totals` once at the end. Its contracts
+//! cite `Places.cells_of` of `tb_model` (a table's cells, counted from scratch) and here
+//! `specs/Scanning` (what records add at a place without Total).
+#![tactic(auto)]
+
+mod put;
+mod scan;
+
+pub use put::put_all;
+pub use scan::{empty_cells, put_totals, scan_into};

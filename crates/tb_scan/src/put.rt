@@ -1,0 +1,140 @@
+// Records put into the cells of their places without Total. Most tables use one to three variables:
+// for these the loops are written out, and the steps of a variable looked up before the loop.
+
+ghost use Rattle.std.specs.Prelude.{◌≡◌, ℕ, List, ◌+◌, ◌++◌, ◌%◌, ◌<◌, cond, length, slice_index};
+ghost use Rattle.std.specs.Prelude.{◌==◌, ◌^◌};
+ghost use Rattle.tb_base.specs.declared.records.Record.{Record as AnyRecord};
+ghost use Rattle.tb_base.specs.Records.{category_at, AllFit, Fits};
+ghost use Rattle.tb_grid.specs.Totals.{modulus, part_at, Part};
+ghost use Rattle.tb_plan.specs.Plans.{vars_of};
+ghost use Rattle.tb_plan.specs.Steps.{number_at};
+ghost use Rattle.tb_scan.specs.Scanning.{weight, ArePut, Hold};
+
+use tb_base::{Cell, Record};
+use tb_grid::plus;
+use tb_plan::Plan;
+
+// Puts a record into the cell of a number; past the cells it does nothing.
+#[inline]
+fn put_at(cells: &mut [Cell], number: usize, one: &Record)
+    ensures { (p : Part) (i : ℕ) → i < length cells.old
+        → part_at p cells.new i % modulus p
+        ≡ (part_at p cells.old i + cond (number == i) (weight p one.now) 0) % modulus p }
+{
+    if number < cells.len() {
+        let alone = Cell {
+            count: 1,
+            key: one.key,
+        };
+        cells[number] = plus(cells[number], alone);
+    }
+}
+
+// The step of a record's category, among the steps of its variable.
+#[inline]
+fn step_of(steps: &[u32], v: u16, one: &Record) -> usize
+    requires there { v < length one.now.codes }
+    requires known { category_at one.now v < length steps.now }
+    ensures step { result ≡ slice_index steps.now (category_at one.now v) }
+    ensures few { result < 2 ^ 32 }
+{
+    steps[one.codes.at(v as usize) as usize] as usize
+}
+
+// The number to which a record leads: that of its place without Total, or one past all places
+// where it fails a filter.
+#[inline]
+fn number_of(plan: &Plan, one: &Record) -> usize
+    requires { Fits plan.now.shape one.now }
+    ensures { result ≡ number_at plan.now (category_at one.now) }
+{
+    let vars = plan.vars();
+    let mut number = 0;
+    for j in 0..vars.len() {
+        let v = vars.at(j);
+        let step = step_of(plan.steps(v), v, one);
+        number += step;
+    }
+    number
+}
+
+// Puts the records of a piece in, whatever the number of variables.
+fn put_by_any(plan: &Plan, piece: &[Record], cells: &mut [Cell])
+    requires fit { AllFit plan.now.shape piece.now }
+    ensures { ArePut plan.now cells.old piece.now cells.new }
+{
+    for one in piece {
+        put_at(cells, number_of(plan, one), one);
+    }
+}
+
+// The same by one variable.
+fn put_by_one(plan: &Plan, piece: &[Record], cells: &mut [Cell])
+    requires vars { length (vars_of plan.now) ≡ 1 }
+    requires fit { AllFit plan.now.shape piece.now }
+    ensures { ArePut plan.now cells.old piece.now cells.new }
+{
+    let v = plan.vars().at(0);
+    let steps = plan.steps(v);
+    for one in piece {
+        put_at(cells, step_of(steps, v, one), one);
+    }
+}
+
+// The same by two variables.
+fn put_by_two(plan: &Plan, piece: &[Record], cells: &mut [Cell])
+    requires vars { length (vars_of plan.now) ≡ 2 }
+    requires fit { AllFit plan.now.shape piece.now }
+    ensures { ArePut plan.now cells.old piece.now cells.new }
+{
+    let v = plan.vars().at(0);
+    let w = plan.vars().at(1);
+    let of_v = plan.steps(v);
+    let of_w = plan.steps(w);
+    for one in piece {
+        let by_v = step_of(of_v, v, one);
+        let by_w = step_of(of_w, w, one);
+        put_at(cells, by_v + by_w, one);
+    }
+}
+
+// The same by three variables.
+fn put_by_three(plan: &Plan, piece: &[Record], cells: &mut [Cell])
+    requires vars { length (vars_of plan.now) ≡ 3 }
+    requires fit { AllFit plan.now.shape piece.now }
+    ensures { ArePut plan.now cells.old piece.now cells.new }
+{
+    let v = plan.vars().at(0);
+    let w = plan.vars().at(1);
+    let x = plan.vars().at(2);
+    let of_v = plan.steps(v);
+    let of_w = plan.steps(w);
+    let of_x = plan.steps(x);
+    for one in piece {
+        let by_v = step_of(of_v, v, one);
+        let by_w = step_of(of_w, w, one);
+        let by_x = step_of(of_x, x, one);
+        put_at(cells, by_v + by_w + by_x, one);
+    }
+}
+
+/// Puts each record of a piece into the cell of its place without Total: where there are totals,
+/// the cells of the other places are not right before `put_totals`. It takes no memory.
+pub fn put_all(plan: &Plan, piece: &[Record], cells: &mut [Cell])
+    requires { AllFit plan.now.shape piece.now }
+    ensures put { ArePut plan.now cells.old piece.now cells.new }
+    // Cells that held some records hold the piece's records too.
+    ensures held { (before : List AnyRecord) → Hold plan.now cells.old before
+        → Hold plan.now cells.new (before ++ piece.now) }
+{
+    let used = plan.vars().len();
+    if used == 1 {
+        put_by_one(plan, piece, cells);
+    } else if used == 2 {
+        put_by_two(plan, piece, cells);
+    } else if used == 3 {
+        put_by_three(plan, piece, cells);
+    } else {
+        put_by_any(plan, piece, cells);
+    }
+}
