@@ -9,7 +9,9 @@ use Rattle.tb_query.specs.Faults.{Reads, IsRefused}
 use Rattle.tb_query.specs.FaultNames.{fault_name, fault_position}
 use Rattle.tb_query.specs.declared.fault.QueryFault.{QueryFault}
 use Rattle.tb_rows.specs.FaultNames.{FaultNameValue}
+use Rattle.tb_release.specs.Batches.{BatchValue}
 use Rattle.tb_release.specs.Chains.{release_after}
+use Rattle.tb_release.specs.declared.edits.Edit.{Edit}
 use Rattle.tb_script.specs.Lines.{is_passed_over}
 use Rattle.tb_script.specs.Outputs.{ReplyValue}
 use Rattle.tb_script.specs.Scripts.{ScriptLine}
@@ -18,7 +20,7 @@ use Rattle.tb_script.specs.Scripts.{ScriptLine}
 -- held
 pub record StateValue : Type 0 where
   pub chain : List BatchValue
-  pub held : List EditValue
+  pub held : List Edit
 
 -- before the first line
 abbrev pub start : StateValue

@@ -1,0 +1,118 @@
+-- Batches of edits, and chains.
+use Rattle.std.proofs.Common.{◌≡◌, ℕ, suc, ◌+◌, ◌<◌, ◌≤◌, Bool, true, false, eqb, leb, ltb, List, [], ◌∷◌, ◌++◌, length, refl, sym, ap, subst, ◌∙◌, arith}
+use Rattle.std.specs.Prelude.{Option, Some, None, fold, if◌then◌else◌, ◌||◌, ◌↔◌}
+use Rattle.std.specs.Option.{option_map_or}
+use Rattle.std.specs.FinMap as finmap
+use Rattle.std.proofs.lemmas.Bool.{leb-false, lt-leb, ltb-false, le-ltb, eqb-false, ne_eqb}
+use Rattle.std.proofs.lemmas.List.Sums.{sum_by-cons}
+use Rattle.tb_model.specs.Releases.{ReleaseValue}
+use Rattle.tb_release.specs.declared.edits.Change.{Change}
+use Rattle.tb_release.specs.declared.edits.Edit.{Edit}
+use Rattle.tb_release.specs.declared.edits.EditFaultKind.{EditFaultKind}
+use Rattle.tb_release.specs.declared.edits.EditFaultKind.TheVariants as kind
+use Rattle.tb_release.specs.declared.limits.TheConstants.{MOST_EDITS, MOST_RELEASES, MOST_CHANGES}
+use Rattle.tb_release.specs.Releases.{IsSound}
+use Rattle.tb_release.specs.Edits.{edited, edited_all}
+use Rattle.tb_release.specs.Possible.{ArePossible, refusal, first_refusal}
+use Rattle.tb_release.specs.Batches.{BatchValue, CanFollow, Follows, changes_of, next_release, batch_refusal}
+use Rattle.tb_release.specs.Chains.{changed, after_batch, release_after, change_count, IsChain}
+use Rattle.tb_release.specs.Laws.{KeepsKeys, ChainFacts}
+use Rattle.tb_release.proofs.Edited.{possible_of, none_of, sound_after, key_stays, changed-change_of}
+
+-- ---- edits are possible exactly where there is no refusal
+both_none : (number : ℕ) (o : Option EditFaultKind) (rest : Option (EditFaultKind × ℕ)) → option_map_or (λ why. Some (why, number)) o rest ≡ None → (o ≡ None) × (rest ≡ None)
+both_none number None rest none = (refl, none)
+both_none number (Some why) rest none = cc
+
+all_possible : (number : ℕ) (release : ReleaseValue) (edits : List Edit) → first_refusal number release edits ≡ None → ArePossible release edits
+all_possible number release [] none = tt
+all_possible number release (e ∷ es) none =
+    let h = both_none number (refusal release e) (first_refusal (number + 1) (edited release e) es) none in
+    (possible_of release e h.0, all_possible (number + 1) (edited release e) es h.1)
+
+none_refused : (number : ℕ) (release : ReleaseValue) (edits : List Edit) → ArePossible release edits → first_refusal number release edits ≡ None
+none_refused number release [] can = refl
+none_refused number release (e ∷ es) can = rw (none_of release e can.0) (none_refused (number + 1) (edited release e) es can.1)
+
+batch_parts : (a b c : Bool) (rest : Option (EditFaultKind × ℕ)) → (if a then Some (kind.Nothing, 0) else if b || c then Some (kind.TooMany, 0) else rest) ≡ None
+    → (a ≡ false) × (b ≡ false) × (c ≡ false) × (rest ≡ None)
+batch_parts true b c rest none = cc
+batch_parts false true c rest none = cc
+batch_parts false false true rest none = cc
+batch_parts false false false rest none = (refl, refl, refl, none)
+
+can_follow : (release : ReleaseValue) (edits : List Edit) → length edits ≤ MOST_EDITS → batch_refusal release edits ≡ None → CanFollow release edits
+can_follow release edits few none =
+    let h = batch_parts (eqb (length edits) 0) (leb MOST_RELEASES release.number) (ltb MOST_CHANGES (release.changes + length edits)) (first_refusal 1 release edits) none in
+    let apart = eqb-false (length edits) 0 h.0 in record {
+      some = omega arith;
+      few = few;
+      releases = leb-false MOST_RELEASES release.number h.1;
+      changes = ltb-false MOST_CHANGES (release.changes + length edits) h.2;
+      possible = all_possible 1 release edits h.3;
+    }
+
+no_refusal : (release : ReleaseValue) (edits : List Edit) → CanFollow release edits → batch_refusal release edits ≡ None
+no_refusal release edits can =
+    let some = can.some in
+    rw (ne_eqb (length edits) 0 (λ e. omega (arith, some, e)), lt-leb MOST_RELEASES release.number can.releases, le-ltb MOST_CHANGES (release.changes + length edits) can.changes) (none_refused 1 release edits can.possible)
+
+pub can_follow_unless_refused : (release : ReleaseValue) (edits : List Edit) → length edits ≤ MOST_EDITS → (batch_refusal release edits ≡ None) ↔ CanFollow release edits
+can_follow_unless_refused release edits few = (can_follow release edits few, no_refusal release edits)
+
+-- ---- possible edits
+pub stay_sound : (release : ReleaseValue) (edits : List Edit) → ArePossible release edits → IsSound release → IsSound (edited_all release edits)
+stay_sound release [] can s = s
+stay_sound release (e ∷ es) can s = stay_sound (edited release e) es can.1 (sound_after release e can.0 s)
+
+pub keys_stay : (release : ReleaseValue) (edits : List Edit) → ArePossible release edits → KeepsKeys release.key_book (edited_all release edits).key_book
+keys_stay release [] can q k is = is
+keys_stay release (e ∷ es) can q k is = keys_stay (edited release e) es can.1 q k (key_stays release e can.0 q k is)
+
+fold-changes : (release : ReleaseValue) (edits : List Edit) → IsSound release → ArePossible release edits → fold changed release (changes_of release edits) ≡ edited_all release edits
+fold-changes release [] s can = refl
+fold-changes release (e ∷ es) s can =
+    ap (λ r. fold changed r (changes_of (edited release e) es)) (changed-change_of release e s.distinct can.0)
+    ∙ fold-changes (edited release e) es (sound_after release e can.0 s) can.1
+
+length-changes_of : (release : ReleaseValue) (edits : List Edit) → length (changes_of release edits) ≡ length edits
+length-changes_of release [] = refl
+length-changes_of release (e ∷ es) = ap suc (length-changes_of (edited release e) es)
+
+pub batches_lead_on : (release : ReleaseValue) (edits : List Edit) → IsSound release → ArePossible release edits
+    → after_batch release (record { changes = changes_of release edits }) ≡ next_release release edits
+batches_lead_on release edits s can = rw (fold-changes release edits s can, length-changes_of release edits) refl
+
+-- ---- chains
+after_follows : (release : ReleaseValue) (batch : BatchValue) (f : Follows release batch) → IsSound release → after_batch release batch ≡ next_release release f.edits
+after_follows release batch f s =
+    let same : batch ≡ record { changes = changes_of release f.edits } = ap (λ (cs : List Change). record { changes = cs }) f.theirs in
+    ap (after_batch release) same ∙ batches_lead_on release f.edits s f.can.possible
+
+next_sound : (release : ReleaseValue) (edits : List Edit) → ArePossible release edits → IsSound release → IsSound (next_release release edits)
+next_sound release edits can s =
+    let h = stay_sound release edits can s in record { distinct = h.distinct; in_book = h.in_book; few = h.few }
+
+pub chains_hold : (release : ReleaseValue) (chain : List BatchValue) → IsSound release → IsChain release chain → ChainFacts release chain
+chains_hold release [] s is = record { sound = s; keys = λ q k at. at; number = omega arith; changes = omega arith }
+chains_hold release (batch ∷ chain) s is =
+    let next = after_follows release batch is.0 s in
+    let sound : IsSound (after_batch release batch) = subst IsSound (sym next) (next_sound release is.0.edits is.0.can.possible s) in
+    let keys : KeepsKeys release.key_book (after_batch release batch).key_book =
+    subst (λ (r : ReleaseValue). KeepsKeys release.key_book r.key_book) (sym next) (keys_stay release is.0.edits is.0.can.possible) in
+    let rest = chains_hold (after_batch release batch) chain sound is.1 in record {
+      sound = rest.sound;
+      keys = λ q k at. rest.keys q k (keys q k at);
+      number = let number = rest.number in omega arith;
+      changes = let more : change_count (batch ∷ chain) ≡ length batch.changes + change_count chain = sum_by-cons (λ (b : BatchValue). length b.changes) batch chain in
+          let changes = rest.changes in omega arith;
+    }
+
+pub chains_go_on : (release : ReleaseValue) (chain : List BatchValue) (batch : BatchValue) → IsChain release chain → Follows (release_after release chain) batch → IsChain release (chain ++ batch ∷ [])
+chains_go_on release [] batch is follows = (follows, tt)
+chains_go_on release (one ∷ chain) batch is follows = (is.0, chains_go_on (after_batch release one) chain batch is.1 follows)
+
+pub chains_split : (release : ReleaseValue) (first rest : List BatchValue) → IsChain release (first ++ rest) → IsChain release first × IsChain (release_after release first) rest
+chains_split release [] rest is = (tt, is)
+chains_split release (one ∷ first) rest is =
+    let h = chains_split (after_batch release one) first rest is.1 in ((is.0, h.0), h.1)

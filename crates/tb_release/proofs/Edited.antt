@@ -1,0 +1,124 @@
+-- One edit.
+use Rattle.std.proofs.Common.{◌≡◌, ℕ, ◌+◌, ◌<◌, ◌≤◌, Bool, true, false, not, leb, List, [], ◌∷◌, ◌++◌, map, length, refl, sym, ap, ◌∙◌, arith, length-append}
+use Rattle.std.specs.Prelude.{Option, Some, None, filter, if◌then◌else◌}
+use Rattle.std.specs.FinMap as finmap
+use Rattle.std.proofs.lemmas.Bool.{leb-false, lt-leb, eq-eqb}
+use Rattle.std.proofs.lemmas.List.{length-map}
+use Rattle.std.proofs.lemmas.List.Sums.{length-filter, count_by-le-length}
+use Rattle.std.proofs.lemmas.List.Elements.{All-push, All-filter, All-map, All-weaker}
+use Rattle.tb_base.specs.declared.records.Record.{Record}
+use Rattle.tb_base.specs.declared.people.TheConstants.{MOST_PERSONS}
+use Rattle.tb_base.specs.Persons.{has_person, AreDistinct}
+use Rattle.tb_base.proofs.PersonLemmas.{AreDistinct-push}
+use Rattle.tb_model.specs.Releases.{ReleaseValue}
+use Rattle.tb_release.specs.declared.edits.Edit.{Edit}
+use Rattle.tb_release.specs.declared.edits.Edit.TheVariants.{Add, Drop, Amend}
+use Rattle.tb_release.specs.declared.edits.EditFaultKind.TheVariants as kind
+use Rattle.tb_release.specs.Releases.{KeyBook, IsSound, HasKeyOf}
+use Rattle.tb_release.specs.Edits.{edited, amended, is_of, record_of}
+use Rattle.tb_release.specs.Possible.{IsPossible, CanAdd, refusal, has_other_key}
+use Rattle.tb_release.specs.Batches.{change_of}
+use Rattle.tb_release.specs.Chains.{changed}
+use Rattle.tb_release.proofs.Persons.{stands, found, none_found, dropped, replaced, record_of-here, record_of-gone, distinct-filter, distinct-map}
+use Rattle.tb_release.proofs.Books.{book_keeps, get-book_insert}
+
+-- ---- an edit is possible exactly where there is no refusal
+add_parts : (a b c : Bool) → (if a then Some kind.PersonThere else if b then Some kind.KeyChanged else if c then Some kind.TooMany else None) ≡ None → (a ≡ false) × (b ≡ false) × (c ≡ false)
+add_parts true b c none = cc
+add_parts false true c none = cc
+add_parts false false true none = cc
+add_parts false false false none = (refl, refl, refl)
+
+there : (b : Bool) → (if b then None else Some kind.NoSuchPerson) ≡ None → b ≡ true
+there true none = refl
+there false none = cc
+
+pub possible_of : (release : ReleaseValue) (edit : Edit) → refusal release edit ≡ None → IsPossible release edit
+possible_of release (Add person key codes) none =
+    let h = add_parts (has_person release.records person) (has_other_key release.key_book person key) (leb MOST_PERSONS (length release.records)) none in record {
+      new = h.0;
+      same_key = h.1;
+      room = leb-false MOST_PERSONS (length release.records) h.2;
+    }
+possible_of release (Drop person) none = there (has_person release.records person) none
+possible_of release (Amend person sets) none = there (has_person release.records person) none
+
+pub none_of : (release : ReleaseValue) (edit : Edit) → IsPossible release edit → refusal release edit ≡ None
+none_of release (Add person key codes) can = rw (can.new, can.same_key, lt-leb MOST_PERSONS (length release.records) can.room) refl
+none_of release (Drop person) is = rw is refl
+none_of release (Amend person sets) is = rw is refl
+
+-- ---- its change
+change_of-add : (release : ReleaseValue) (person key : ℕ) (codes : List ℕ) → has_person release.records person ≡ false
+    → change_of release (Add person key codes) ≡ record { person = person; before = None; after = Some (record { person = person; key = key; codes = codes }) }
+change_of-add release person key codes nobody =
+    let new : Record = record { person = person; key = key; codes = codes } in
+    let here : record_of (release.records ++ new ∷ []) person ≡ Some new = record_of-here person release.records [] new refl nobody in
+    rw (none_found person release.records nobody, here) refl
+
+change_of-drop : (release : ReleaseValue) (person : ℕ) (r : Record) → AreDistinct release.records → record_of release.records person ≡ Some r
+    → change_of release (Drop person) ≡ record { person = person; before = Some r; after = None }
+change_of-drop release person r distinct is =
+    let s = stands person release.records r distinct is in
+    let gone : record_of (filter (λ x. not (is_of person x)) release.records) person ≡ None = rw (dropped s) (record_of-gone person s.before s.after s.none_before s.none_after) in
+    rw (is, gone) refl
+
+change_of-amend : (release : ReleaseValue) (person : ℕ) (sets : List (ℕ × ℕ)) (r : Record) → AreDistinct release.records → record_of release.records person ≡ Some r
+    → change_of release (Amend person sets) ≡ record { person = person; before = Some r; after = Some (amended sets r) }
+change_of-amend release person sets r distinct is =
+    let s = stands person release.records r distinct is in
+    let here : record_of (s.before ++ amended sets r ∷ s.after) person ≡ Some (amended sets r) =
+    record_of-here person s.before s.after (amended sets r) s.own s.none_before in
+    let kept : record_of (map (λ x. if is_of person x then amended sets x else x) release.records) person ≡ Some (amended sets r) = rw (replaced (amended sets) s) here in
+    rw (is, kept) refl
+
+-- an edit that is possible is known by its change
+pub changed-change_of : (release : ReleaseValue) (edit : Edit) → AreDistinct release.records → IsPossible release edit → changed release (change_of release edit) ≡ edited release edit
+changed-change_of release (Add person key codes) distinct can = ap (changed release) (change_of-add release person key codes can.new)
+changed-change_of release (Drop person) distinct can =
+    let r = found person release.records can in ap (changed release) (change_of-drop release person r.0 distinct r.1)
+changed-change_of release (Amend person sets) distinct can =
+    let r = found person release.records can in
+    let s = stands person release.records r.0 distinct r.1 in
+    let same : map (λ x. if is_of person x then amended sets r.0 else x) release.records ≡ map (λ x. if is_of person x then amended sets x else x) release.records =
+    replaced (λ _. amended sets r.0) s ∙ sym (replaced (amended sets) s) in
+    ap (changed release) (change_of-amend release person sets r.0 distinct r.1) ∙ ap (λ rs. record release { records = rs }) same
+
+-- ---- what it keeps
+pub key_stays : (release : ReleaseValue) (edit : Edit) → IsPossible release edit → (q k : ℕ) → finmap.get release.key_book q ≡ Some k → finmap.get (edited release edit).key_book q ≡ Some k
+key_stays release (Add person key codes) can q k is = book_keeps release.key_book person key q k can.same_key is
+key_stays release (Drop person) can q k is = is
+key_stays release (Amend person sets) can q k is = is
+
+set_if-person : (b : Bool) (sets : List (ℕ × ℕ)) (r : Record) → (if b then amended sets r else r).person ≡ r.person
+set_if-person true sets r = refl
+set_if-person false sets r = refl
+
+has_key_if : (b : Bool) (book : KeyBook) (sets : List (ℕ × ℕ)) (r : Record) → HasKeyOf book r → HasKeyOf book (if b then amended sets r else r)
+has_key_if true book sets r h = h
+has_key_if false book sets r h = h
+
+pub sound_after : (release : ReleaseValue) (edit : Edit) → IsPossible release edit → IsSound release → IsSound (edited release edit)
+sound_after release (Add person key codes) can s =
+    let new : Record = record { person = person; key = key; codes = codes } in
+    let more : length (release.records ++ new ∷ []) ≡ length release.records + 1 = length-append release.records (new ∷ []) in
+    let book : KeyBook = finmap.insert release.key_book person key in
+    let own : HasKeyOf book new = rw (get-book_insert release.key_book person key person, eq-eqb person person refl) refl in record {
+      distinct = AreDistinct-push release.records new s.distinct can.new;
+      in_book = All-push (HasKeyOf book) release.records new
+          (All-weaker (HasKeyOf release.key_book) (HasKeyOf book) (λ r h. book_keeps release.key_book person key r.person r.key can.same_key h) release.records s.in_book) own;
+      few = let room = can.room in omega arith;
+    }
+sound_after release (Drop person) can s =
+    let less : length (filter (λ x. not (is_of person x)) release.records) ≤ length release.records =
+    rw (length-filter (λ x. not (is_of person x)) release.records) (count_by-le-length (λ x. not (is_of person x)) release.records) in record {
+      distinct = distinct-filter (λ x. not (is_of person x)) release.records s.distinct;
+      in_book = All-filter (λ x. not (is_of person x)) (HasKeyOf release.key_book) release.records s.in_book;
+      few = let few = s.few in omega arith;
+    }
+sound_after release (Amend person sets) can s = record {
+  distinct = distinct-map (λ x. if is_of person x then amended sets x else x) (λ r. set_if-person (is_of person r) sets r) release.records s.distinct;
+  in_book = All-map (HasKeyOf release.key_book) (λ x. if is_of person x then amended sets x else x) release.records
+      (All-weaker (HasKeyOf release.key_book) (λ r. HasKeyOf release.key_book (if is_of person r then amended sets r else r)) (λ r h. has_key_if (is_of person r) release.key_book sets r h) release.records s.in_book);
+  few = rw length-map s.few;
+}

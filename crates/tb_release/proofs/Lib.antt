@@ -1,0 +1,5 @@
+pub mod Books
+pub mod Persons
+pub mod Edited
+pub mod Chained
+pub mod Fitting

@@ -1,0 +1,69 @@
+-- Batches of changes, and which of them follow a release.
+use Rattle.std.specs.Prelude.{◌≡◌, ◌<◌, ◌≤◌, ℕ, ◌+◌, ◌==◌, ◌||◌, nat_le, nat_lt}
+use Rattle.std.specs.Prelude.{if◌then◌else◌, List, [], ◌∷◌, length, Option, Some}
+use Rattle.tb_model.specs.Releases.{ReleaseValue}
+use Rattle.tb_release.specs.declared.edits.Edit.{Edit}
+use Rattle.tb_release.specs.declared.edits.Edit.TheVariants.{Add, Drop, Amend}
+use Rattle.tb_release.specs.declared.edits.Change.{Change}
+use Rattle.tb_release.specs.declared.edits.EditFaultKind.{EditFaultKind}
+use Rattle.tb_release.specs.declared.edits.EditFaultKind.TheVariants as kind
+use Rattle.tb_release.specs.declared.limits.TheConstants.{MOST_EDITS, MOST_RELEASES, MOST_CHANGES}
+use Rattle.tb_release.specs.Edits.{record_of, edited, edited_all}
+use Rattle.tb_release.specs.Possible.{ArePossible, first_refusal}
+
+-- the person of an edit
+abbrev pub person_of : Edit → ℕ
+person_of (Add person key codes) = person
+person_of (Drop person) = person
+person_of (Amend person sets) = person
+
+-- the change of an edit: the person, with the record before it and the record after it
+abbrev pub change_of : ReleaseValue → Edit → Change
+change_of release edit =
+    record {
+      person = person_of edit;
+      before = record_of release.records (person_of edit);
+      after = record_of (edited release edit).records (person_of edit);
+    }
+
+-- the changes of edits, each on the release that those before it left
+abbrev pub changes_of : ReleaseValue → List Edit → List Change
+changes_of release [] = []
+changes_of release (edit ∷ edits) =
+    change_of release edit ∷ changes_of (edited release edit) edits
+
+-- a batch: the changes of one list of edits
+pub record BatchValue : Type 0 where
+  pub changes : List Change
+
+-- edits can follow a release: there are some and at most the most, each is possible, and neither
+-- the releases nor the changes so far become too many
+pub record CanFollow (release : ReleaseValue) (edits : List Edit) : Type 0 where
+  pub some : 0 < length edits
+  pub few : length edits ≤ MOST_EDITS
+  pub releases : release.number < MOST_RELEASES
+  pub changes : release.changes + length edits ≤ MOST_CHANGES
+  pub possible : ArePossible release edits
+
+-- a batch follows a release: it is that of edits that can follow
+pub record Follows (release : ReleaseValue) (batch : BatchValue) : Type 0 where
+  pub edits : List Edit
+  pub can : CanFollow release edits
+  pub theirs : batch.changes ≡ changes_of release edits
+
+-- the next release after some edits
+abbrev pub next_release : ReleaseValue → List Edit → ReleaseValue
+next_release release edits =
+    record (edited_all release edits) {
+      number = release.number + 1;
+      changes = release.changes + length edits;
+    }
+
+-- why edits can't follow a release, if they can't, with the number of the edit that isn't possible,
+-- or 0 where it is for all of them together
+abbrev pub batch_refusal : ReleaseValue → List Edit → Option (EditFaultKind × ℕ)
+batch_refusal release edits =
+    if length edits == 0 then Some (kind.Nothing, 0)
+    else if nat_le MOST_RELEASES release.number
+    || nat_lt MOST_CHANGES (release.changes + length edits) then Some (kind.TooMany, 0)
+    else first_refusal 1 release edits

@@ -1,0 +1,58 @@
+-- Which edits are possible, and why one isn't.
+use Rattle.std.specs.Prelude.{◌≡◌, ◌<◌, ℕ, ◌+◌, ◌==◌, nat_le, Bool, true, false, not}
+use Rattle.std.specs.Prelude.{if◌then◌else◌, List, [], ◌∷◌, length, Option, Some, None}
+use Rattle.std.specs.Option.{option_map_or}
+use Rattle.std.specs.FinMap as finmap
+use Rattle.tb_base.specs.declared.people.TheConstants.{MOST_PERSONS}
+use Rattle.tb_base.specs.Persons.{has_person}
+use Rattle.tb_model.specs.Releases.{ReleaseValue}
+use Rattle.tb_release.specs.declared.edits.Edit.{Edit}
+use Rattle.tb_release.specs.declared.edits.Edit.TheVariants.{Add, Drop, Amend}
+use Rattle.tb_release.specs.declared.edits.EditFaultKind.{EditFaultKind}
+use Rattle.tb_release.specs.declared.edits.EditFaultKind.TheVariants as kind
+use Rattle.tb_release.specs.Releases.{KeyBook}
+use Rattle.tb_release.specs.Edits.{edited}
+
+-- whether a key book has another key for a person
+abbrev pub has_other_key : KeyBook → ℕ → ℕ → Bool
+has_other_key book person key =
+    option_map_or (λ old. not (old == key)) (finmap.get book person) false
+
+-- an add is possible where the person has no record, the key book has no other key for the person,
+-- and there are fewer records than the most
+pub record CanAdd (release : ReleaseValue) (person key : ℕ) : Type 0 where
+  pub new : has_person release.records person ≡ false
+  pub same_key : has_other_key release.key_book person key ≡ false
+  pub room : length release.records < MOST_PERSONS
+
+-- an edit is possible: a drop or an amend where the person has a record
+abbrev pub IsPossible : ReleaseValue → Edit → Type 0
+IsPossible release (Add person key codes) = CanAdd release person key
+IsPossible release (Drop person) = has_person release.records person ≡ true
+IsPossible release (Amend person sets) = has_person release.records person ≡ true
+
+-- each edit is possible on the release that those before it left
+abbrev pub ArePossible : ReleaseValue → List Edit → Type 0
+ArePossible release [] = Unit {0}
+ArePossible release (edit ∷ edits) =
+    IsPossible release edit × ArePossible (edited release edit) edits
+
+-- why an edit isn't possible, if it isn't
+abbrev pub refusal : ReleaseValue → Edit → Option EditFaultKind
+refusal release (Add person key codes) =
+    if has_person release.records person then Some kind.PersonThere
+    else if has_other_key release.key_book person key then Some kind.KeyChanged
+    else if nat_le MOST_PERSONS (length release.records) then Some kind.TooMany
+    else None
+refusal release (Drop person) =
+    if has_person release.records person then None else Some kind.NoSuchPerson
+refusal release (Amend person sets) =
+    if has_person release.records person then None else Some kind.NoSuchPerson
+
+-- why the first edit that isn't possible isn't, with its number, where the first of all has this
+-- number
+abbrev pub first_refusal : ℕ → ReleaseValue → List Edit → Option (EditFaultKind × ℕ)
+first_refusal number release [] = None
+first_refusal number release (edit ∷ edits) =
+    option_map_or (λ why. Some (why, number)) (refusal release edit)
+    (first_refusal (number + 1) (edited release edit) edits)

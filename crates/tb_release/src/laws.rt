@@ -1,0 +1,44 @@
+//! Laws of edits, batches and chains. Each function does nothing, and its contract is a law.
+ghost use Rattle.tb_release.specs.Laws.{CanFollowUnlessRefused, StaySound, KeysStay, StayFitting};
+ghost use Rattle.tb_release.specs.Laws.{BatchesLeadOn, ChainsHold, ChainsGoOn, ChainsSplit};
+
+/// Edits can follow a release exactly where there is no refusal.
+pub fn edits_follow_unless_refused()
+    ensures { CanFollowUnlessRefused }
+{}
+
+/// Possible edits leave a release in which persons are distinct, each record's key stands in the
+/// key book, and there are at most `MOST_PERSONS` records.
+pub fn possible_edits_leave_a_sound_release()
+    ensures { StaySound }
+{}
+
+/// The key book only grows, and no person's key changes.
+pub fn keys_stay()
+    ensures { KeysStay }
+{}
+
+/// Edits that fit a shape leave records that fit it.
+pub fn fitting_edits_leave_fitting_records()
+    ensures { StayFitting }
+{}
+
+/// The changes of edits lead to the release that the edits leave.
+pub fn changes_lead_where_edits_lead()
+    ensures { BatchesLeadOn }
+{}
+
+/// The release after a chain is sound, has the keys from before, and counts batches and changes.
+pub fn chains_hold()
+    ensures { ChainsHold }
+{}
+
+/// A chain goes on by a batch that follows the release after it.
+pub fn chains_go_on()
+    ensures { ChainsGoOn }
+{}
+
+/// The first batches of a chain are a chain, and the others are one from the release after them.
+pub fn chains_split()
+    ensures { ChainsSplit }
+{}
