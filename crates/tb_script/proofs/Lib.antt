@@ -1,0 +1,6 @@
+pub mod Ascii
+pub mod Words
+pub mod Names
+pub mod Growing
+pub mod Reading
+pub mod WholeFiles
