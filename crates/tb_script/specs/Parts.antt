@@ -1,6 +1,6 @@
 -- A script's parts as the definitions see them.
-use Rattle.std.specs.Prelude.{◌≡◌, ◌+◌, ◌<◌, ◌≤◌, ℕ, List, [], map, drop, take, length, All, string_bytes}
-use Rattle.std.specs.Prelude.{slice_index_or}
+use Rattle.std.specs.Prelude.{◌≡◌, ◌+◌, ◌<◌, ◌≤◌, ℕ, List, [], map, drop, take, length, All}
+use Rattle.std.specs.Prelude.{slice_index_or, string_bytes}
 use Rattle.tb_script.specs.Scripts.{ScriptLine, ScriptValue, lanes_of}
 use Rattle.tb_script.specs.declared.limits.TheConstants.{MOST_LANES}
 use Rattle.tb_script.specs.declared.parts.Parts.{Parts}
@@ -34,4 +34,5 @@ IsWithin lanes bytes place = (place.lane < lanes) × (place.start + place.len �
 pub record AreKept (parts : Parts) : Type 0 where
   pub lanes : lane_names parts ≡ lanes_of (parts_value parts).lines
   pub few : length parts.lanes.keys ≤ MOST_LANES
-  pub within : All (IsWithin (length parts.lanes.keys) (length parts.texts.items)) parts.places.items
+  pub within :
+      All (IsWithin (length parts.lanes.keys) (length parts.texts.items)) parts.places.items

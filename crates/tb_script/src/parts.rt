@@ -85,17 +85,18 @@ fn push(parts: &mut Parts, lane: u16, text: &[u8]) -> Result<(), Memory>
 }
 
 impl Parts {
-    /// No lines, in one phase.
-    pub fn new(alloc: Global) -> Parts
-        ensures kept { AreKept result }
-        ensures value { parts_value result ≡ record { lines = []; phases = 1 } }
+    /// No lines, in one phase, with room for so many bytes of lines.
+    pub fn with_room(alloc: Global, bytes: usize) -> Result<Parts, Memory>
+        ensures kept { IfOk result AreKept }
+        ensures value { IfOk result
+            (λ parts. parts_value parts ≡ record { lines = []; phases = 1 }) }
     {
-        Parts {
+        Ok(Parts {
             lanes: IndexSet::new(alloc),
-            texts: Vec::new(alloc),
+            texts: Vec::with_capacity(alloc, bytes)?,
             places: Vec::new(alloc),
             phases: 1,
-        }
+        })
     }
 
     /// Ends a phase.

@@ -66,7 +66,8 @@ fn take(alloc: Global, parts: &mut Parts, bytes: &[u8], number: u32) -> Result<(
 
 impl Script {
     /// Reads a script whole, or returns the number of its first bad line, counted from 1 over all
-    /// lines. It takes memory for the lanes' names and the lines.
+    /// lines. It takes memory for the lanes' names, the lines' places, and as many bytes as the
+    /// file has.
     pub fn read(alloc: Global, file: &[u8]) -> Result<Script, ScriptFault>
         requires { length file.now ≤ MOST_SCRIPT_BYTES }
         // What is read is what the file says.
@@ -74,7 +75,7 @@ impl Script {
         // A refusal is the first bad line. Memory can run out at any script.
         ensures refused { (n : ℕ) → result ≡ Err (fault.Line n) → script_of file.now ≡ Err n }
     {
-        let mut parts = Parts::new(alloc);
+        let mut parts = Parts::with_room(alloc, file.len())?;
         let mut number: u32 = 0;
         for bytes in file.lines() {
             number += 1;
