@@ -3,3 +3,4 @@ pub mod Persons
 pub mod Edited
 pub mod Chained
 pub mod Fitting
+pub mod Vectors

@@ -15,3 +15,6 @@ mod release;
 pub use edits::{Change, Edit, EditFaultKind, Sets};
 pub use limits::{MOST_CHANGES, MOST_EDITS, MOST_RELEASES};
 pub use release::{Lent, Release};
+
+#[cfg(test)]
+mod tests;

@@ -1,0 +1,106 @@
+// What no clause says: with ample memory a release is made, over the small microdata and over none.
+
+ghost use Rattle.std.specs.Prelude.{◌≡◌, ◌+◌, ◌*◌, ◌<◌, length};
+
+use crate::{Lent, Release};
+use std::alloc::Global;
+use std::marker::Brand;
+use std::sync::ledger::{Blank, Ledger};
+use std::test::Fail;
+use tb_base::{Codes, MOST_PERSONS, Memory, People, Record, Steps};
+
+// A person, the record key, and the categories of SEX, AGE and AREA.
+type Row = (u32, u8, [u16; 3]);
+
+static FOUR: [Row; 4] = [
+    (101, 200, [0, 0, 0]),
+    (102, 100, [0, 1, 0]),
+    (103, 20, [0, 2, 1]),
+    (104, 7, [1, 1, 1]),
+];
+
+fn four() -> &'static [Row] {
+    &FOUR
+}
+
+fn record_of(alloc: Global, row: Row) -> Result<Record, Memory> {
+    let (person, key, categories) = row;
+    let codes = Codes::of(alloc, &categories)?;
+    Ok(Record { person, key, codes })
+}
+
+fn people_of(alloc: Global, rows: &[Row]) -> Result<People, Memory> {
+    let mut people = People::new(alloc);
+    for row in rows {
+        if people.add(record_of(alloc, *row)?).is_err() {
+            return Err(Memory);
+        }
+    }
+    Ok(people)
+}
+
+fn is_row(one: &Record, row: Row) -> bool {
+    let (person, key, categories) = row;
+    if one.codes.len() != 3 {
+        return false;
+    }
+    one.person == person
+        && one.key == key
+        && one.codes.at(0) == categories[0]
+        && one.codes.at(1) == categories[1]
+        && one.codes.at(2) == categories[2]
+}
+
+// Whether the pieces' records are those of the rows.
+fn are_rows(lent: &Lent, rows: &[Row]) -> bool {
+    let mut rest = rows.iter();
+    for i in 0..lent.pieces() {
+        for one in lent.piece(i) {
+            let Some(row) = rest.next() else {
+                return false;
+            };
+            if !is_row(one, *row) {
+                return false;
+            }
+        }
+    }
+    rest.next().is_none()
+}
+
+// The counter rises at each lending by how many records there are.
+fn lends<L: Ledger>(release: &Release, rows: &[Row], steps: &mut Steps<L>) -> bool
+    ensures { steps.new ≡ steps.old + 2 * length release.now.records }
+{
+    let once = are_rows(&release.lend(steps), rows);
+    let again = are_rows(&release.lend(steps), rows);
+    once && again
+}
+
+fn lends_from_zero<L: Ledger>(blank: Blank, release: &Release, rows: &[Row]) -> bool
+    requires name { blank.name ≡ L.name }
+    requires parts { blank.parts ≡ L.parts }
+    requires some { 0 < L.parts }
+{
+    let mut steps = Steps::new(blank);
+    lends::<L>(release, rows, &mut steps)
+}
+
+// Release 0 of the microdata of some rows has them all, and nothing happened to them.
+fn is_release_of(alloc: Global, rows: &[Row]) -> Result<bool, Memory> {
+    let people = people_of(alloc, rows)?;
+    if people.len() > MOST_PERSONS {
+        return Ok(false);
+    }
+    let release = Release::first(alloc, people)?;
+    let is_first = release.number() == 0 && release.changes() == 0;
+    let lent = lends_from_zero::<Brand>(Blank::new(1), &release, rows);
+    Ok(is_first && release.len() == rows.len() && lent)
+}
+
+#[test]
+fn first_releases(rt: HostRuntime) -> Result<(), Fail> {
+    for rows in [four(), &[]] {
+        assert!(rt; is_release_of(rt.alloc(), rows)?);
+    }
+    Ok(())
+}
