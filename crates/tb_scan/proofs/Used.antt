@@ -42,10 +42,6 @@ has-step plan steps v r made below fits =
           ∙ get_or-map-range_with_len (step_at plan v) 0 (slice_index plan.shape v) (category_at r v) (category_at r v) 0 (fits.below v below) (omega arith);
     }
 
--- each record of a piece that fits does
-pub fits-at : (shape : List ℕ) (rs : List Record) (i : ℕ) (r : Record) → AllFit shape rs → i < length rs → r ≡ get_or rs i r → Fits shape r
-fits-at shape rs i r fit below is = subst (Fits shape) (sym is) (fit i r below)
-
 sum-one : (f : ℕ → ℕ) (xs : List ℕ) → length xs ≡ 1 → f (get_or xs 0 0) ≡ sum_by f xs
 sum-one f [] e = absurd (omega (arith, e))
 sum-one f (x ∷ []) e = let z : f x + 0 ≡ f x = omega arith in sym (sum_by-cons f x [] ∙ z)

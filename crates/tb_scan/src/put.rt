@@ -7,7 +7,7 @@ ghost use Rattle.tb_base.specs.declared.records.Record.{Record as AnyRecord};
 ghost use Rattle.tb_base.specs.Records.{category_at, AllFit, Fits};
 ghost use Rattle.tb_grid.specs.Totals.{modulus, part_at, Part};
 ghost use Rattle.tb_plan.specs.Plans.{vars_of};
-ghost use Rattle.tb_plan.specs.Steps.{number_at};
+ghost use Rattle.tb_plan.specs.Steps.{number_at, step_at, steps_of};
 ghost use Rattle.tb_scan.specs.Scanning.{weight, ArePut, Hold};
 
 use tb_base::{Cell, Record};
@@ -30,14 +30,27 @@ fn put_at(cells: &mut [Cell], number: usize, one: &Record)
     }
 }
 
-// The step of a record's category, among the steps of its variable.
+// The variable at a place among those that a plan uses, and its steps.
+fn used(plan: &Plan, j: usize) -> (u16, &[u32])
+    requires { j < length (vars_of plan.now) }
+    ensures variable { result.0 ≡ slice_index (vars_of plan.now) j }
+    ensures there { result.0 < length plan.now.shape }
+    ensures steps { result.1.now ≡ steps_of plan.now result.0 }
+{
+    let v = plan.vars().at(j);
+    (v, plan.steps(v))
+}
+
+// The step of a record's category of a variable, where these are the variable's steps in the plan.
 #[inline]
-fn step_of(steps: &[u32], v: u16, one: &Record) -> usize
-    requires there { v < length one.now.codes }
-    requires known { category_at one.now v < length steps.now }
-    ensures step { result ≡ slice_index steps.now (category_at one.now v) }
+fn step_of(plan: &Plan, v: u16, steps: &[u32], one: &Record) -> usize
+    requires there { v < length plan.now.shape }
+    requires steps { steps.now ≡ steps_of plan.now v }
+    requires fits { Fits plan.now.shape one.now }
+    ensures step { result ≡ step_at plan.now v (category_at one.now v) }
     ensures few { result < 2 ^ 32 }
 {
+    let _ = plan;
     steps[one.codes.at(v as usize) as usize] as usize
 }
 
@@ -48,11 +61,10 @@ fn number_of(plan: &Plan, one: &Record) -> usize
     requires { Fits plan.now.shape one.now }
     ensures { result ≡ number_at plan.now (category_at one.now) }
 {
-    let vars = plan.vars();
     let mut number = 0;
-    for j in 0..vars.len() {
-        let v = vars.at(j);
-        let step = step_of(plan.steps(v), v, one);
+    for j in 0..plan.vars().len() {
+        let (v, steps) = used(plan, j);
+        let step = step_of(plan, v, steps, one);
         number += step;
     }
     number
@@ -74,10 +86,10 @@ fn put_by_one(plan: &Plan, piece: &[Record], cells: &mut [Cell])
     requires fit { AllFit plan.now.shape piece.now }
     ensures { ArePut plan.now cells.old piece.now cells.new }
 {
-    let v = plan.vars().at(0);
-    let steps = plan.steps(v);
+    let (v, of_v) = used(plan, 0);
     for one in piece {
-        put_at(cells, step_of(steps, v, one), one);
+        let by_v = step_of(plan, v, of_v, one);
+        put_at(cells, by_v, one);
     }
 }
 
@@ -87,13 +99,11 @@ fn put_by_two(plan: &Plan, piece: &[Record], cells: &mut [Cell])
     requires fit { AllFit plan.now.shape piece.now }
     ensures { ArePut plan.now cells.old piece.now cells.new }
 {
-    let v = plan.vars().at(0);
-    let w = plan.vars().at(1);
-    let of_v = plan.steps(v);
-    let of_w = plan.steps(w);
+    let (v, of_v) = used(plan, 0);
+    let (w, of_w) = used(plan, 1);
     for one in piece {
-        let by_v = step_of(of_v, v, one);
-        let by_w = step_of(of_w, w, one);
+        let by_v = step_of(plan, v, of_v, one);
+        let by_w = step_of(plan, w, of_w, one);
         put_at(cells, by_v + by_w, one);
     }
 }
@@ -104,16 +114,13 @@ fn put_by_three(plan: &Plan, piece: &[Record], cells: &mut [Cell])
     requires fit { AllFit plan.now.shape piece.now }
     ensures { ArePut plan.now cells.old piece.now cells.new }
 {
-    let v = plan.vars().at(0);
-    let w = plan.vars().at(1);
-    let x = plan.vars().at(2);
-    let of_v = plan.steps(v);
-    let of_w = plan.steps(w);
-    let of_x = plan.steps(x);
+    let (v, of_v) = used(plan, 0);
+    let (w, of_w) = used(plan, 1);
+    let (x, of_x) = used(plan, 2);
     for one in piece {
-        let by_v = step_of(of_v, v, one);
-        let by_w = step_of(of_w, w, one);
-        let by_x = step_of(of_x, x, one);
+        let by_v = step_of(plan, v, of_v, one);
+        let by_w = step_of(plan, w, of_w, one);
+        let by_x = step_of(plan, x, of_x, one);
         put_at(cells, by_v + by_w + by_x, one);
     }
 }

@@ -1,47 +1,23 @@
-use Rattle.std.proofs.Common.{◌≡◌, ℕ, List, ◌+◌, ◌<◌, length, get_or, ap, sym, ◌∙◌, arith}
+use Rattle.std.proofs.Common.{◌≡◌, ℕ, List, ◌+◌, ◌*◌, ◌<◌, ◌≤◌, length, get_or, take, ap, sym, ◌∙◌, arith}
+use Rattle.std.specs.List.{sum_by}
 use Rattle.std.proofs.lemmas.List.Sums.{sum_by_more}
 use Rattle.tb_base.specs.Records.{category_at}
 use Rattle.tb_plan.specs.Plans.{uses, vars_of}
 use Rattle.tb_plan.specs.Steps.{step_at}
 use Rattle.tb_plan.proofs.Sets.{filter-few}
-use Rattle.tb_scan.proofs.Used.{is-used, has-step}
 use Rattle.tb_scan.proofs.put.number_of.Goals as goal
-
-pub steps-requires-clause-there : goal.steps-requires-clause-there
-steps-requires-clause-there c =
-    let used = is-used c.args.plan.now c.vars-vars.result.now c.loop-j.j c.at-v.result c.vars-vars.ensures.vars (omega (arith, ap (λ (vs : List ℕ). length vs) c.vars-vars.ensures.vars)) c.at-v.ensures in
-    used.there
-
-pub steps-requires-clause-used : goal.steps-requires-clause-used
-steps-requires-clause-used c =
-    let used = is-used c.args.plan.now c.vars-vars.result.now c.loop-j.j c.at-v.result c.vars-vars.ensures.vars (omega (arith, ap (λ (vs : List ℕ). length vs) c.vars-vars.ensures.vars)) c.at-v.ensures in
-    used.used
-
-pub step_of-step-requires-clause-there : goal.step_of-step-requires-clause-there
-step_of-step-requires-clause-there c =
-    let used = is-used c.args.plan.now c.vars-vars.result.now c.loop-j.j c.at-v.result c.vars-vars.ensures.vars (omega (arith, ap (λ (vs : List ℕ). length vs) c.vars-vars.ensures.vars)) c.at-v.ensures in
-    let has = has-step c.args.plan.now c.steps.result.now c.at-v.result c.args.one.now c.steps.ensures used.there c.requires in
-    has.there
-
-pub step_of-step-requires-clause-known : goal.step_of-step-requires-clause-known
-step_of-step-requires-clause-known c =
-    let used = is-used c.args.plan.now c.vars-vars.result.now c.loop-j.j c.at-v.result c.vars-vars.ensures.vars (omega (arith, ap (λ (vs : List ℕ). length vs) c.vars-vars.ensures.vars)) c.at-v.ensures in
-    let has = has-step c.args.plan.now c.steps.result.now c.at-v.result c.args.one.now c.steps.ensures used.there c.requires in
-    has.known
 
 pub overflow_add-number : goal.overflow_add-number
 overflow_add-number c =
-    let below : c.loop-j.j < length (vars_of c.args.plan.now) = omega (arith, ap (λ (vs : List ℕ). length vs) c.vars-vars.ensures.vars) in
-    omega (arith, c.loop-j.invariant.small, c.step_of-step.ensures.few, filter-few (uses c.args.plan.now) 0 (length c.args.plan.now.shape), c.vars-vars.ensures.plan.few_variables)
+    let below : c.loop-j.j < length (vars_of c.args.plan.now) = omega (arith, ap (λ (vs : List ℕ). length vs) c.vars.ensures.vars) in
+    omega (arith, c.loop-j.invariant.small, c.step_of-step.ensures.few, filter-few (uses c.args.plan.now) 0 (length c.args.plan.now.shape), c.vars.ensures.plan.few_variables)
 
 pub loop-j-preserved : goal.loop-j-preserved
 loop-j-preserved c =
     let vars : List ℕ = vars_of c.args.plan.now in
-    let below : c.loop-j.j < length vars = omega (arith, ap (λ (vs : List ℕ). length vs) c.vars-vars.ensures.vars) in
+    let below : c.loop-j.j < length vars = omega (arith, ap (λ (vs : List ℕ). length vs) c.vars.ensures.vars) in
     let f : ℕ → ℕ = λ v. step_at c.args.plan.now v (category_at c.args.one.now v) in
-    let used = is-used c.args.plan.now c.vars-vars.result.now c.loop-j.j c.at-v.result c.vars-vars.ensures.vars (omega (arith, ap (λ (vs : List ℕ). length vs) c.vars-vars.ensures.vars)) c.at-v.ensures in
-    let has = has-step c.args.plan.now c.steps.result.now c.at-v.result c.args.one.now c.steps.ensures used.there c.requires in
-    let step : c.step_of-step.result ≡ f (get_or vars c.loop-j.j 0) = c.step_of-step.ensures.step ∙ has.step ∙ ap f used.is in
+    let step : c.step_of-step.result ≡ f (get_or vars c.loop-j.j 0) = c.step_of-step.ensures.step ∙ ap f c.used-v.ensures.variable in
     record {
       sum = ap (λ x. c.loop-j.number + x) step ∙ ap (λ x. x + f (get_or vars c.loop-j.j 0)) c.loop-j.invariant.sum ∙ sym (sum_by_more f vars c.loop-j.j 0 below);
       small = omega (arith, c.loop-j.invariant.small, c.step_of-step.ensures.few);
