@@ -6,7 +6,6 @@ ghost use Rattle.tb_io.specs.Faults.{HasRisen};
 ghost use Rattle.tb_io.specs.Taken.{Took, TookPart};
 ghost use Rattle.tb_io.specs.declared.answers.Wrote.TheVariants as wrote;
 ghost use Rattle.tb_model.specs.Schemas.{shape_of};
-ghost use Rattle.tb_query.specs.declared.limits.TheConstants.{MOST_LINE_BYTES};
 ghost use Rattle.tb_script.specs.Outputs.{AreReplies, ReplyValue, price_of, text_of};
 ghost use Rattle.tb_script.specs.Replies.{IsAnswer, IsReply, IsReplyTo, start};
 ghost use Rattle.tb_script.specs.declared.run.RunEnd.TheVariants as run_end;
@@ -43,7 +42,7 @@ fn answer<O: Sink, L: Ledger>(
     out: &mut O,
     steps: &mut Steps<L>,
 ) -> Wrote
-    requires few { length line.now ≤ MOST_LINE_BYTES }
+    requires few { length line.now ≤ u16.MAX }
     requires fit { AllFit (shape_of setup.now.schema) release.now.records }
     ensures count { O.faults out.old ≤ O.faults out.new }
     ensures failed { result ≡ wrote.Failed → HasRisen (O.faults out.old) (O.faults out.new) }
@@ -77,7 +76,7 @@ fn reply<O: Sink, L: Ledger>(
     out: &mut O,
     steps: &mut Steps<L>,
 ) -> Wrote
-    requires few { length line.now ≤ MOST_LINE_BYTES }
+    requires few { length line.now ≤ u16.MAX }
     requires fit { AllFit (shape_of setup.now.schema) release.now.records }
     ensures count { O.faults out.old ≤ O.faults out.new }
     ensures failed { result ≡ wrote.Failed → HasRisen (O.faults out.old) (O.faults out.new) }

@@ -131,7 +131,8 @@ impl Script {
     /// The bytes of line `i`, from 0: what follows the blanks after its lane's name.
     pub fn line(&self, i: usize) -> &[u8]
         requires { i < length self.now.lines }
-        ensures { result.now ≡ (nth_line self.now i).line }
+        ensures bytes { result.now ≡ (nth_line self.now i).line }
+        ensures few { length result.now ≤ u16.MAX }
     {
         let place = &self.parts.places[i];
         &self.parts.texts[place.start..place.start + place.len as usize]

@@ -1,0 +1,81 @@
+// The lines of a table's places.
+
+ghost use Rattle.std.specs.Prelude.{◌≡◌, ◌≤◌, ◌++◌, ◌∷◌, [], length, drop, All, IfOk, OnOk};
+ghost use Rattle.tb_base.specs.declared.people.TheConstants.{MOST_PERSONS};
+ghost use Rattle.tb_model.specs.Perturbations.{pvalue_at};
+ghost use Rattle.tb_model.specs.RowMajor.{row_major};
+ghost use Rattle.tb_text.specs.Lines.{end_of, lines_under};
+
+use crate::bytes::Bytes;
+use crate::fields::Fields;
+use crate::setup::Setup;
+use tb_base::{Cell, Memory};
+
+// Adds the end of a cell's line.
+#[inline(always)]
+fn add_end(text: &mut Bytes, setup: &Setup, cell: Cell) -> Result<(), Memory>
+    requires { cell.count ≤ MOST_PERSONS }
+    ensures { OnOk result (text.new ≡ text.old ++ end_of (pvalue_at setup.now.ptable) setup.now.threshold cell) }
+{
+    text.append_end(setup.ptable.shown(setup.threshold, cell))
+}
+
+// Adds the lines of cells, each of which begins with `first` and a field.
+fn add_row(
+    text: &mut Bytes,
+    setup: &Setup,
+    first: &Bytes,
+    fields: &[Bytes],
+    cells: &[Cell],
+) -> Result<(), Memory>
+    requires { All (λ cell. cell.count ≤ MOST_PERSONS) cells.now }
+    ensures { OnOk result (text.new ≡ text.old ++ lines_under (end_of (pvalue_at setup.now.ptable) setup.now.threshold) first.now (fields.now ∷ []) cells.now) }
+{
+    for i in 0..fields.len().min(cells.len()) {
+        text.append(first)?;
+        text.append(&fields[i])?;
+        add_end(text, setup, cells[i])?;
+    }
+    Ok(())
+}
+
+/// Adds the lines of the cells from the place `at` on, each of which begins with `first` and goes
+/// on with a field of each dimension; the last dimension's change fastest. Returns the place of
+/// the next cell.
+pub(crate) fn add_lines(
+    text: &mut Bytes,
+    setup: &Setup,
+    first: &mut Bytes,
+    dimensions: &[Fields],
+    cells: &[Cell],
+    at: usize,
+) -> Result<usize, Memory>
+    requires within { at ≤ length cells.now }
+    requires few { All (λ cell. cell.count ≤ MOST_PERSONS) cells.now }
+    ensures text { OnOk result (text.new ≡ text.old ++ lines_under (end_of (pvalue_at setup.now.ptable) setup.now.threshold) first.old dimensions.now (drop at cells.now)) }
+    ensures first { OnOk result (first.new ≡ first.old) }
+    ensures within { IfOk result (λ next. next ≤ length cells.now) }
+    ensures next { IfOk result (λ next. drop next cells.now ≡ drop (length (row_major dimensions.now)) (drop at cells.now)) }
+{
+    let Some((fields, rest)) = dimensions.split_first() else {
+        if at == cells.len() {
+            return Ok(at);
+        }
+        text.append(first)?;
+        add_end(text, setup, cells[at])?;
+        return Ok(at + 1);
+    };
+    if rest.is_empty() {
+        let row = &cells[at..];
+        add_row(text, setup, first, fields.all(), row)?;
+        return Ok(at + fields.all().len().min(row.len()));
+    }
+    let len = first.len();
+    let mut next = at;
+    for field in fields.all() {
+        first.append(field)?;
+        next = add_lines(text, setup, first, rest, cells, next)?;
+        first.truncate(len);
+    }
+    Ok(next)
+}

@@ -1,0 +1,95 @@
+// The text of a table.
+
+ghost use Rattle.std.specs.Prelude.{◌≡◌, ◌≤◌, ◌++◌, codes, decimal, All, IfOk, OnOk};
+ghost use Rattle.tb_base.specs.declared.people.TheConstants.{MOST_PERSONS};
+ghost use Rattle.tb_model.specs.Perturbations.{pvalue_at};
+ghost use Rattle.tb_model.specs.Texts.{heading, line_text, text_of_cells};
+ghost use Rattle.tb_schema.specs.Names.{IsName};
+ghost use Rattle.tb_text.specs.Lines.{IsBetween};
+
+use crate::bytes::Bytes;
+use crate::fields::{Fields, all_fields, prepare, writer};
+use crate::lines::add_lines;
+use crate::setup::Setup;
+use csv::Writer;
+use std::alloc::Global;
+use tb_base::{Cell, Memory, print_number};
+use tb_query::Query;
+use tb_schema::Schema;
+
+// A shown count of at most 1,001,000 and its line feed.
+const MOST_DIGITS: usize = 8;
+
+// The lines before the first place, roughly.
+const HEAD: usize = 256;
+
+// How many bytes the text has at most, but for long names: an entry stands in one line of so many.
+fn room_for(fields: &[Fields], places: usize) -> usize {
+    let mut room = places.saturating_mul(MOST_DIGITS).saturating_add(HEAD);
+    for dimension in fields {
+        let entries = dimension.all();
+        if entries.len() > 0 {
+            let mut bytes: usize = 0;
+            for field in entries {
+                bytes = bytes.saturating_add(field.len());
+            }
+            room = room.saturating_add(bytes.saturating_mul(places / entries.len()));
+        }
+    }
+    room
+}
+
+// Adds the first line, with the number of the release.
+fn add_release(text: &mut Bytes, number: u32) -> Result<(), Memory>
+    ensures { OnOk result (text.new ≡ text.old ++ line_text (codes "release " ++ decimal number)) }
+{
+    let mut digits = [0; 10];
+    let len = print_number(number, &mut digits);
+    text.push_slice(b"release ")?;
+    text.push_slice(&digits[..len])?;
+    text.push_slice(b"\n")
+}
+
+// Adds the line of names.
+fn add_heading(
+    alloc: Global,
+    text: &mut Bytes,
+    rows: &mut Writer<Vec<u8>>,
+    schema: &Schema,
+    query: &Query,
+) -> Result<(), Memory>
+    requires between { IsBetween rows.old }
+    requires names { All (IsName schema.now) query.now.dimensions }
+    ensures { OnOk result (text.new ≡ text.old ++ heading schema.now query.now) }
+{
+    for of in query.dimensions() {
+        let name = prepare(alloc, rows, schema.name(*of).as_bytes())?;
+        text.append(&name)?;
+    }
+    text.push_slice(b"count\n")
+}
+
+/// The text of a query's table at the release of this number, where these are its cells: one for
+/// each of its places in row-major order, each of at most 1,000,000 persons. It takes memory for
+/// the text, whose room is reserved once, and for a field of each entry.
+pub fn table_text(
+    alloc: Global,
+    setup: &Setup,
+    query: &Query,
+    number: u32,
+    cells: &[Cell],
+) -> Result<Vec<u8>, Memory>
+    requires names { All (IsName setup.now.schema) query.now.dimensions }
+    requires few { All (λ cell. cell.count ≤ MOST_PERSONS) cells.now }
+    ensures { IfOk result (λ text. text.items ≡ text_of_cells setup.now.schema (pvalue_at setup.now.ptable) setup.now.threshold query.now number cells.now) }
+{
+    let mut rows = writer(alloc);
+    let fields = all_fields(alloc, &mut rows, &setup.schema, query)?;
+    let mut text = Bytes::with_room(alloc, room_for(&fields, cells.len()))?;
+    add_release(&mut text, number)?;
+    add_heading(alloc, &mut text, &mut rows, &setup.schema, query)?;
+    let mut first = Bytes::with_room(alloc, HEAD)?;
+    add_lines(&mut text, setup, &mut first, &fields, cells, 0)?;
+    text.push_slice(b".\n")?;
+    Ok(text.into_vec())
+}
