@@ -5,7 +5,7 @@ use Rattle.tablebuilder.specs.declared.endings.Input.{Input}
 use Rattle.tablebuilder.specs.declared.endings.End.{End}
 use Rattle.tablebuilder.specs.declared.endings.End.TheVariants as end
 use Rattle.tablebuilder.specs.declared.load.Asked.{Asked}
-use Rattle.tb_text.specs.Setups.{setup_value}
+use Rattle.tb_script.specs.Setups.{setup_value}
 use Rattle.tablebuilder.specs.Asking.{AskedValue, Contents, contents_at, contents_for, input_place}
 use Rattle.tablebuilder.specs.Calls.{readings_more}
 use Rattle.tablebuilder.specs.Commands.{CommandValue}

@@ -9,7 +9,7 @@ ghost use Rattle.tablebuilder.specs.declared.endings.Input.TheVariants as input;
 ghost use Rattle.tablebuilder.specs.Asking.{asked_over, bytes_in, contents_at, input_place, most_bytes, people_in, perturbation_in, recodes_in, schema_in, script_in};
 ghost use Rattle.tablebuilder.specs.Loading.{Loads, asked_value, reading};
 ghost use Rattle.tablebuilder.specs.Promises.{class_readings, readings_before};
-ghost use Rattle.tb_text.specs.Setups.{setup_value};
+ghost use Rattle.tb_script.specs.Setups.{setup_value};
 
 use crate::command::Command;
 use crate::endings::{End, Input};

@@ -68,6 +68,14 @@ fn run<R: Env + FileSystem + Print + AllocGlobal>(rt: &R) -> Status {
     }
 }
 
+// What the arguments may be, for whoever reads the standard error.
+const USAGE: &str = "usage: tablebuilder script CLASSES RECODES PTABLE PEOPLE THRESHOLD SCRIPT";
+
 fn main(rt: HostRuntime) -> ExitCode {
-    ExitCode::from(run(&rt).number())
+    let status = run(&rt);
+    if status == Status::Usage {
+        // Where that can't be written nothing can be said of it either.
+        let _ = rt.eprintln(USAGE);
+    }
+    ExitCode::from(status.number())
 }

@@ -8,7 +8,7 @@ ghost use Rattle.tb_io.specs.Taken.{Took, TookPart};
 ghost use Rattle.tb_model.specs.Releases.{first_release};
 ghost use Rattle.tb_model.specs.Schemas.{shape_of};
 ghost use Rattle.tb_script.specs.Outputs.{ReplyValue, price_of, text_of};
-ghost use Rattle.tb_text.specs.Setups.{setup_value};
+ghost use Rattle.tb_script.specs.Setups.{setup_value};
 ghost use Rattle.tablebuilder.specs.Endings.{last_line, status_of};
 ghost use Rattle.tablebuilder.specs.Loading.{asked_value};
 ghost use Rattle.tablebuilder.specs.Outputs.{AreAnswers};
@@ -59,7 +59,14 @@ fn answer<O: Sink, L: Ledger>(
         × TookPart (O.taken out.old) (O.taken out.new) (text_of replies)
         × (steps.new ≤ steps.old + price_of replies))) }
 {
-    match run_script(alloc, &asked.setup, &asked.release, &asked.script, out, steps) {
+    match run_script(
+        alloc,
+        &asked.setup,
+        &asked.release,
+        &asked.script,
+        out,
+        steps,
+    ) {
         RunEnd::Done => Status::Done,
         RunEnd::WriteFault => Status::WriteFault,
         RunEnd::Memory => end_by(&End::Memory, out),

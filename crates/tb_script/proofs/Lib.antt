@@ -6,3 +6,4 @@ pub mod Reading
 pub mod WholeFiles
 pub mod OutputLemmas
 pub mod Pieces
+pub mod Answering

@@ -3,6 +3,7 @@ use Rattle.std.proofs.Common.{◌≡◌, ◌∙◌, sym, ap, subst, refl, ℕ, B
 use Rattle.std.specs.List.{concat}
 use Rattle.std.proofs.lemmas.Bool.{cases_Bool}
 use Rattle.std.proofs.lemmas.List.{take-append-drop, take_all, take_more}
+use Rattle.std.proofs.lemmas.List.Sums.{sum_by-append}
 use Rattle.tb_io.specs.Taken.{Took, TookPart}
 use Rattle.tb_io.proofs.TakenLemmas.{Took-append, TookPart-append, TookPart-longer}
 use Rattle.tb_model.specs.Releases.{ReleaseValue}
@@ -29,8 +30,7 @@ text_of-append [] ts = refl
 text_of-append (r ∷ rs) ts = ap (λ t. r.text ++ t) (text_of-append rs ts) ∙ sym (append_assoc r.text (text_of rs) (text_of ts))
 
 pub price_of-append : (rs ts : List ReplyValue) → price_of (rs ++ ts) ≡ price_of rs + price_of ts
-price_of-append [] ts = refl
-price_of-append (r ∷ rs) ts = omega (arith, price_of-append rs ts)
+price_of-append rs ts = sum_by-append (λ r. r.price) rs ts
 
 pub text_of-one : (r : ReplyValue) → text_of (r ∷ []) ≡ r.text
 text_of-one r = append-nil r.text
@@ -57,21 +57,23 @@ module _ (setup : SetupValue) (base : ReleaseValue) where
   one-more-line lines i one rs reply below here before step =
       rw (take_more lines i one below, here) (Lead-append (IsReply setup base) (take i lines) (one ∷ []) rs (reply ∷ []) start start start before (Lead-one (IsReply setup base) one reply start start (refl, step)))
 
-  module _ (a b c : Option (List ℕ)) (p q r : ℕ) (lines : List ScriptLine) (i : ℕ) (one : ScriptLine) (below : i < length lines) (here : get_or lines i one ≡ one)
+  module _ (a b c : Option (List ℕ)) (p q r : ℕ) (lines : List ScriptLine) (i : ℕ) (one : ScriptLine) (bytes : List ℕ) (below : i < length lines) (here : get_or lines i one ≡ one) (same : bytes ≡ one.line)
       (before : (rs : List ReplyValue) × Lead (IsReply setup base) start (take i lines) rs start × Took a b (text_of rs) × (q ≤ p + price_of rs)) where
     -- the reply to one more line was taken
-    pub reply-taken : (reply : ReplyValue) × IsReplyTo setup base one.line reply × Took b c reply.text × (r ≤ q + reply.price)
+    pub reply-taken : (reply : ReplyValue) × IsReplyTo setup base bytes reply × Took b c reply.text × (r ≤ q + reply.price)
         → (rs : List ReplyValue) × Lead (IsReply setup base) start (take (i + 1) lines) rs start × Took a c (text_of rs) × (r ≤ p + price_of rs)
-    reply-taken (reply, step, took, cost) =
+    reply-taken (reply, answer, took, cost) =
+        let step : IsReplyTo setup base one.line reply = subst (λ (b : List ℕ). IsReplyTo setup base b reply) same answer in
         let (rs, lead, so_far, costs) = before in
         let text : text_of (rs ++ reply ∷ []) ≡ text_of rs ++ reply.text = text_of-append rs (reply ∷ []) ∙ ap (λ t. text_of rs ++ t) (text_of-one reply) in
         let price : price_of (rs ++ reply ∷ []) ≡ price_of rs + reply.price = price_of-append rs (reply ∷ []) ∙ ap (λ n. price_of rs + n) (price_of-one reply) in
         (rs ++ reply ∷ [], one-more-line lines i one rs reply below here lead step, rw text (Took-append a b c (text_of rs) reply.text so_far took), omega (arith, price, cost, costs))
 
     -- a part of the reply was taken, which is a part of some replies to all lines
-    pub reply-cut : (reply : ReplyValue) × IsReplyTo setup base one.line reply × TookPart b c reply.text × (r ≤ q + reply.price)
+    pub reply-cut : (reply : ReplyValue) × IsReplyTo setup base bytes reply × TookPart b c reply.text × (r ≤ q + reply.price)
         → (rs : List ReplyValue) × AreReplies (IsReply setup base) start lines rs × TookPart a c (text_of rs) × (r ≤ p + price_of rs)
-    reply-cut (reply, step, part, cost) =
+    reply-cut (reply, answer, part, cost) =
+        let step : IsReplyTo setup base one.line reply = subst (λ (b : List ℕ). IsReplyTo setup base b reply) same answer in
         let (rs, lead, so_far, costs) = before in
         let (others, rest) = some_replies (drop (i + 1) lines) in
         let whole = Lead-append (IsReply setup base) (take (i + 1) lines) (drop (i + 1) lines) (rs ++ reply ∷ []) others start start start (one-more-line lines i one rs reply below here lead step) rest in

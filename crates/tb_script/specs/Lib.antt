@@ -4,3 +4,4 @@ pub mod Parts
 pub mod WholeFiles
 pub mod Outputs
 pub mod Replies
+pub mod Setups

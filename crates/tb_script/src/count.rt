@@ -8,7 +8,7 @@ ghost use Rattle.tb_model.specs.Schemas.{SchemaValue, shape_of};
 ghost use Rattle.tb_model.specs.Texts.{table_text as text_of_table};
 ghost use Rattle.tb_plan.specs.Plans.{plan_of};
 ghost use Rattle.tb_query.specs.Over.{IsOver};
-ghost use Rattle.tb_text.specs.Setups.{setup_value};
+ghost use Rattle.tb_script.specs.Setups.{setup_value};
 
 use std::alloc::Global;
 use std::sync::ledger::Ledger;
@@ -57,6 +57,7 @@ pub fn print_table<L: Ledger>(
     ensures text { IfOk result (λ text. text.items
         ≡ text_of_table (setup_value setup.now) release.now query.now) }
 {
+    release.soundness();
     let plan = Plan::of(alloc, &setup.schema, query)?;
     let cells = count(alloc, &plan, release, steps)?;
     table_text(alloc, setup, query, release.number(), &cells)

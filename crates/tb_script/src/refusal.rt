@@ -30,7 +30,15 @@ pub fn write_refusal<O: Sink>(out: &mut O, name: &FaultName, position: Option<u3
             let at_len = print_number(at, &mut second);
             write_all(
                 out,
-                &[b"refused ", number, b" ", word, b" ", &second[..at_len], b"\n"],
+                &[
+                    b"refused ",
+                    number,
+                    b" ",
+                    word,
+                    b" ",
+                    &second[..at_len],
+                    b"\n",
+                ],
             )
         }
         None => write_all(out, &[b"refused ", number, b" ", word, b"\n"]),

@@ -9,7 +9,7 @@ ghost use Rattle.tb_model.specs.Schemas.{shape_of};
 ghost use Rattle.tb_script.specs.Outputs.{AreReplies, ReplyValue, price_of, text_of};
 ghost use Rattle.tb_script.specs.Replies.{IsAnswer, IsReply, IsReplyTo, start};
 ghost use Rattle.tb_script.specs.declared.run.RunEnd.TheVariants as run_end;
-ghost use Rattle.tb_text.specs.Setups.{setup_value};
+ghost use Rattle.tb_script.specs.Setups.{setup_value};
 
 use crate::count::print_table;
 use crate::line::is_passed_over;

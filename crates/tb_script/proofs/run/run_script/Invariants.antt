@@ -2,7 +2,7 @@ use Rattle.std.proofs.Common.{ℕ, ◌+◌, ◌≤◌, List, take}
 use Rattle.tb_io.specs.Taken.{Took}
 use Rattle.tb_script.specs.Outputs.{Lead, ReplyValue, price_of, text_of}
 use Rattle.tb_script.specs.Replies.{IsReply, start}
-use Rattle.tb_text.specs.Setups.{setup_value}
+use Rattle.tb_script.specs.Setups.{setup_value}
 use Rattle.tb_script.proofs.run.run_script.Given as goal
 
 -- the replies to the lines so far were taken, and cost no more than their price
