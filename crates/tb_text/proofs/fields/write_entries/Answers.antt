@@ -1,8 +1,7 @@
-use Rattle.std.proofs.Common.{◌≡◌, false, true, ◌∷◌, [], ◌++◌, ◌∙◌, rules}
+use Rattle.std.proofs.Common.{◌≡◌, false, true, rules}
 use Rattle.std.specs.Prelude.{codes}
 use Rattle.tb_text.specs.Lines.{before_another}
-use Rattle.tb_text.specs.Writers.{fields_from}
-use Rattle.tb_text.proofs.Dimensions.{category_fields_of, without_total, with_total}
+use Rattle.tb_text.proofs.Dimensions.{without_total, with_total}
 use Rattle.tb_text.proofs.SpanFacts.{parts_and_one}
 use Rattle.tb_text.proofs.fields.write_entries.Goals as goal
 
