@@ -15,7 +15,7 @@ use crate::bytes::Bytes;
 use crate::fields::{Fields, all_fields};
 use crate::lines::add_lines;
 use crate::setup::Setup;
-use crate::writing::{bytes_from, write_one, writer, written_len};
+use crate::writing::{begin_record, bytes_from, write_one, writer, written_len};
 use csv::Writer;
 use std::alloc::Global;
 use tb_base::{Cell, Memory, print_number};
@@ -112,7 +112,8 @@ pub fn table_text(
         ≡ text_of_cells setup.now.schema (pvalue_at setup.now.ptable) setup.now.threshold
         query.now number cells.now) }
 {
-    let mut rows = writer(alloc)?;
+    let mut rows = writer(alloc);
+    begin_record(&mut rows)?;
     let fields = all_fields(alloc, &mut rows, &setup.schema, query)?;
     let mut text = Bytes::with_room(alloc, room_for(&fields, cells.len()))?;
     add_release(&mut text, number)?;

@@ -31,14 +31,22 @@ fn write_field(rows: &mut Writer<Vec<u8>>, text: &[u8]) -> Result<(), Memory>
     }
 }
 
-/// A writer that is within a record: its first field is empty, so that a comma stands before each
-/// other.
-pub(crate) fn writer(alloc: Global) -> Result<Writer<Vec<u8>>, Memory>
-    ensures { IfOk result (λ rows. IsWithinRecord rows) }
+/// A writer that wrote nothing. It holds some kilobytes, so it is not passed on in a `Result`.
+#[inline(always)]
+pub(crate) fn writer(alloc: Global) -> Writer<Vec<u8>>
+    ensures setup { writer_setup result ≡ default_writer }
+    ensures pending { writer_pending result ≡ [] }
 {
-    let mut rows = WriterBuilder::new().from_writer(Vec::new(alloc));
-    write_field(&mut rows, b"")?;
-    Ok(rows)
+    WriterBuilder::new().from_writer(Vec::new(alloc))
+}
+
+/// Begins a record by an empty field, so that a comma stands before each other.
+pub(crate) fn begin_record(rows: &mut Writer<Vec<u8>>) -> Result<(), Memory>
+    requires setup { writer_setup rows.old ≡ default_writer }
+    requires pending { writer_pending rows.old ≡ [] }
+    ensures { OnOk result (IsWithinRecord rows.new) }
+{
+    write_field(rows, b"")
 }
 
 /// How many bytes it wrote.
