@@ -7,7 +7,7 @@ ghost use Rattle.tb_model.specs.RowMajor.{row_major};
 ghost use Rattle.tb_text.specs.Lines.{end_of, lines_under};
 
 use crate::bytes::Bytes;
-use crate::fields::Fields;
+use crate::fields::EntryFields;
 use crate::setup::Setup;
 use tb_base::{Cell, Memory};
 
@@ -26,7 +26,7 @@ fn add_row(
     text: &mut Bytes,
     setup: &Setup,
     first: &Bytes,
-    fields: &Fields,
+    fields: &EntryFields,
     cells: &[Cell],
 ) -> Result<(), Memory>
     requires { All (λ cell. cell.count ≤ MOST_PERSONS) cells.now }
@@ -49,7 +49,7 @@ pub(crate) fn add_lines(
     text: &mut Bytes,
     setup: &Setup,
     first: &mut Bytes,
-    dimensions: &[Fields],
+    dimensions: &[EntryFields],
     cells: &[Cell],
     at: usize,
 ) -> Result<usize, Memory>

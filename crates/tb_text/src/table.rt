@@ -12,7 +12,7 @@ ghost use Rattle.tb_text.specs.Lines.{before_another};
 ghost use Rattle.tb_text.specs.Writers.{IsWithinRecord};
 
 use crate::bytes::Bytes;
-use crate::fields::{Fields, all_fields};
+use crate::fields::{EntryFields, all_fields};
 use crate::lines::add_lines;
 use crate::setup::Setup;
 use crate::writing::{begin_record, bytes_from, write_one, writer, written_len};
@@ -29,7 +29,7 @@ const MOST_DIGITS: usize = 8;
 const HEAD: usize = 256;
 
 // How many bytes the text has at most, but for long names: an entry stands in one line of so many.
-fn room_for(fields: &[Fields], places: usize) -> usize {
+fn room_for(fields: &[EntryFields], places: usize) -> usize {
     let mut room = places.saturating_mul(MOST_DIGITS).saturating_add(HEAD);
     for dimension in fields {
         if dimension.len() > 0 {

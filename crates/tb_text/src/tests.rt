@@ -21,7 +21,7 @@ const RECODES: &[u8] = b"recode,variable,code,group\nAGE2,AGE,0-15,young\n\
 const PTABLE: &[u8] = b"pcv,ckey,pvalue\n3,64,-2\n1,7,1\n4,71,2\n3,127,3\n2,27,-1\n";
 
 // The cells of these counts and keys, if each has few enough persons.
-fn cells_of(alloc: Global, counts: &[(u32, u8)]) -> Result<Vec<Cell>, Memory>
+fn few_cells(alloc: Global, counts: &[(u32, u8)]) -> Result<Vec<Cell>, Memory>
     ensures { IfOk result (λ cells. All (λ cell. cell.count ≤ MOST_PERSONS) cells.items) }
 {
     let mut cells = Vec::new(alloc);
@@ -65,7 +65,7 @@ fn prints(alloc: Global, setup: &Setup, row: &Row, cells: &[Cell]) -> Result<boo
 
 fn is_so(alloc: Global, row: &Row) -> Result<bool, Memory> {
     let setup = setup_of(alloc, row)?;
-    let cells = cells_of(alloc, row.cells)?;
+    let cells = few_cells(alloc, row.cells)?;
     prints(alloc, &setup, row, &cells)
 }
 
