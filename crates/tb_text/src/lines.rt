@@ -7,7 +7,7 @@ ghost use Rattle.tb_model.specs.RowMajor.{row_major};
 ghost use Rattle.tb_text.specs.Lines.{end_of, lines_under};
 
 use crate::bytes::Bytes;
-use crate::fields::Fields;
+use crate::fields::EntryFields;
 use crate::setup::Setup;
 use tb_base::{Cell, Memory};
 
@@ -15,7 +15,8 @@ use tb_base::{Cell, Memory};
 #[inline(always)]
 fn add_end(text: &mut Bytes, setup: &Setup, cell: Cell) -> Result<(), Memory>
     requires { cell.count ≤ MOST_PERSONS }
-    ensures { OnOk result (text.new ≡ text.old ++ end_of (pvalue_at setup.now.ptable) setup.now.threshold cell) }
+    ensures { OnOk result (text.new
+        ≡ text.old ++ end_of (pvalue_at setup.now.ptable) setup.now.threshold cell) }
 {
     text.append_end(setup.ptable.shown(setup.threshold, cell))
 }
@@ -25,15 +26,17 @@ fn add_row(
     text: &mut Bytes,
     setup: &Setup,
     first: &Bytes,
-    fields: &[Bytes],
+    fields: &EntryFields,
     cells: &[Cell],
 ) -> Result<(), Memory>
     requires { All (λ cell. cell.count ≤ MOST_PERSONS) cells.now }
-    ensures { OnOk result (text.new ≡ text.old ++ lines_under (end_of (pvalue_at setup.now.ptable) setup.now.threshold) first.now (fields.now ∷ []) cells.now) }
+    ensures { OnOk result (text.new ≡ text.old
+        ++ lines_under (end_of (pvalue_at setup.now.ptable) setup.now.threshold)
+        first.now (fields.now ∷ []) cells.now) }
 {
     for i in 0..fields.len().min(cells.len()) {
         text.append(first)?;
-        text.append(&fields[i])?;
+        fields.add_to(text, i)?;
         add_end(text, setup, cells[i])?;
     }
     Ok(())
@@ -46,16 +49,19 @@ pub(crate) fn add_lines(
     text: &mut Bytes,
     setup: &Setup,
     first: &mut Bytes,
-    dimensions: &[Fields],
+    dimensions: &[EntryFields],
     cells: &[Cell],
     at: usize,
 ) -> Result<usize, Memory>
     requires within { at ≤ length cells.now }
     requires few { All (λ cell. cell.count ≤ MOST_PERSONS) cells.now }
-    ensures text { OnOk result (text.new ≡ text.old ++ lines_under (end_of (pvalue_at setup.now.ptable) setup.now.threshold) first.old dimensions.now (drop at cells.now)) }
+    ensures text { OnOk result (text.new ≡ text.old
+        ++ lines_under (end_of (pvalue_at setup.now.ptable) setup.now.threshold)
+        first.old dimensions.now (drop at cells.now)) }
     ensures first { OnOk result (first.new ≡ first.old) }
     ensures within { IfOk result (λ next. next ≤ length cells.now) }
-    ensures next { IfOk result (λ next. drop next cells.now ≡ drop (length (row_major dimensions.now)) (drop at cells.now)) }
+    ensures next { IfOk result (λ next. drop next cells.now
+        ≡ drop (length (row_major dimensions.now)) (drop at cells.now)) }
 {
     let Some((fields, rest)) = dimensions.split_first() else {
         if at == cells.len() {
@@ -67,13 +73,13 @@ pub(crate) fn add_lines(
     };
     if rest.is_empty() {
         let row = &cells[at..];
-        add_row(text, setup, first, fields.all(), row)?;
-        return Ok(at + fields.all().len().min(row.len()));
+        add_row(text, setup, first, fields, row)?;
+        return Ok(at + fields.len().min(row.len()));
     }
     let len = first.len();
     let mut next = at;
-    for field in fields.all() {
-        first.append(field)?;
+    for i in 0..fields.len() {
+        fields.add_to(first, i)?;
         next = add_lines(text, setup, first, rest, cells, next)?;
         first.truncate(len);
     }

@@ -1,16 +1,21 @@
 // The text of a table.
 
-ghost use Rattle.std.specs.Prelude.{◌≡◌, ◌≤◌, ◌++◌, codes, decimal, All, IfOk, OnOk};
+ghost use Rattle.std.specs.Prelude.{◌≡◌, ◌≤◌, ◌++◌, ◌∷◌, codes, decimal, map};
+ghost use Rattle.std.specs.Prelude.{◌<◌, length, drop, All, IfOk, OnOk};
+ghost use Rattle.std.specs.List.{concat};
 ghost use Rattle.tb_base.specs.declared.people.TheConstants.{MOST_PERSONS};
 ghost use Rattle.tb_model.specs.Perturbations.{pvalue_at};
+ghost use Rattle.tb_model.specs.Schemas.{name_text};
 ghost use Rattle.tb_model.specs.Texts.{heading, line_text, text_of_cells};
 ghost use Rattle.tb_schema.specs.Names.{IsName};
-ghost use Rattle.tb_text.specs.Lines.{IsBetween};
+ghost use Rattle.tb_text.specs.Lines.{before_another};
+ghost use Rattle.tb_text.specs.Writers.{IsWithinRecord};
 
 use crate::bytes::Bytes;
-use crate::fields::{Fields, all_fields, prepare, writer};
+use crate::fields::{EntryFields, all_fields};
 use crate::lines::add_lines;
 use crate::setup::Setup;
+use crate::writing::{begin_record, bytes_from, write_one, writer, written_len};
 use csv::Writer;
 use std::alloc::Global;
 use tb_base::{Cell, Memory, print_number};
@@ -24,16 +29,12 @@ const MOST_DIGITS: usize = 8;
 const HEAD: usize = 256;
 
 // How many bytes the text has at most, but for long names: an entry stands in one line of so many.
-fn room_for(fields: &[Fields], places: usize) -> usize {
+fn room_for(fields: &[EntryFields], places: usize) -> usize {
     let mut room = places.saturating_mul(MOST_DIGITS).saturating_add(HEAD);
     for dimension in fields {
-        let entries = dimension.all();
-        if entries.len() > 0 {
-            let mut bytes: usize = 0;
-            for field in entries {
-                bytes = bytes.saturating_add(field.len());
-            }
-            room = room.saturating_add(bytes.saturating_mul(places / entries.len()));
+        if dimension.len() > 0 {
+            let lines = places / dimension.len();
+            room = room.saturating_add(dimension.bytes().saturating_mul(lines));
         }
     }
     room
@@ -50,6 +51,34 @@ fn add_release(text: &mut Bytes, number: u32) -> Result<(), Memory>
     text.push_slice(b"\n")
 }
 
+// A comma, and the fields of the dimensions' names, each with a comma.
+fn names_of(
+    alloc: Global,
+    rows: &mut Writer<Vec<u8>>,
+    schema: &Schema,
+    query: &Query,
+) -> Result<Bytes, Memory>
+    requires within { IsWithinRecord rows.old }
+    requires names { All (IsName schema.now) query.now.dimensions }
+    ensures within { OnOk result (IsWithinRecord rows.new) }
+    ensures names { IfOk result (λ names. names ≡ 44 ∷ concat
+        (map (λ d. before_another (name_text schema.now d)) query.now.dimensions)) }
+{
+    let base = written_len(rows);
+    for of in query.dimensions() {
+        write_one(rows, base, schema.name(*of).as_bytes())?;
+    }
+    bytes_from(alloc, rows, base)
+}
+
+// The bytes after the first.
+fn without_first(bytes: &[u8]) -> &[u8]
+    requires { 0 < length bytes.now }
+    ensures { result.now ≡ drop 1 bytes.now }
+{
+    &bytes[1..]
+}
+
 // Adds the line of names.
 fn add_heading(
     alloc: Global,
@@ -58,20 +87,18 @@ fn add_heading(
     schema: &Schema,
     query: &Query,
 ) -> Result<(), Memory>
-    requires between { IsBetween rows.old }
+    requires within { IsWithinRecord rows.old }
     requires names { All (IsName schema.now) query.now.dimensions }
     ensures { OnOk result (text.new ≡ text.old ++ heading schema.now query.now) }
 {
-    for of in query.dimensions() {
-        let name = prepare(alloc, rows, schema.name(*of).as_bytes())?;
-        text.append(&name)?;
-    }
+    let names = names_of(alloc, rows, schema, query)?;
+    text.push_slice(without_first(names.as_slice()))?;
     text.push_slice(b"count\n")
 }
 
 /// The text of a query's table at the release of this number, where these are its cells: one for
-/// each of its places in row-major order, each of at most 1,000,000 persons. It takes memory for
-/// the text, whose room is reserved once, and for a field of each entry.
+/// each of its places in row-major order, each of at most `MOST_PERSONS` persons. It takes memory
+/// for the text, whose room is reserved once, and for the fields of each dimension.
 pub fn table_text(
     alloc: Global,
     setup: &Setup,
@@ -81,9 +108,12 @@ pub fn table_text(
 ) -> Result<Vec<u8>, Memory>
     requires names { All (IsName setup.now.schema) query.now.dimensions }
     requires few { All (λ cell. cell.count ≤ MOST_PERSONS) cells.now }
-    ensures { IfOk result (λ text. text.items ≡ text_of_cells setup.now.schema (pvalue_at setup.now.ptable) setup.now.threshold query.now number cells.now) }
+    ensures { IfOk result (λ text. text.items
+        ≡ text_of_cells setup.now.schema (pvalue_at setup.now.ptable) setup.now.threshold
+        query.now number cells.now) }
 {
     let mut rows = writer(alloc);
+    begin_record(&mut rows)?;
     let fields = all_fields(alloc, &mut rows, &setup.schema, query)?;
     let mut text = Bytes::with_room(alloc, room_for(&fields, cells.len()))?;
     add_release(&mut text, number)?;
