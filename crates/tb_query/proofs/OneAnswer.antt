@@ -123,7 +123,7 @@ one_answer = record {
   not_both = λ schema line q f m hq hf. no_fault schema line q f hq (why schema line f m hf);
 }
 
--- what an answer that is right must be
+-- what a result that is right must be
 by_memory : (schema : SchemaValue) (line : List ℕ) (query : QueryValue) (f : QueryFault) → IsRefused schema line f → Reads schema line query → f ≡ faults.Memory
 by_memory schema line query (faults.NotText i) h is = absurd (no_fault schema line query _ is (why schema line (faults.NotText i) (λ e. absurd (cc)) h))
 by_memory schema line query (faults.Syntax i) h is = absurd (no_fault schema line query _ is (why schema line (faults.Syntax i) (λ e. absurd (cc)) h))

@@ -359,7 +359,7 @@ table_is_grammar = record {
   reads_only_queries = λ ts h. read_cases ts (read_from start ts) refl h;
 }
 
--- what the parser answered, in the grammar's words
+-- what the parser returned, in the grammar's words
 pub parsed : {Q : Type 0} (view_of : Q → NamedQuery) (ts : List Token) (answer : Result Q Stop)
     → MatchResult answer (λ q. read_from start ts ≡ Ok (tail_of (view_of q))) (StopsBy start ts)
     → MatchResult answer (λ q. IsQuery ts (view_of q)) (ParsesNone ts)

@@ -9,8 +9,8 @@ ghost use Rattle.tb_query.specs.Views.{token_view, token_views};
 use crate::tokens::{Kind, Token};
 use std::alloc::{AllocError, AllocFailed};
 
-/// Why the parser stopped: the tokens are no query, and so many are left from the first that may not
-/// stand there; or want of memory.
+/// Why the parser stopped: the tokens are no query, and so many are left from the first that may
+/// not stand there; or want of memory.
 #[derive(Clone, Copy, Debug, PartialEq, Eq)]
 pub enum Stop {
     Syntax(usize),
