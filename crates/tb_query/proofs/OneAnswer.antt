@@ -1,7 +1,7 @@
--- A line has one answer.
-use Rattle.std.proofs.Common.{Result, Ok, Err}
-use Rattle.std.proofs.Common.{◌≡◌, ◌≢◌, ℕ, List, Some, None, sym, refl, ap, ◌∙◌}
-use Rattle.std.specs.Prelude.{IfOk, IfErr, MatchResult}
+-- A line has exactly one answer.
+use Rattle.std.proofs.Common.{◌≡◌, ◌≢◌, ◌⊎◌, inl, inr, ℕ, ◌+◌, Bool, true, false, List, length, Option, Some, None, Result, Ok, Err, sym, refl, ap, subst, ◌∙◌}
+use Rattle.std.specs.Prelude.{IfOk, IfErr, MatchResult, nat_lt}
+use Rattle.std.specs.Option.{option_map, option_or}
 use Rattle.tb_model.specs.Schemas.{SchemaValue}
 use Rattle.tb_model.specs.Queries.{QueryValue}
 use Rattle.tb_query.specs.declared.fault.QueryFault.{QueryFault}
@@ -10,9 +10,12 @@ use Rattle.tb_query.specs.Bytes.{first_not_text}
 use Rattle.tb_query.specs.Tokens.{tokens_of}
 use Rattle.tb_query.specs.Grammar.{NamedQuery, IsQuery}
 use Rattle.tb_query.specs.Meanings.{query_meant}
-use Rattle.tb_query.specs.Faults.{refusal, Reads, IsNoQuery, IsRefused}
+use Rattle.tb_query.specs.declared.limits.TheConstants.{MOST_DIMENSIONS, MOST_FILTERS}
+use Rattle.tb_query.specs.Faults.{unknown_name, unknown_code, first_repeat, fault_if, is_too_large, refusal, Reads, IsNoQuery, IsRefused}
+use Rattle.tb_query.specs.Steps.{start, steps_from}
+use Rattle.tb_query.specs.Reading.{Tail, read_from}
 use Rattle.tb_query.specs.Laws.{OneAnswer}
-use Rattle.tb_query.proofs.Table.{one_query}
+use Rattle.tb_query.proofs.Table.{one_query, read_has_query, no_query}
 
 -- why a line is refused: for a byte, for its grammar, or for what its names and codes stand for
 data Why (schema : SchemaValue) (line : List ℕ) (f : QueryFault) : Type 0 where
@@ -53,14 +56,74 @@ no_fault schema line query f h (by_names q hf is r) =
     let none : None ≡ Some f = sym h.no_fault ∙ e ∙ r in
     absurd (cc)
 
+-- a fault of what names and codes stand for
+abbrev IsOfNames : QueryFault → Type 0
+IsOfNames (faults.NotText i) = ⊥
+IsOfNames (faults.Syntax i) = ⊥
+IsOfNames faults.Memory = ⊥
+IsOfNames _ = Unit {0}
+
+of_option : (o : Option ℕ) (c : ℕ → QueryFault) → ((n : ℕ) → IsOfNames (c n)) → (f : QueryFault) → option_map c o ≡ Some f → IsOfNames f
+of_option None c h f e = absurd (cc)
+of_option (Some n) c h f e = let same : c n ≡ f = cc in subst (λ x. IsOfNames x) same (h n)
+
+of_test : (b : Bool) (g : QueryFault) → IsOfNames g → (f : QueryFault) → fault_if b g ≡ Some f → IsOfNames f
+of_test true g h f e = let same : g ≡ f = cc in subst (λ x. IsOfNames x) same h
+of_test false g h f e = absurd (cc)
+
+of_first : (x y : Option QueryFault) → ((f : QueryFault) → x ≡ Some f → IsOfNames f) → ((f : QueryFault) → y ≡ Some f → IsOfNames f) → (f : QueryFault) → option_or x y ≡ Some f → IsOfNames f
+of_first None y hx hy f e = hy f e
+of_first (Some g) y hx hy f e = hx f e
+
+of_refusal : (schema : SchemaValue) (q : NamedQuery) (f : QueryFault) → refusal schema q ≡ Some f → IsOfNames f
+of_refusal schema q =
+    of_first (option_map faults.UnknownName (unknown_name schema q)) _ (of_option (unknown_name schema q) faults.UnknownName (λ n. tt))
+    (of_first (option_map faults.UnknownCode (unknown_code schema q.filters)) _ (of_option (unknown_code schema q.filters) faults.UnknownCode (λ n. tt))
+    (of_first (option_map faults.RepeatedDimension (first_repeat q.dimensions)) _ (of_option (first_repeat q.dimensions) faults.RepeatedDimension (λ n. tt))
+    (of_first (fault_if (nat_lt MOST_DIMENSIONS (length q.dimensions)) faults.TooManyDimensions) _ (of_test (nat_lt MOST_DIMENSIONS (length q.dimensions)) faults.TooManyDimensions tt)
+    (of_first (fault_if (nat_lt MOST_FILTERS (length q.filters)) faults.TooManyFilters) _ (of_test (nat_lt MOST_FILTERS (length q.filters)) faults.TooManyFilters tt)
+    (of_first (fault_if (is_too_large schema (query_meant schema q)) faults.TooLarge) _ (of_test (is_too_large schema (query_meant schema q)) faults.TooLarge tt)
+    (λ f e. absurd (cc)))))))
+
+-- a line is read, or refused
+abbrev Answered : SchemaValue → List ℕ → Type 0
+Answered schema line = ((q : QueryValue) × Reads schema line q) ⊎ ((f : QueryFault) × (f ≢ faults.Memory) × IsRefused schema line f)
+
+refused_by : (schema : SchemaValue) (line : List ℕ) (q : NamedQuery) (f : QueryFault) → IsOfNames f → first_not_text line ≡ None → IsQuery (tokens_of line) q → refusal schema q ≡ Some f → Answered schema line
+refused_by schema line q (faults.NotText i) k t is e = absurd k
+refused_by schema line q (faults.Syntax i) k t is e = absurd k
+refused_by schema line q faults.Memory k t is e = absurd k
+refused_by schema line q (faults.UnknownName i) k t is e = inr (faults.UnknownName i, (λ m. absurd (cc)), (t, (q, is, e)))
+refused_by schema line q (faults.UnknownCode i) k t is e = inr (faults.UnknownCode i, (λ m. absurd (cc)), (t, (q, is, e)))
+refused_by schema line q (faults.RepeatedDimension i) k t is e = inr (faults.RepeatedDimension i, (λ m. absurd (cc)), (t, (q, is, e)))
+refused_by schema line q faults.TooManyDimensions k t is e = inr (faults.TooManyDimensions, (λ m. absurd (cc)), (t, (q, is, e)))
+refused_by schema line q faults.TooManyFilters k t is e = inr (faults.TooManyFilters, (λ m. absurd (cc)), (t, (q, is, e)))
+refused_by schema line q faults.TooLarge k t is e = inr (faults.TooLarge, (λ m. absurd (cc)), (t, (q, is, e)))
+
+by_refusal : (schema : SchemaValue) (line : List ℕ) (q : NamedQuery) (v : Option QueryFault) → first_not_text line ≡ None → IsQuery (tokens_of line) q → refusal schema q ≡ v → Answered schema line
+by_refusal schema line q None t is e = inl (query_meant schema q, record { named = q; text = t; grammar = is; no_fault = e; means = refl })
+by_refusal schema line q (Some f) t is e = refused_by schema line q f (of_refusal schema q f e) t is e
+
+by_reading : (schema : SchemaValue) (line : List ℕ) (v : Result Tail ℕ) → first_not_text line ≡ None → read_from start (tokens_of line) ≡ v → Answered schema line
+by_reading schema line (Ok r) t e =
+    let here = read_has_query (tokens_of line) r e in
+    by_refusal schema line here.0 (refusal schema here.0) t here.1 refl
+by_reading schema line (Err left) t e =
+    inr (faults.Syntax (steps_from start (tokens_of line) + 1), (λ m. absurd (cc)), (t, record { none = no_query (tokens_of line) left e; read = refl }))
+
+by_bytes : (schema : SchemaValue) (line : List ℕ) (v : Option ℕ) → first_not_text line ≡ v → Answered schema line
+by_bytes schema line (Some i) e = inr (faults.NotText i, (λ m. absurd (cc)), e)
+by_bytes schema line None e = by_reading schema line (read_from start (tokens_of line)) e refl
+
 pub one_answer : OneAnswer
 one_answer = record {
+  some_answer = λ schema line. by_bytes schema line (first_not_text line) refl;
   one_query = λ schema line p q hp hq. sym hp.means ∙ ap (query_meant schema) (one_query (tokens_of line) hp.named hq.named hp.grammar hq.grammar) ∙ hq.means;
   one_fault = λ schema line f g mf mg hf hg. same_fault schema line f g (why schema line f mf hf) (why schema line g mg hg);
   not_both = λ schema line q f m hq hf. no_fault schema line q f hq (why schema line f m hf);
 }
 
--- what an answer that is right must be
+-- what a result that is right must be
 by_memory : (schema : SchemaValue) (line : List ℕ) (query : QueryValue) (f : QueryFault) → IsRefused schema line f → Reads schema line query → f ≡ faults.Memory
 by_memory schema line query (faults.NotText i) h is = absurd (no_fault schema line query _ is (why schema line (faults.NotText i) (λ e. absurd (cc)) h))
 by_memory schema line query (faults.Syntax i) h is = absurd (no_fault schema line query _ is (why schema line (faults.Syntax i) (λ e. absurd (cc)) h))

@@ -2,7 +2,7 @@
 use Rattle.std.proofs.Common.{◌≡◌, ℕ, true, cond, List, [], ◌∷◌, ◌++◌, Option, Some, None, sym, refl, ap, ◌∙◌, subst}
 use Rattle.std.specs.Prelude.{bytes_eq, codes, map, find, is_none, unwrap_or}
 use Rattle.std.specs.List.{AllByRecursion, flat_map}
-use Rattle.std.specs.Option.{option_map, option_or}
+use Rattle.std.specs.Option.{option_map}
 use Rattle.std.proofs.lemmas.Slice.Eq.{bytes_eq-Decides}
 use Rattle.std.proofs.lemmas.List.{map-append}
 use Rattle.std.proofs.lemmas.List.Quantifiers.{position-Some}
@@ -13,9 +13,8 @@ use Rattle.tb_model.specs.Schemas.{SchemaValue, codes_of, name_text}
 use Rattle.tb_model.specs.Queries.{QueryValue}
 use Rattle.tb_query.specs.declared.tokens.Kind.{Kind}
 use Rattle.tb_query.specs.declared.tokens.Kind.TheVariants as kind
-use Rattle.tb_query.specs.declared.fault.QueryFault.{QueryFault}
 use Rattle.tb_query.specs.declared.fault.QueryFault.TheVariants as faults
-use Rattle.tb_query.specs.Tokens.{Token, cut, tokens_of, numbered_from, token_number}
+use Rattle.tb_query.specs.Tokens.{Token, cut, tokens_of, tokens_from, token_number}
 use Rattle.tb_query.specs.Bytes.{first_not_text}
 use Rattle.tb_query.specs.Grammar.{NamedFilter, NamedQuery, Piece, OfKind, NamePiece, CodePiece, IsQuery, separated_by, name_pieces, code_pieces, filter_pieces, where_pieces, with_pieces, query_pieces}
 use Rattle.tb_schema.specs.Names.{place_in, variable_or, variable_names, recode_names}
@@ -165,7 +164,7 @@ same_cut schema line q is no_fault = ap join (query_same schema q no_fault ∙ q
 pub reads_again : (schema : SchemaValue) (line : List ℕ) (query : QueryValue) → Reads schema line query → Reads schema (canonical_text schema query) query
 reads_again schema line query h =
     let printed : canonical_text schema query ≡ join (cut line) = ap (canonical_text schema) (sym h.means) ∙ same_cut schema line h.named h.grammar h.no_fault in
-    let tokens : tokens_of (canonical_text schema query) ≡ tokens_of line = ap (λ x. numbered_from 1 (cut x)) printed ∙ ap (numbered_from 1) (cut-join (cut line) (cut_texts line)) in
+    let tokens : tokens_of (canonical_text schema query) ≡ tokens_of line = ap (λ x. tokens_from 1 (cut x)) printed ∙ ap (tokens_from 1) (cut-join (cut line) (cut_texts line)) in
     record {
       named = h.named;
       text = ap first_not_text printed ∙ none_of_text (join (cut line)) (AreText-join (cut line) (cut_text line (text_of_none line h.text)));

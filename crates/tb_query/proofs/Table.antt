@@ -10,8 +10,8 @@ use Rattle.tb_query.specs.Grammar.{NamedFilter, NamedQuery, Piece, OfKind, NameP
 use Rattle.tb_query.specs.Steps.{Stage, start, dimension, dimensions, name, test, negated, opening, code, codes, filters, first_with, totals, second_with, labels, step, is_end, steps_from, stop_from, IsReadByTable}
 use Rattle.tb_query.specs.Laws.{TableIsGrammar}
 use Rattle.tb_query.specs.Reading.{Tail, tail, no_more, before, result_before, read_from, tail_of, StopsBy, ParsesNone}
-use Rattle.tb_query.specs.declared.parse.tree.Stopped.{Stopped}
-use Rattle.tb_query.specs.declared.parse.tree.Stopped.TheVariants as stopped
+use Rattle.tb_query.specs.declared.parse.tree.Stop.{Stop}
+use Rattle.tb_query.specs.declared.parse.tree.Stop.TheVariants as stop
 
 -- the pieces that may follow
 abbrev dims_more : List Token → List Piece
@@ -344,6 +344,10 @@ unfolding read_from
 read_stops [] at left h = end_stops at left (is_end at) refl h
 read_stops (t ∷ ts) at left h = step_stops at t ts left (step at t.kind) refl (λ next e. read_stops ts next left e) h
 
+-- where nothing is read, the tokens are no query
+pub no_query : (ts : List Token) (left : ℕ) → read_from start ts ≡ Err left → (q : NamedQuery) → IsQuery ts q → ⊥
+no_query ts left h q is = (read_stops ts start left h).no_end (read_by_table ts start (tail_of q) (query_is_read ts q is))
+
 -- the laws
 read_cases : (ts : List Token) (read : Result Tail ℕ) → read_from start ts ≡ read → IsReadByTable ts → (q : NamedQuery) × IsQuery ts q
 read_cases ts (Ok r) e h = let found = read_has_query ts r e in (found.0, found.1)
@@ -355,12 +359,11 @@ table_is_grammar = record {
   reads_only_queries = λ ts h. read_cases ts (read_from start ts) refl h;
 }
 
--- what the parser answered, in the grammar's words
-pub parsed : {Q : Type 0} (view_of : Q → NamedQuery) (ts : List Token) (answer : Result Q Stopped)
+-- what the parser returned, in the grammar's words
+pub parsed : {Q : Type 0} (view_of : Q → NamedQuery) (ts : List Token) (answer : Result Q Stop)
     → MatchResult answer (λ q. read_from start ts ≡ Ok (tail_of (view_of q))) (StopsBy start ts)
     → MatchResult answer (λ q. IsQuery ts (view_of q)) (ParsesNone ts)
 parsed view_of ts (Ok q) h = read_is_query ts (view_of q) h
-parsed view_of ts (Err stopped.Memory) h = tt
-parsed view_of ts (Err (stopped.Syntax left)) h =
-    let stops = read_stops ts start left h in
-    (λ q is. let all = read_by_table ts start (tail_of q) (query_is_read ts q is) in stops.no_end all, stops.count)
+parsed view_of ts (Err stop.Memory) h = tt
+parsed view_of ts (Err (stop.Syntax left)) h =
+    (no_query ts left h, (read_stops ts start left h).count)

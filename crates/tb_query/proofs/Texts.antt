@@ -6,7 +6,7 @@ use Rattle.std.proofs.lemmas.Slice.Eq.{bytes_eq-Decides}
 use Rattle.std.proofs.lemmas.Bool.{eqb-true}
 use Rattle.tb_query.specs.declared.tokens.Kind.{Kind}
 use Rattle.tb_query.specs.declared.tokens.Kind.TheVariants as kind
-use Rattle.tb_query.specs.Tokens.{Token, word_kind, mark_kind, kind_of, cut, numbered_from, tokens_of}
+use Rattle.tb_query.specs.Tokens.{Token, word_kind, mark_kind, kind_of, cut, tokens_from, tokens_of}
 use Rattle.tb_query.specs.Bytes.{is_word_byte}
 use Rattle.tb_query.specs.Grammar.{NamedFilter, NamedQuery, Piece, OfKind, NamePiece, CodePiece, Spell, separated_by, name_pieces, code_pieces, filter_pieces, where_pieces, with_pieces, query_pieces}
 use Rattle.tb_query.specs.Canonical.{word_text, texts_of}
@@ -67,7 +67,7 @@ IsGood _ = Unit {0}
 abbrev AreGood : List Piece → Type 0
 AreGood ps = AllByRecursion IsGood ps
 
-spelled_texts : (n : ℕ) (texts : List (List ℕ)) (ps : List Piece) → AreTokenTexts texts → AreGood ps → Spell (numbered_from n texts) ps → texts_of ps ≡ texts
+spelled_texts : (n : ℕ) (texts : List (List ℕ)) (ps : List Piece) → AreTokenTexts texts → AreGood ps → Spell (tokens_from n texts) ps → texts_of ps ≡ texts
 spelled_texts n [] [] all good h = refl
 spelled_texts n [] (p ∷ ps) all good h = absurd h
 spelled_texts n (t ∷ ts) [] all good h = absurd h

@@ -1,5 +1,5 @@
 -- Laws of the grammar, the table of steps and what a line reads as.
-use Rattle.std.specs.Prelude.{◌≡◌, ◌≢◌, ℕ, List}
+use Rattle.std.specs.Prelude.{◌≡◌, ◌≢◌, ◌⊎◌, ℕ, List}
 use Rattle.tb_model.specs.Schemas.{SchemaValue}
 use Rattle.tb_model.specs.Queries.{QueryValue}
 use Rattle.tb_query.specs.declared.fault.QueryFault.{QueryFault}
@@ -21,8 +21,12 @@ pub record TableIsGrammar : Type 0 where
 abbrev pub OneQuery : Type 0
 OneQuery = (tokens : List Token) (p q : NamedQuery) → IsQuery tokens p → IsQuery tokens q → p ≡ q
 
--- a line reads as at most one query, is refused by at most one fault, and never both
+-- a line reads as exactly one query, or is refused by exactly one fault
 pub record OneAnswer : Type 0 where
+  pub some_answer :
+      (schema : SchemaValue) (line : List ℕ)
+      → ((q : QueryValue) × Reads schema line q)
+      ⊎ ((f : QueryFault) × (f ≢ faults.Memory) × IsRefused schema line f)
   pub one_query :
       (schema : SchemaValue) (line : List ℕ) (p q : QueryValue)
       → Reads schema line p → Reads schema line q → p ≡ q

@@ -1,4 +1,4 @@
--- What is true of every query that was read over a classification.
+-- What is true of every query that was read over a schema.
 use Rattle.std.specs.Prelude.{◌<◌, ◌≤◌, All, length}
 use Rattle.tb_model.specs.declared.names.Filter.{Filter}
 use Rattle.tb_model.specs.Schemas.{SchemaValue, category_count}

@@ -3,8 +3,8 @@ use Rattle.std.specs.Prelude.{◌≡◌, ◌≢◌, ◌++◌, ◌+◌, ℕ, suc,
 use Rattle.std.specs.Prelude.{List, [], ◌∷◌, length, Result, Ok, Err}
 use Rattle.std.specs.Option.{option_map_or}
 use Rattle.tb_query.specs.declared.tokens.Kind.{Kind}
-use Rattle.tb_query.specs.declared.parse.tree.Stopped.{Stopped}
-use Rattle.tb_query.specs.declared.parse.tree.Stopped.TheVariants as stopped
+use Rattle.tb_query.specs.declared.parse.tree.Stop.{Stop}
+use Rattle.tb_query.specs.declared.parse.tree.Stop.TheVariants as stop
 use Rattle.tb_query.specs.Tokens.{Token}
 use Rattle.tb_query.specs.Grammar.{NamedFilter, NamedQuery, IsQuery}
 use Rattle.tb_query.specs.Steps.{Stage, start, dimensions, test, negated, opening, codes, filters}
@@ -48,12 +48,12 @@ abbrev pub Leads : (Tail → Tail) → Stage → List Token → Stage → List T
 Leads f at tokens next rest = read_from at tokens ≡ result_before f (read_from next rest)
 
 -- why the parser stopped, unless for want of memory
-abbrev pub StopsBy : Stage → List Token → Stopped → Type 0
-StopsBy at tokens stopped.Memory = Unit {0}
-StopsBy at tokens (stopped.Syntax left) = read_from at tokens ≡ Err left
+abbrev pub StopsBy : Stage → List Token → Stop → Type 0
+StopsBy at tokens stop.Memory = Unit {0}
+StopsBy at tokens (stop.Syntax left) = read_from at tokens ≡ Err left
 
 -- from a stage on the tokens are the end of a query, with totals and labels as returned
-abbrev pub Ends : Stage → List Token → Result (Bool × Bool) Stopped → Type 0
+abbrev pub Ends : Stage → List Token → Result (Bool × Bool) Stop → Type 0
 Ends at tokens (Ok x) = read_from at tokens ≡ Ok (tail [] false [] [] x.0 x.1)
 Ends at tokens (Err e) = StopsBy at tokens e
 
@@ -66,8 +66,8 @@ abbrev pub with_codes : List Token → Tail → Tail
 with_codes xs (tail ds neg cs fs tot lab) = tail ds neg (xs ++ cs) fs tot lab
 
 -- the last codes of a filter, and its end
-abbrev pub closed_codes : List Token → Tail → Tail
-closed_codes xs (tail ds neg cs fs tot lab) = tail ds false xs fs tot lab
+abbrev pub last_codes : List Token → Tail → Tail
+last_codes xs (tail ds neg cs fs tot lab) = tail ds false xs fs tot lab
 
 -- whether a filter is negated
 abbrev pub with_negated : Bool → Tail → Tail
@@ -88,7 +88,7 @@ tail_of q = tail q.dimensions false [] q.filters q.totals q.labels
 
 -- why no query was parsed, unless for want of memory: the tokens are none, and the table leaves so
 -- many
-abbrev pub ParsesNone : List Token → Stopped → Type 0
-ParsesNone tokens stopped.Memory = Unit {0}
-ParsesNone tokens (stopped.Syntax left) =
+abbrev pub ParsesNone : List Token → Stop → Type 0
+ParsesNone tokens stop.Memory = Unit {0}
+ParsesNone tokens (stop.Syntax left) =
     ((q : NamedQuery) → IsQuery tokens q → ⊥) × (steps_from start tokens + left ≡ length tokens)

@@ -61,11 +61,11 @@ abbrev pub token_number : Token → ℕ
 token_number t = t.number
 
 -- tokens of these texts, numbered from n on
-abbrev pub numbered_from : ℕ → List (List ℕ) → List Token
-numbered_from n [] = []
-numbered_from n (text ∷ texts) =
-    record { number = n; kind = kind_of text; text = text } ∷ numbered_from (n + 1) texts
+abbrev pub tokens_from : ℕ → List (List ℕ) → List Token
+tokens_from n [] = []
+tokens_from n (text ∷ texts) =
+    record { number = n; kind = kind_of text; text = text } ∷ tokens_from (n + 1) texts
 
 -- the tokens of a line, numbered from 1
 abbrev pub tokens_of : List ℕ → List Token
-tokens_of line = numbered_from 1 (cut line)
+tokens_of line = tokens_from 1 (cut line)

@@ -14,11 +14,11 @@ use thiserror::Error;
 pub enum QueryFault {
     #[error("byte {0} must be a tab or a printable ASCII character")]
     NotText(u32),
-    #[error("the line must be a query, and token {0} goes on with none")]
+    #[error("the line must be a query: token {0} is missing or may not stand there")]
     Syntax(u32),
     #[error("token {0} must be the name of a variable or a recode")]
     UnknownName(u32),
-    #[error("token {0} must be a code or a group of its filter's name")]
+    #[error("token {0} must be a code or a group under its filter's name")]
     UnknownCode(u32),
     #[error("token {0} must not be the name of an earlier dimension")]
     RepeatedDimension(u32),

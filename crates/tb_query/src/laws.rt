@@ -18,7 +18,8 @@ pub fn canonical_reads_again()
     ensures { ReadsAgain }
 {}
 
-/// What a line reads as and how it is refused depend on the schema and the line alone.
+/// A line reads as exactly one query, or is refused by exactly one fault; so a refusal depends on
+/// the schema and the line alone.
 pub fn one_answer()
     ensures { OneAnswer }
 {}

@@ -19,20 +19,20 @@ use ends::ending;
 use filters::filters;
 use std::alloc::Global;
 use tree::first;
-pub use tree::{FilterTokens, QueryTokens, Stopped};
+pub use tree::{FilterTokens, QueryTokens, Stop};
 
 // `table`.
 #[tactic(auto, unfolding(crate::specs::Reading::read_from))]
-fn table<'t, 'a>(tokens: &'t [Token<'a>]) -> Result<&'t [Token<'a>], Stopped>
+fn table<'t, 'a>(tokens: &'t [Token<'a>]) -> Result<&'t [Token<'a>], Stop>
     ensures { MatchResult result
         (λ rest. Leads (λ r. r) start (token_views tokens.now) dimension (token_views rest.now))
         (StopsBy start (token_views tokens.now)) }
 {
     match first(tokens) {
-        None => Err(Stopped::Syntax(tokens.len())),
+        None => Err(Stop::Syntax(tokens.len())),
         Some((t, rest)) => match t.kind {
             Kind::Table => Ok(rest),
-            _ => Err(Stopped::Syntax(tokens.len())),
+            _ => Err(Stop::Syntax(tokens.len())),
         },
     }
 }
@@ -54,7 +54,7 @@ fn where_<'t, 'a>(tokens: &'t [Token<'a>]) -> Option<&'t [Token<'a>]>
 }
 
 // The whole query.
-fn query<'a>(alloc: Global, tokens: &[Token<'a>]) -> Result<QueryTokens<'a>, Stopped>
+fn query<'a>(alloc: Global, tokens: &[Token<'a>]) -> Result<QueryTokens<'a>, Stop>
     ensures { MatchResult result
         (λ q. read_from start (token_views tokens.now) ≡ Ok (tail_of (query_view q)))
         (StopsBy start (token_views tokens.now)) }
@@ -82,7 +82,7 @@ fn query<'a>(alloc: Global, tokens: &[Token<'a>]) -> Result<QueryTokens<'a>, Sto
 }
 
 /// The query that the tokens are.
-pub fn parse<'a>(alloc: Global, tokens: &[Token<'a>]) -> Result<QueryTokens<'a>, Stopped>
+pub fn parse<'a>(alloc: Global, tokens: &[Token<'a>]) -> Result<QueryTokens<'a>, Stop>
     ensures { MatchResult result (λ q. IsQuery (token_views tokens.now) (query_view q))
         (ParsesNone (token_views tokens.now)) }
 {

@@ -180,7 +180,7 @@ fn texts<'s>(alloc: Global, schema: &'s Schema, query: &Query) -> Result<Vec<&'s
 }
 
 /// The canonical text of a query: its tokens one blank apart, but none after `(` and none before
-/// `,` or `)`. It takes memory for the text and for the places of its tokens.
+/// `,` or `)`. It takes memory for the text and, until it returns, for a list of its tokens.
 #[tactic(auto, using(crate::proofs::RoundTrip::reads_again))]
 pub fn print_query(alloc: Global, schema: &Schema, query: &Query) -> Result<Vec<u8>, Memory>
     requires { IsOver schema.now query.now }

@@ -9,13 +9,13 @@ ghost use Rattle.tb_query.specs.Over.{IsFilterOver, IsOver};
 use crate::check::query_meant;
 use crate::fault::QueryFault;
 use crate::limits::MOST_LINE_BYTES;
-use crate::parse::{Stopped, parse};
+use crate::parse::{Stop, parse};
 use crate::query::Query;
 use crate::tokens::{first_not_text, tokens};
 use std::alloc::Global;
 use tb_schema::Schema;
 
-// The same, with what its dimensions and filters are.
+// The query of a line, or the line's first fault, with what is true of its names and codes.
 fn read(alloc: Global, schema: &Schema, line: &[u8]) -> Result<Query, QueryFault>
     requires { length line.now ≤ MOST_LINE_BYTES }
     ensures read { IfOk result (Reads schema.now line.now) }
@@ -29,8 +29,8 @@ fn read(alloc: Global, schema: &Schema, line: &[u8]) -> Result<Query, QueryFault
     let tokens = tokens(alloc, line)?;
     let query = match parse(alloc, &tokens) {
         Ok(query) => query,
-        Err(Stopped::Memory) => return Err(QueryFault::Memory),
-        Err(Stopped::Syntax(left)) => {
+        Err(Stop::Memory) => return Err(QueryFault::Memory),
+        Err(Stop::Syntax(left)) => {
             return Err(QueryFault::Syntax((tokens.len() - left + 1) as u32));
         }
     };

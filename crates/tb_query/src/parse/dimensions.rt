@@ -6,7 +6,7 @@ ghost use Rattle.tb_query.specs.Reading.{Leads, NotNext, StopsBy, with_dimension
 ghost use Rattle.tb_query.specs.Steps.{dimension, dimensions as dimensions_read};
 ghost use Rattle.tb_query.specs.Views.{token_views};
 
-use super::tree::{Stopped, first, name};
+use super::tree::{Stop, first, name};
 use crate::tokens::{Kind, Token};
 use std::alloc::Global;
 
@@ -31,7 +31,7 @@ fn by<'t, 'a>(tokens: &'t [Token<'a>]) -> Option<&'t [Token<'a>]>
 pub fn dimensions<'t, 'a>(
     alloc: Global,
     tokens: &'t [Token<'a>],
-) -> Result<(Vec<Token<'a>>, &'t [Token<'a>]), Stopped>
+) -> Result<(Vec<Token<'a>>, &'t [Token<'a>]), Stop>
     ensures dimensions { MatchResult result
         (λ x. Leads (with_dimensions (token_views x.0.items)) dimension (token_views tokens.now)
         dimensions_read (token_views x.1.now))

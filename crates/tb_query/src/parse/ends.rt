@@ -8,42 +8,42 @@ ghost use Rattle.tb_query.specs.Steps.{first_with as first_with_due, labels as l
 ghost use Rattle.tb_query.specs.Steps.{second_with as second_with_due, totals as totals_read};
 ghost use Rattle.tb_query.specs.Views.{token_views};
 
-use super::tree::{Stopped, first};
+use super::tree::{Stop, first};
 use crate::tokens::{Kind, Token};
 
 // The end of the line.
 #[tactic(auto, unfolding(crate::specs::Reading::read_from))]
-fn end(tokens: &[Token]) -> Result<(), Stopped>
+fn end(tokens: &[Token]) -> Result<(), Stop>
     ensures { MatchResult result
         (λ _. read_from labels_read (token_views tokens.now) ≡ Ok no_more)
         (StopsBy labels_read (token_views tokens.now)) }
 {
     match first(tokens) {
         None => Ok(()),
-        Some(_) => Err(Stopped::Syntax(tokens.len())),
+        Some(_) => Err(Stop::Syntax(tokens.len())),
     }
 }
 
 // `labels` after `with`, where there were totals.
 #[tactic(auto, unfolding(crate::specs::Reading::read_from))]
-fn second_with(tokens: &[Token]) -> Result<(), Stopped>
+fn second_with(tokens: &[Token]) -> Result<(), Stop>
     ensures { MatchResult result
         (λ _. read_from second_with_due (token_views tokens.now)
         ≡ Ok (tail [] false [] [] false true))
         (StopsBy second_with_due (token_views tokens.now)) }
 {
     match first(tokens) {
-        None => Err(Stopped::Syntax(tokens.len())),
+        None => Err(Stop::Syntax(tokens.len())),
         Some((t, rest)) => match t.kind {
             Kind::Labels => end(rest),
-            _ => Err(Stopped::Syntax(tokens.len())),
+            _ => Err(Stop::Syntax(tokens.len())),
         },
     }
 }
 
 // Whether labels are asked for after totals.
 #[tactic(auto, unfolding(crate::specs::Reading::read_from))]
-fn after_totals(tokens: &[Token]) -> Result<bool, Stopped>
+fn after_totals(tokens: &[Token]) -> Result<bool, Stop>
     ensures { MatchResult result
         (λ lab. read_from totals_read (token_views tokens.now)
         ≡ Ok (tail [] false [] [] false lab))
@@ -56,21 +56,21 @@ fn after_totals(tokens: &[Token]) -> Result<bool, Stopped>
                 second_with(rest)?;
                 Ok(true)
             }
-            _ => Err(Stopped::Syntax(tokens.len())),
+            _ => Err(Stop::Syntax(tokens.len())),
         },
     }
 }
 
 // Whether totals and labels are asked for, after the first `with`.
 #[tactic(auto, unfolding(crate::specs::Reading::read_from))]
-fn first_with(tokens: &[Token]) -> Result<(bool, bool), Stopped>
+fn first_with(tokens: &[Token]) -> Result<(bool, bool), Stop>
     ensures { MatchResult result
         (λ x. read_from first_with_due (token_views tokens.now)
         ≡ Ok (tail [] false [] [] x.0 x.1))
         (StopsBy first_with_due (token_views tokens.now)) }
 {
     match first(tokens) {
-        None => Err(Stopped::Syntax(tokens.len())),
+        None => Err(Stop::Syntax(tokens.len())),
         Some((t, rest)) => match t.kind {
             Kind::Totals => {
                 let labels = after_totals(rest)?;
@@ -80,14 +80,14 @@ fn first_with(tokens: &[Token]) -> Result<(bool, bool), Stopped>
                 end(rest)?;
                 Ok((false, true))
             }
-            _ => Err(Stopped::Syntax(tokens.len())),
+            _ => Err(Stop::Syntax(tokens.len())),
         },
     }
 }
 
 /// Whether totals and labels are asked for, after the dimensions and filters.
 #[tactic(auto, unfolding(crate::specs::Reading::read_from))]
-pub fn ending(tokens: &[Token]) -> Result<(bool, bool), Stopped>
+pub fn ending(tokens: &[Token]) -> Result<(bool, bool), Stop>
     ensures after_dimensions { NotNext By (token_views tokens.now)
         → NotNext Where (token_views tokens.now)
         → Ends dimensions_read (token_views tokens.now) result }
@@ -98,7 +98,7 @@ pub fn ending(tokens: &[Token]) -> Result<(bool, bool), Stopped>
         None => Ok((false, false)),
         Some((t, rest)) => match t.kind {
             Kind::With => first_with(rest),
-            _ => Err(Stopped::Syntax(tokens.len())),
+            _ => Err(Stop::Syntax(tokens.len())),
         },
     }
 }

@@ -3,20 +3,20 @@
 ghost use Rattle.std.specs.Prelude.{◌∷◌, ◌<◌, [], IfOk, IfSome, MatchOption, MatchResult, false};
 ghost use Rattle.std.specs.Prelude.{length};
 ghost use Rattle.tb_query.specs.declared.tokens.Kind.TheVariants.{And, Comma};
-ghost use Rattle.tb_query.specs.Reading.{Leads, NotNext, StopsBy, before, closed_codes};
+ghost use Rattle.tb_query.specs.Reading.{Leads, NotNext, StopsBy, before, last_codes};
 ghost use Rattle.tb_query.specs.Reading.{with_filters, with_negated};
 ghost use Rattle.tb_query.specs.Steps.{code as code_due, codes as codes_read};
 ghost use Rattle.tb_query.specs.Steps.{filters as filters_read, name as name_due};
 ghost use Rattle.tb_query.specs.Steps.{negated as negated_due, opening as opening_due, test};
 ghost use Rattle.tb_query.specs.Views.{filter_view, filter_views, token_view, token_views};
 
-use super::tree::{FilterTokens, Stopped, first, name};
+use super::tree::{FilterTokens, Stop, first, name};
 use crate::tokens::{Kind, Token};
 use std::alloc::Global;
 
 // `(` of a filter.
 #[tactic(auto, unfolding(crate::specs::Reading::read_from))]
-fn opening<'t, 'a>(tokens: &'t [Token<'a>]) -> Result<&'t [Token<'a>], Stopped>
+fn opening<'t, 'a>(tokens: &'t [Token<'a>]) -> Result<&'t [Token<'a>], Stop>
     ensures opening { MatchResult result
         (λ rest. Leads (λ r. r) opening_due (token_views tokens.now)
         code_due (token_views rest.now))
@@ -24,17 +24,17 @@ fn opening<'t, 'a>(tokens: &'t [Token<'a>]) -> Result<&'t [Token<'a>], Stopped>
     ensures shorter { IfOk result (λ rest. length rest.now < length tokens.now) }
 {
     match first(tokens) {
-        None => Err(Stopped::Syntax(tokens.len())),
+        None => Err(Stop::Syntax(tokens.len())),
         Some((t, rest)) => match t.kind {
             Kind::Open => Ok(rest),
-            _ => Err(Stopped::Syntax(tokens.len())),
+            _ => Err(Stop::Syntax(tokens.len())),
         },
     }
 }
 
 // `in (` of a negated filter.
 #[tactic(auto, unfolding(crate::specs::Reading::read_from))]
-fn negated<'t, 'a>(tokens: &'t [Token<'a>]) -> Result<&'t [Token<'a>], Stopped>
+fn after_not<'t, 'a>(tokens: &'t [Token<'a>]) -> Result<&'t [Token<'a>], Stop>
     ensures negated { MatchResult result
         (λ rest. Leads (with_negated false) negated_due (token_views tokens.now)
         code_due (token_views rest.now))
@@ -42,17 +42,17 @@ fn negated<'t, 'a>(tokens: &'t [Token<'a>]) -> Result<&'t [Token<'a>], Stopped>
     ensures shorter { IfOk result (λ rest. length rest.now < length tokens.now) }
 {
     match first(tokens) {
-        None => Err(Stopped::Syntax(tokens.len())),
+        None => Err(Stop::Syntax(tokens.len())),
         Some((t, rest)) => match t.kind {
             Kind::In => opening(rest),
-            _ => Err(Stopped::Syntax(tokens.len())),
+            _ => Err(Stop::Syntax(tokens.len())),
         },
     }
 }
 
 // `in (` or `not in (` of a filter, and whether it is negated.
 #[tactic(auto, unfolding(crate::specs::Reading::read_from))]
-fn membership<'t, 'a>(tokens: &'t [Token<'a>]) -> Result<(bool, &'t [Token<'a>]), Stopped>
+fn membership<'t, 'a>(tokens: &'t [Token<'a>]) -> Result<(bool, &'t [Token<'a>]), Stop>
     ensures membership { MatchResult result
         (λ x. Leads (with_negated x.0) test (token_views tokens.now)
         code_due (token_views x.1.now))
@@ -60,24 +60,24 @@ fn membership<'t, 'a>(tokens: &'t [Token<'a>]) -> Result<(bool, &'t [Token<'a>])
     ensures shorter { IfOk result (λ x. length x.1.now < length tokens.now) }
 {
     match first(tokens) {
-        None => Err(Stopped::Syntax(tokens.len())),
+        None => Err(Stop::Syntax(tokens.len())),
         Some((t, rest)) => match t.kind {
             Kind::Not => {
-                let after = negated(rest)?;
+                let after = after_not(rest)?;
                 Ok((true, after))
             }
             Kind::In => {
                 let after = opening(rest)?;
                 Ok((false, after))
             }
-            _ => Err(Stopped::Syntax(tokens.len())),
+            _ => Err(Stop::Syntax(tokens.len())),
         },
     }
 }
 
 // A code.
 #[tactic(auto, unfolding(crate::specs::Reading::read_from))]
-fn code<'t, 'a>(tokens: &'t [Token<'a>]) -> Result<(Token<'a>, &'t [Token<'a>]), Stopped>
+fn code<'t, 'a>(tokens: &'t [Token<'a>]) -> Result<(Token<'a>, &'t [Token<'a>]), Stop>
     ensures code { MatchResult result
         (λ x. Leads (before codes_read (token_view x.0)) code_due (token_views tokens.now)
         codes_read (token_views x.1.now))
@@ -85,10 +85,10 @@ fn code<'t, 'a>(tokens: &'t [Token<'a>]) -> Result<(Token<'a>, &'t [Token<'a>]),
     ensures shorter { IfOk result (λ x. length x.1.now < length tokens.now) }
 {
     match first(tokens) {
-        None => Err(Stopped::Syntax(tokens.len())),
+        None => Err(Stop::Syntax(tokens.len())),
         Some((t, rest)) => match t.kind {
             Kind::Open | Kind::Comma | Kind::Close | Kind::Other => {
-                Err(Stopped::Syntax(tokens.len()))
+                Err(Stop::Syntax(tokens.len()))
             }
             _ => Ok((t, rest)),
         },
@@ -114,18 +114,18 @@ fn comma<'t, 'a>(tokens: &'t [Token<'a>]) -> Option<&'t [Token<'a>]>
 
 // `)` after the last code.
 #[tactic(auto, unfolding(crate::specs::Reading::read_from))]
-fn closing<'t, 'a>(tokens: &'t [Token<'a>]) -> Result<&'t [Token<'a>], Stopped>
+fn closing<'t, 'a>(tokens: &'t [Token<'a>]) -> Result<&'t [Token<'a>], Stop>
     ensures closing { NotNext Comma (token_views tokens.now) → MatchResult result
-        (λ rest. Leads (closed_codes []) codes_read (token_views tokens.now)
+        (λ rest. Leads (last_codes []) codes_read (token_views tokens.now)
         filters_read (token_views rest.now))
         (StopsBy codes_read (token_views tokens.now)) }
     ensures shorter { IfOk result (λ rest. length rest.now < length tokens.now) }
 {
     match first(tokens) {
-        None => Err(Stopped::Syntax(tokens.len())),
+        None => Err(Stop::Syntax(tokens.len())),
         Some((t, rest)) => match t.kind {
             Kind::Close => Ok(rest),
-            _ => Err(Stopped::Syntax(tokens.len())),
+            _ => Err(Stop::Syntax(tokens.len())),
         },
     }
 }
@@ -134,9 +134,9 @@ fn closing<'t, 'a>(tokens: &'t [Token<'a>]) -> Result<&'t [Token<'a>], Stopped>
 fn codes<'t, 'a>(
     alloc: Global,
     tokens: &'t [Token<'a>],
-) -> Result<(Vec<Token<'a>>, &'t [Token<'a>]), Stopped>
+) -> Result<(Vec<Token<'a>>, &'t [Token<'a>]), Stop>
     ensures codes { MatchResult result
-        (λ x. Leads (closed_codes (token_views x.0.items)) code_due (token_views tokens.now)
+        (λ x. Leads (last_codes (token_views x.0.items)) code_due (token_views tokens.now)
         filters_read (token_views x.1.now))
         (StopsBy code_due (token_views tokens.now)) }
     ensures shorter { IfOk result (λ x. length x.1.now < length tokens.now) }
@@ -157,7 +157,7 @@ fn codes<'t, 'a>(
 fn filter<'t, 'a>(
     alloc: Global,
     tokens: &'t [Token<'a>],
-) -> Result<(FilterTokens<'a>, &'t [Token<'a>]), Stopped>
+) -> Result<(FilterTokens<'a>, &'t [Token<'a>]), Stop>
     ensures filter { MatchResult result
         (λ x. Leads (with_filters (filter_view x.0 ∷ [])) name_due (token_views tokens.now)
         filters_read (token_views x.1.now))
@@ -196,7 +196,7 @@ fn and<'t, 'a>(tokens: &'t [Token<'a>]) -> Option<&'t [Token<'a>]>
 pub fn filters<'t, 'a>(
     alloc: Global,
     tokens: &'t [Token<'a>],
-) -> Result<(Vec<FilterTokens<'a>>, &'t [Token<'a>]), Stopped>
+) -> Result<(Vec<FilterTokens<'a>>, &'t [Token<'a>]), Stop>
     ensures filters { MatchResult result
         (λ x. Leads (with_filters (filter_views x.0.items)) name_due (token_views tokens.now)
         filters_read (token_views x.1.now))

@@ -9,10 +9,10 @@ ghost use Rattle.tb_query.specs.Views.{token_view, token_views};
 use crate::tokens::{Kind, Token};
 use std::alloc::{AllocError, AllocFailed};
 
-/// Why the parser stopped: the tokens are no query, and so many are left from the first that goes
-/// on with none; or want of memory.
+/// Why the parser stopped: the tokens are no query, and so many are left from the first that may
+/// not stand there; or want of memory.
 #[derive(Clone, Copy, Debug, PartialEq, Eq)]
-pub enum Stopped {
+pub enum Stop {
     Syntax(usize),
     Memory,
 }
@@ -34,23 +34,23 @@ pub struct QueryTokens<'a> {
     pub labels: bool,
 }
 
-impl From<AllocError> for Stopped {
-    ghost use Rattle.tb_query.specs.declared.parse.tree.Stopped.TheVariants.{Memory};
+impl From<AllocError> for Stop {
+    ghost use Rattle.tb_query.specs.declared.parse.tree.Stop.TheVariants.{Memory};
 
     ghost from_gives = { λ _ e. e ≡ Memory };
 
-    fn from(_e: AllocError) -> Stopped {
-        Stopped::Memory
+    fn from(_e: AllocError) -> Stop {
+        Stop::Memory
     }
 }
 
-impl<T: Drop> From<AllocFailed<T>> for Stopped {
-    ghost use Rattle.tb_query.specs.declared.parse.tree.Stopped.TheVariants.{Memory};
+impl<T: Drop> From<AllocFailed<T>> for Stop {
+    ghost use Rattle.tb_query.specs.declared.parse.tree.Stop.TheVariants.{Memory};
 
     ghost from_gives = { λ _ e. e ≡ Memory };
 
-    fn from(_e: AllocFailed<T>) -> Stopped {
-        Stopped::Memory
+    fn from(_e: AllocFailed<T>) -> Stop {
+        Stop::Memory
     }
 }
 
@@ -67,7 +67,7 @@ pub fn first<'t, 'a>(tokens: &'t [Token<'a>]) -> Option<(Token<'a>, &'t [Token<'
 
 /// A name, of a dimension or of a filter.
 #[tactic(auto, unfolding(crate::specs::Reading::read_from))]
-pub fn name<'t, 'a>(tokens: &'t [Token<'a>]) -> Result<(Token<'a>, &'t [Token<'a>]), Stopped>
+pub fn name<'t, 'a>(tokens: &'t [Token<'a>]) -> Result<(Token<'a>, &'t [Token<'a>]), Stop>
     ensures of_dimension { MatchResult result
         (λ x. Leads (before dimensions_read (token_view x.0)) dimension (token_views tokens.now)
         dimensions_read (token_views x.1.now))
@@ -79,10 +79,10 @@ pub fn name<'t, 'a>(tokens: &'t [Token<'a>]) -> Result<(Token<'a>, &'t [Token<'a
     ensures shorter { IfOk result (λ x. length x.1.now < length tokens.now) }
 {
     match first(tokens) {
-        None => Err(Stopped::Syntax(tokens.len())),
+        None => Err(Stop::Syntax(tokens.len())),
         Some((t, rest)) => match t.kind {
             Kind::Name => Ok((t, rest)),
-            _ => Err(Stopped::Syntax(tokens.len())),
+            _ => Err(Stop::Syntax(tokens.len())),
         },
     }
 }

@@ -134,7 +134,7 @@ static TEXTS: [(QueryFault, u8, &str); 9] = [
     (
         QueryFault::Syntax(4),
         2,
-        "the line must be a query, and token 4 goes on with none",
+        "the line must be a query: token 4 is missing or may not stand there",
     ),
     (
         QueryFault::UnknownName(4),
@@ -144,7 +144,7 @@ static TEXTS: [(QueryFault, u8, &str); 9] = [
     (
         QueryFault::UnknownCode(7),
         4,
-        "token 7 must be a code or a group of its filter's name",
+        "token 7 must be a code or a group under its filter's name",
     ),
     (
         QueryFault::RepeatedDimension(4),

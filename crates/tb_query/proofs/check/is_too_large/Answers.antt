@@ -1,4 +1,4 @@
-use Rattle.std.proofs.Common.{◌*◌, map, nat_lt, ap, ◌∙◌, arith}
+use Rattle.std.proofs.Common.{map, nat_lt, ap, ◌∙◌, arith}
 use Rattle.tb_model.specs.RowMajor.{product}
 use Rattle.tb_model.proofs.TableLemmas.{size_of}
 use Rattle.tb_query.proofs.Capped.{once, places_by_product}
