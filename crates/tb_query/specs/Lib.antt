@@ -1,1 +1,13 @@
+pub mod Bytes
+pub mod Canonical
+pub mod Cutting
+pub mod FaultNames
+pub mod Faults
+pub mod Grammar
+pub mod Laws
+pub mod Meanings
 pub mod Over
+pub mod Reading
+pub mod Steps
+pub mod Tokens
+pub mod Views

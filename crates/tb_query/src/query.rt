@@ -1,7 +1,6 @@
 // A query over a classification.
 
 ghost use Rattle.std.specs.Prelude.{◌≡◌, ◌<◌, length, slice_index_or};
-ghost use Rattle.tb_model.specs.declared.names.NameOf.TheVariants as name_of;
 
 use std::marker::Model;
 use tb_model::{Filter, NameOf};
@@ -22,10 +21,10 @@ impl Model for Query {
     ghost Value = { QueryValue };
 
     ghost view = { λ q. record {
-        dimensions = q.dimensions.items;
-        filters = q.filters.items;
-        totals = q.totals;
-        labels = q.labels;
+      dimensions = q.dimensions.items;
+      filters = q.filters.items;
+      totals = q.totals;
+      labels = q.labels;
     } };
 }
 
@@ -38,10 +37,10 @@ impl Query {
         labels: bool,
     ) -> Query
         ensures { result ≡ record {
-            dimensions = dimensions.items;
-            filters = filters.items;
-            totals = totals;
-            labels = labels;
+          dimensions = dimensions.items;
+          filters = filters.items;
+          totals = totals;
+          labels = labels;
         } }
     {
         Query {
@@ -79,6 +78,13 @@ impl Query {
         ensures { result ≡ length self.now.filters }
     {
         self.filters.len()
+    }
+
+    /// Its filters, in order.
+    pub(crate) fn all_filters(&self) -> &[Filter]
+        ensures { result.now ≡ self.now.filters }
+    {
+        &self.filters
     }
 
     /// The filter `i`, from 0.

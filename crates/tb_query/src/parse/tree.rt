@@ -1,0 +1,88 @@
+// What the parser makes of tokens, and why it stops.
+
+ghost use Rattle.std.specs.Prelude.{◌≡◌, ◌∷◌, ◌<◌, [], IfOk, MatchOption, MatchResult, length};
+ghost use Rattle.tb_query.specs.Reading.{Leads, StopsBy, before};
+ghost use Rattle.tb_query.specs.Steps.{dimension, dimensions as dimensions_read, name as name_due};
+ghost use Rattle.tb_query.specs.Steps.{test};
+ghost use Rattle.tb_query.specs.Views.{token_view, token_views};
+
+use crate::tokens::{Kind, Token};
+use std::alloc::{AllocError, AllocFailed};
+
+/// Why the parser stopped: the tokens are no query, and so many are left from the first that goes
+/// on with none; or want of memory.
+#[derive(Clone, Copy, Debug, PartialEq, Eq)]
+pub enum Stopped {
+    Syntax(usize),
+    Memory,
+}
+
+/// A filter, by the tokens of its name and codes.
+#[derive(Drop)]
+pub struct FilterTokens<'a> {
+    pub name: Token<'a>,
+    pub negated: bool,
+    pub codes: Vec<Token<'a>>,
+}
+
+/// A query, by the tokens of its names and codes.
+#[derive(Drop)]
+pub struct QueryTokens<'a> {
+    pub dimensions: Vec<Token<'a>>,
+    pub filters: Vec<FilterTokens<'a>>,
+    pub totals: bool,
+    pub labels: bool,
+}
+
+impl From<AllocError> for Stopped {
+    ghost use Rattle.tb_query.specs.declared.parse.tree.Stopped.TheVariants.{Memory};
+
+    ghost from_gives = { λ _ e. e ≡ Memory };
+
+    fn from(_e: AllocError) -> Stopped {
+        Stopped::Memory
+    }
+}
+
+impl<T: Drop> From<AllocFailed<T>> for Stopped {
+    ghost use Rattle.tb_query.specs.declared.parse.tree.Stopped.TheVariants.{Memory};
+
+    ghost from_gives = { λ _ e. e ≡ Memory };
+
+    fn from(_e: AllocFailed<T>) -> Stopped {
+        Stopped::Memory
+    }
+}
+
+/// The first token, and the tokens after it.
+pub fn first<'t, 'a>(tokens: &'t [Token<'a>]) -> Option<(Token<'a>, &'t [Token<'a>])>
+    ensures { MatchOption result (token_views tokens.now ≡ [])
+        (λ x. token_views tokens.now ≡ token_view x.0 ∷ token_views x.1.now) }
+{
+    match tokens {
+        [] => None,
+        [t, rest @ ..] => Some((*t, rest)),
+    }
+}
+
+/// A name, of a dimension or of a filter.
+#[tactic(auto, unfolding(crate::specs::Reading::read_from))]
+pub fn name<'t, 'a>(tokens: &'t [Token<'a>]) -> Result<(Token<'a>, &'t [Token<'a>]), Stopped>
+    ensures of_dimension { MatchResult result
+        (λ x. Leads (before dimensions_read (token_view x.0)) dimension (token_views tokens.now)
+        dimensions_read (token_views x.1.now))
+        (StopsBy dimension (token_views tokens.now)) }
+    ensures of_filter { MatchResult result
+        (λ x. Leads (before test (token_view x.0)) name_due (token_views tokens.now)
+        test (token_views x.1.now))
+        (StopsBy name_due (token_views tokens.now)) }
+    ensures shorter { IfOk result (λ x. length x.1.now < length tokens.now) }
+{
+    match first(tokens) {
+        None => Err(Stopped::Syntax(tokens.len())),
+        Some((t, rest)) => match t.kind {
+            Kind::Name => Ok((t, rest)),
+            _ => Err(Stopped::Syntax(tokens.len())),
+        },
+    }
+}
