@@ -14,3 +14,6 @@ mod plan;
 mod steps;
 
 pub use plan::Plan;
+
+#[cfg(test)]
+mod tests;
