@@ -1,8 +1,9 @@
-// What no clause says: with ample memory a release is made, over the small microdata and over none.
+// What no clause says: with ample memory a release is made, over the small microdata and over none,
+// and so are settings.
 
 ghost use Rattle.std.specs.Prelude.{◌≡◌, ◌+◌, ◌*◌, ◌<◌, length};
 
-use crate::{Lent, Release};
+use crate::{Lent, Release, Sets};
 use std::alloc::Global;
 use std::marker::Brand;
 use std::sync::ledger::{Blank, Ledger};
@@ -102,5 +103,14 @@ fn first_releases(rt: HostRuntime) -> Result<(), Fail> {
     for rows in [four(), &[]] {
         assert!(rt; is_release_of(rt.alloc(), rows)?);
     }
+    Ok(())
+}
+
+#[test]
+fn settings(rt: HostRuntime) -> Result<(), Fail> {
+    let sets = Sets::of(rt.alloc(), &[(1, 2), (1, 1)])?;
+    assert!(rt; sets.len() == 2);
+    assert_eq!(rt; sets.at(0), (1, 2));
+    assert_eq!(rt; sets.at(1), (1, 1));
     Ok(())
 }

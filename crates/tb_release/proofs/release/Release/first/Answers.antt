@@ -5,4 +5,4 @@ use Rattle.tb_release.proofs.release.Release.first.Goals as goal
 
 pub invariant_of-result : goal.invariant_of-result
 invariant_of-result c =
-    view_sound c.into_list.result.items c.new.result.entries 0 0 (subst AreDistinct (sym c.into_list.ensures.all) c.into_list.ensures.distinct) (rw c.into_list.ensures.all c.requires.few)
+    view_sound c.into_list.result.items c.new.result.entries _ _ (subst AreDistinct (sym c.into_list.ensures.all) c.into_list.ensures.distinct) (rw c.into_list.ensures.all c.requires.few)
