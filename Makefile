@@ -1,10 +1,10 @@
-.PHONY: test try build demo bench bench-tools
+.PHONY: test try build demo guide bench bench-tools
 
 # The whole gate: every proof, the wrong bodies that must be refused, the tests and the program.
 test:
 	.ci/run
 
-# A first look: the first table within a minute, by a run that checks as it goes and proves nothing.
+# A first look: the first tables within some minutes, by a run that checks as it goes and proves nothing.
 try:
 	cd crates/tablebuilder && rt try -- script data/classes.csv data/recodes.csv data/ptable.csv data/people.csv 0 data/script.txt
 
@@ -12,9 +12,13 @@ try:
 build:
 	cd crates/tablebuilder && rt run -- script data/classes.csv data/recodes.csv data/ptable.csv data/people.csv 0 data/script.txt >/dev/null
 
-# The first table, from the files of examples/small.
+# The first tables, from the files of examples/small.
 demo: build
 	cd examples/small && ../../crates/tablebuilder/out/tablebuilder script classes.csv recodes.csv ptable.csv people.csv 0 script.txt
+
+# Runs every example of the guide with the built program and compares what it prints.
+guide: build
+	python3 docs/guide.py crates/tablebuilder/out/tablebuilder docs/GUIDE.md examples/small
 
 # The program beside a plain one over generated persons: medians, spreads, peak memory and ratios.
 bench: bench-tools build

@@ -4,7 +4,8 @@
 //!     baseline script CLASSES - PTABLE PEOPLE THRESHOLD SCRIPT
 //!
 //! It reads whole files, CSV with quotes, finds codes in hash maps, keeps the persons in a set and
-//! the records in a list, and counts a table by one scan of the list into a dense array. It prints
+//! the records in a list, and counts a table of any variables by one scan of the list into a dense
+//! array. It has no recodes, filters, totals and labels. It prints
 //! what the product prints. A file at fault ends it with a message and status 1.
 
 use std::borrow::Cow;
@@ -253,38 +254,80 @@ fn shown(pvalues: &[Option<i16>], threshold: u32, cell: Cell) -> Option<u32> {
     (value >= threshold).then_some(value)
 }
 
+fn put(cell: &mut Cell, key: u8) {
+    cell.count += 1;
+    cell.key = cell.key.wrapping_add(key);
+}
+
+/// The cells of a table, the last variable fastest.
+fn count(asked: &[&Variable], vs: &[usize], records: &[Record]) -> Vec<Cell> {
+    let sizes: Vec<usize> = asked.iter().map(|variable| variable.codes.len()).collect();
+    let mut cells = vec![Cell::default(); sizes.iter().product()];
+    match vs {
+        [v] => {
+            for record in records {
+                put(&mut cells[record.categories[*v] as usize], record.key);
+            }
+        }
+        [v, w] => {
+            for record in records {
+                let row = record.categories[*v] as usize * sizes[1];
+                put(&mut cells[row + record.categories[*w] as usize], record.key);
+            }
+        }
+        _ => {
+            for record in records {
+                let place = vs.iter().zip(&sizes).fold(0, |place, (v, size)| {
+                    place * size + record.categories[*v] as usize
+                });
+                put(&mut cells[place], record.key);
+            }
+        }
+    }
+    cells
+}
+
 fn print_table(
     out: &mut impl Write,
     variables: &[Variable],
-    v: usize,
+    vs: &[usize],
     records: &[Record],
     pvalues: &[Option<i16>],
     threshold: u32,
 ) -> io::Result<()> {
-    let variable = &variables[v];
-    let mut cells = vec![Cell::default(); variable.codes.len()];
-    for record in records {
-        let cell = &mut cells[record.categories[v] as usize];
-        cell.count += 1;
-        cell.key = cell.key.wrapping_add(record.key);
+    let asked: Vec<&Variable> = vs.iter().map(|v| &variables[*v]).collect();
+    let cells = count(&asked, vs, records);
+    writeln!(out, "release 0")?;
+    for variable in &asked {
+        write!(out, "{},", variable.name)?;
     }
-    writeln!(out, "release 0\n{},count", variable.name)?;
-    for (code, cell) in variable.codes.iter().zip(cells) {
+    writeln!(out, "count")?;
+    for (place, cell) in cells.into_iter().enumerate() {
+        let mut block: usize = asked.iter().map(|variable| variable.codes.len()).product();
+        let mut rest = place;
+        for variable in &asked {
+            block /= variable.codes.len();
+            write!(out, "{},", variable.codes[rest / block])?;
+            rest %= block;
+        }
         match shown(pvalues, threshold, cell) {
-            Some(value) => writeln!(out, "{code},{value}")?,
-            None => writeln!(out, "{code},c")?,
+            Some(value) => writeln!(out, "{value}")?,
+            None => writeln!(out, "c")?,
         }
     }
     writeln!(out, ".")
 }
 
-/// The variable that each line of the script asks for.
-fn read_script(text: &str, variables: &[Variable]) -> Outcome<Vec<usize>> {
+/// The variables that each line of the script asks for.
+fn read_script(text: &str, variables: &[Variable]) -> Outcome<Vec<Vec<usize>>> {
+    let number_of = |name: &str| {
+        let place = variables.iter().position(|variable| variable.name == name);
+        Ok(place.ok_or("a variable is unknown")?)
+    };
     text.lines()
         .map(|line| {
-            let name = line.strip_prefix("a table ").ok_or("a line asks for no table")?;
-            let place = variables.iter().position(|variable| variable.name == name);
-            Ok(place.ok_or("a variable is unknown")?)
+            let names = line.strip_prefix("a table ").ok_or("a line asks for no table")?;
+            names.split(" by ").map(number_of).collect()
         })
         .collect()
 }
@@ -303,8 +346,8 @@ fn main() -> Outcome<()> {
     let records = read_people(&fs::read(people)?, &variables)?;
     let asked = read_script(&fs::read_to_string(script)?, &variables)?;
     let mut out = BufWriter::new(io::stdout().lock());
-    for v in asked {
-        print_table(&mut out, &variables, v, &records, &pvalues, threshold)?;
+    for vs in asked {
+        print_table(&mut out, &variables, &vs, &records, &pvalues, threshold)?;
     }
     Ok(out.flush()?)
 }

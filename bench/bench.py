@@ -24,21 +24,28 @@ SMALL, LARGE = 20_000, 1_000_000
 ONE, MANY = 1, 1_000
 RUNS = {ONE: 15, MANY: 5}
 CASES = [
-    (SMALL, "ascending", ONE),
-    (SMALL, "ascending", MANY),
-    (LARGE, "ascending", ONE),
-    (LARGE, "ascending", MANY),
-    (LARGE, "shuffled", ONE),
+    (SMALL, "ascending", 1, ONE),
+    (SMALL, "ascending", 1, MANY),
+    (LARGE, "ascending", 1, ONE),
+    (LARGE, "ascending", 1, MANY),
+    (LARGE, "ascending", 2, ONE),
+    (LARGE, "ascending", 2, MANY),
+    (LARGE, "shuffled", 1, ONE),
 ]
-VARIABLES = ["AREA", "AGE", "SEX", "TENURE"]
+TABLES = {
+    1: ["AREA", "AGE", "SEX", "TENURE"],
+    2: ["AREA by SEX", "AGE by TENURE", "AREA by AGE"],
+}
 MIB = 1024 * 1024
 
 
 class Case:
-    """An input and a script: what each program took over it, run by run, and held at its peak."""
+    """An input and a script of tables with so many dimensions: what each program took over it, run
+    by run, and held at its peak."""
 
-    def __init__(self, persons, order, lines):
-        self.persons, self.order, self.lines = persons, order, lines
+    def __init__(self, persons, order, dimensions, lines):
+        self.persons, self.order = persons, order
+        self.dimensions, self.lines = dimensions, lines
         self.seconds = {"program": [], "baseline": []}
         self.peak = {"program": 0, "baseline": 0}
 
@@ -58,10 +65,11 @@ def make_input(folder, persons, order):
     subprocess.run([sys.executable, f"{HERE}/generate.py", *words], check=True)
 
 
-def make_script(path, lines):
+def make_script(path, dimensions, lines):
+    tables = TABLES[dimensions]
     with open(path, "w", encoding="ascii") as out:
         for line in range(lines):
-            out.write(f"a table {VARIABLES[line % len(VARIABLES)]}\n")
+            out.write(f"a table {tables[line % len(tables)]}\n")
 
 
 def words_of(program, folder, script):
@@ -89,8 +97,8 @@ def peak_of(words):
 
 
 def measure(case, programs, folder):
-    script = f"{folder}/script{case.lines}.txt"
-    make_script(script, case.lines)
+    script = f"{folder}/script-{case.dimensions}-{case.lines}.txt"
+    make_script(script, case.dimensions, case.lines)
     words = {who: words_of(program, folder, script) for who, program in programs.items()}
     for _ in range(RUNS[case.lines]):
         for who in programs:
@@ -107,12 +115,12 @@ def spread(seconds):
 
 
 def print_runs(cases):
-    print("| Persons | Order | Lines | Runs | Program, ms | Plain, ms | Ratio | Program, MiB | Plain, MiB |")
-    print("|---|---|---|---|---|---|---|---|---|")
+    print("| Persons | Order | Dimensions | Lines | Runs | Program, ms | Plain, ms | Ratio | Program, MiB | Plain, MiB |")
+    print("|---|---|---|---|---|---|---|---|---|---|")
     for case in cases:
         times = " | ".join(spread(case.seconds[who]) for who in case.seconds)
         peaks = " | ".join(f"{case.peak[who] / MIB:.0f}" for who in case.peak)
-        print(f"| {case.persons:,} | {case.order} | {case.lines:,} | {RUNS[case.lines]} | {times} | {case.ratio():.2f} | {peaks} |")
+        print(f"| {case.persons:,} | {case.order} | {case.dimensions} | {case.lines:,} | {RUNS[case.lines]} | {times} | {case.ratio():.2f} | {peaks} |")
 
 
 def further_tables(one, many, who):
@@ -120,18 +128,26 @@ def further_tables(one, many, who):
     return [(seconds - one.median(who)) / (MANY - ONE) for seconds in many.seconds[who]]
 
 
-def print_targets(at):
-    """Prints each target with what was reached; `at` finds a case by persons, order and lines."""
-    one, many = at[LARGE, "ascending", ONE], at[LARGE, "ascending", MANY]
+def further(what, one, many, most):
+    """The row of what each table after the first took beside the plain program's."""
     ours, plain = further_tables(one, many, "program"), further_tables(one, many, "baseline")
-    tables = f"{statistics.median(ours) * 1e3:.1f} ms beside {statistics.median(plain) * 1e3:.1f} ms"
-    peak = max(case.peak["program"] for case in (one, many)) / MIB
-    growth = one.median("program") / at[SMALL, "ascending", ONE].median("program")
-    shuffled = at[LARGE, "shuffled", ONE]
+    times = f"{statistics.median(ours) * 1e3:.1f} ms beside {statistics.median(plain) * 1e3:.1f} ms"
+    return (f"{what}, {times}", median_ratio(ours, plain), most)
+
+
+def print_targets(at):
+    """Prints each target with what was reached; `at` finds a case by persons, order, dimensions and
+    lines."""
+    one, many = at[LARGE, "ascending", 1, ONE], at[LARGE, "ascending", 1, MANY]
+    two, many_two = at[LARGE, "ascending", 2, ONE], at[LARGE, "ascending", 2, MANY]
+    peak = max(case.peak["program"] for case in (one, many, two, many_two)) / MIB
+    growth = one.median("program") / at[SMALL, "ascending", 1, ONE].median("program")
+    shuffled = at[LARGE, "shuffled", 1, ONE]
     rows = [
         (f"{LARGE:,} persons, one line: time beside the plain program", one.ratio(), 0.6),
-        (f"each further table, {tables}", median_ratio(ours, plain), 0.7),
-        ("peak memory of the process, MiB", peak, 90),
+        further("each further table of one dimension", one, many, 0.7),
+        further("each further table of two dimensions", two, many_two, 0.9),
+        ("peak memory of the process, MiB", peak, 60),
         (f"time at {LARGE:,} beside {SMALL:,} persons", growth, 55),
         ("persons in another order: time beside the plain program", shuffled.ratio(), None),
         ("persons in another order: peak memory, MiB", shuffled.peak["program"] / MIB, None),

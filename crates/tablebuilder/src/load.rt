@@ -39,7 +39,7 @@ fn most_bytes_of(file: Input) -> u64
 {
     match file {
         Input::Classes | Input::Recodes | Input::Ptable | Input::People => MOST_BYTES,
-        Input::Script => MOST_SCRIPT_BYTES as u64,
+        Input::Script => MOST_SCRIPT_BYTES,
     }
 }
 

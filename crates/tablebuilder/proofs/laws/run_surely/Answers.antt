@@ -3,13 +3,13 @@ use Rattle.tb_io.proofs.FaultLemmas.{HasRisen-zero}
 use Rattle.tablebuilder.proofs.laws.run_surely.Goals as goal
 
 pub returns-clause-read : goal.returns-clause-read
-returns-clause-read c = λ h. HasRisen-zero (c.tablebuilder.ensures.read_fault h)
+returns-clause-read g c = λ h. HasRisen-zero (c.tablebuilder.ensures.read_fault h)
 
 pub returns-clause-write : goal.returns-clause-write
-returns-clause-write c = λ h. HasRisen-zero (c.tablebuilder.ensures.write_fault h)
+returns-clause-write g c = λ h. HasRisen-zero (c.tablebuilder.ensures.write_fault h)
 
 pub returns-clause-defined : goal.returns-clause-defined
-returns-clause-defined c = elim c.tablebuilder.ensures.exact [
+returns-clause-defined g c = elim c.tablebuilder.ensures.exact [
   | inl defined ↦ inl defined
   | inr other ↦ elim other [
     | inl memory ↦ inr memory

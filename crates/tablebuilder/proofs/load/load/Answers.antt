@@ -1,4 +1,4 @@
-use Rattle.std.proofs.Common.{ap, sym, refl, Ok, arith}
+use Rattle.std.proofs.Common.{ap, sym, refl, [], Ok, arith}
 use Rattle.std.proofs.lemmas.Result.{err_from_is_err_and}
 use Rattle.tablebuilder.specs.Asking.{people_in, perturbation_in, schema_in, script_in}
 use Rattle.tablebuilder.specs.Commands.{CommandValue}
@@ -31,7 +31,7 @@ returns-in_err-script-clause-loads g c =
     rw (p.1, p.2) (Loads-then (λ s. s) asked_value (schema_in command.recodes) (after_schema command) schema _ (skips-schema command.recodes) (omega arith) refl refl refl c.in_ok-schema.ensures.loads
     (Loads-then (λ l. l) asked_value perturbation_in (after_ptable command schema) c.in_ok-ptable.ptable _ skips-perturbation (omega arith) refl refl refl c.in_ok-ptable.ensures.loads
     (Loads-then (λ l. l.records) asked_value (people_in schema) (after_people command schema c.in_ok-ptable.ptable) c.in_ok-release.release _ (skips-people schema) (omega arith) refl refl refl c.in_ok-release.ensures.loads
-    (Loads-stops (λ l. l) asked_value script_in (λ contents script. Ok (asked_with command schema c.in_ok-ptable.ptable c.in_ok-release.release script)) _ _ c.in_err-script.ensures.loads))))
+    (Loads-stops (λ l. l) asked_value script_in (λ contents script. Ok (asked_with command schema c.in_ok-ptable.ptable c.in_ok-release.release.records script)) _ _ c.in_err-script.ensures.loads))))
 
 pub returns-clause-loads : goal.returns-clause-loads
 returns-clause-loads g c =
@@ -40,4 +40,8 @@ returns-clause-loads g c =
     Loads-then (λ s. s) asked_value (schema_in command.recodes) (after_schema command) schema _ (skips-schema command.recodes) (omega arith) refl refl refl c.in_ok-schema.ensures.loads
     (Loads-then (λ l. l) asked_value perturbation_in (after_ptable command schema) c.in_ok-ptable.ptable _ skips-perturbation (omega arith) refl refl refl c.in_ok-ptable.ensures.loads
     (Loads-then (λ l. l.records) asked_value (people_in schema) (after_people command schema c.in_ok-ptable.ptable) c.in_ok-release.release _ (skips-people schema) (omega arith) refl refl refl c.in_ok-release.ensures.loads
-    (Loads-ends (λ l. l) asked_value script_in (λ contents script. Ok (asked_with command schema c.in_ok-ptable.ptable c.in_ok-release.release script)) c.in_ok-script.script _ (λ contents. ap (λ (k : CommandValue). Ok (asked_with k schema c.in_ok-ptable.ptable c.in_ok-release.release c.in_ok-script.script)) (sym c.command.view_is)) c.in_ok-script.ensures.loads)))
+    (Loads-ends (λ l. l) asked_value script_in (λ contents script. Ok (asked_with command schema c.in_ok-ptable.ptable c.in_ok-release.release.records script)) c.in_ok-script.script _ (λ contents. ap (λ (k : CommandValue). Ok (asked_with k schema c.in_ok-ptable.ptable c.in_ok-release.release.records c.in_ok-script.script)) (sym c.command.view_is)) c.in_ok-script.ensures.loads)))
+
+-- release 0 is the same over any setup
+pub returns-clause-first : goal.returns-clause-first
+returns-clause-first g c = c.in_ok-release.ensures.first (record { schema = c.in_ok-schema.schema; lines = []; threshold = 0 })

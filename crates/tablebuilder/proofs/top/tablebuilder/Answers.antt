@@ -3,12 +3,12 @@ use Rattle.tablebuilder.specs.Loading.{asked_value}
 use Rattle.tablebuilder.proofs.Finishing.{keeps_by_load, keeps_by_script, keeps_by_usage}
 use Rattle.tablebuilder.proofs.top.tablebuilder.Goals as goal
 
-pub returns : goal.returns
-returns g c = keeps_by_usage _ _ (sym c.in-None.ensures) refl c.end_by-in-None.ensures
+pub returns-in-None : goal.returns-in-None
+returns-in-None g c = keeps_by_usage _ _ (sym c.in-None.ensures) refl c.end_by-in-None.ensures
 
 pub returns-in-Ok : goal.returns-in-Ok
 returns-in-Ok g c =
     keeps_by_script asked_value _ (g.F.Files.content c.load.new.files) c.in-Some.command c.in-Ok.asked _ _ (sym c.in-Some.ensures) c.in-Ok.ensures.loads c.answer.ensures
 
-pub returns-in-Some : goal.returns-in-Some
-returns-in-Some g c = keeps_by_load asked_value _ (g.F.Files.content c.load.new.files) c.in-Some.command c.in-Err.end _ _ (sym c.in-Some.ensures) c.in-Err.ensures.loads refl c.end_by.ensures
+pub returns-in-Err : goal.returns-in-Err
+returns-in-Err g c = keeps_by_load asked_value _ (g.F.Files.content c.load.new.files) c.in-Some.command c.in-Err.end _ _ (sym c.in-Some.ensures) c.in-Err.ensures.loads refl c.end_by.ensures
