@@ -38,6 +38,12 @@ hold-nothing plan n p i below =
     let low : i < n = omega (arith, below, length-replicate n empty_cell) in
     ap (λ x. x % modulus p) (ap (part p) (get_or-replicate n i empty_cell empty_cell low) ∙ empty-part p)
 
+-- and have room for any piece
+pub room-empty : (n k : ℕ) → k ≤ MOST_PERSONS → All (λ (c : Cell). c.count + k ≤ MOST_PERSONS) (replicate n empty_cell)
+room-empty n k few i d below =
+    let low : i < n = omega (arith, below, length-replicate n empty_cell) in
+    rw (get_or-replicate n i empty_cell d low) (omega (arith, few))
+
 -- cells that held some records hold these too
 added-append : (plan : PlanValue) (p : Part) (xs ys : List Record) (i : ℕ) → added plan p (xs ++ ys) i ≡ added plan p xs i + added plan p ys i
 added-append plan p xs ys i = sum_by-append (λ r. cond (number_at plan (category_at r) == i) (weight p r) 0) xs ys
