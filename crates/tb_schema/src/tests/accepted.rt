@@ -60,11 +60,7 @@ fn shown(alloc: Global, schema: &Schema) -> Result<String, AllocError> {
 }
 
 // A classification and its recodes, read and shown.
-fn read_and_shown(
-    alloc: Global,
-    classes: &[u8],
-    recodes: Option<&[u8]>,
-) -> Result<String, Fail> {
+fn read_and_shown(alloc: Global, classes: &[u8], recodes: Option<&[u8]>) -> Result<String, Fail> {
     let schema = Schema::read(alloc, classes, recodes)?;
     Ok(shown(alloc, &schema)?)
 }
