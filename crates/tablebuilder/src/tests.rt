@@ -10,6 +10,7 @@ use tb_base::{Memory, Status, Steps};
 use tb_io::{MemFiles, MemSink, SureFiles, SureSink};
 
 mod cuts;
+mod large;
 mod limits;
 mod memory;
 mod order;

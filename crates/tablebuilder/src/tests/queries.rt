@@ -6,7 +6,7 @@ use std::test::Fail;
 // What a run shows, the script, and the text.
 type Query = (&'static str, &'static [u8], &'static [u8]);
 
-static QUERIES: [Query; 10] = [
+static QUERIES: [Query; 11] = [
     (
         "totals_are_cells_of_their_own",
         b"a table SEX with totals\n",
@@ -48,6 +48,11 @@ static QUERIES: [Query; 10] = [
         b"release 0\nAREA,SEX,count\n\"North, rural\",Male,2\n\"North, rural\",Female,0\n\
         \"North, rural\",Total,2\nSouth,Male,1\nSouth,Female,2\nSouth,Total,1\nTotal,Male,1\n\
         Total,Female,2\nTotal,Total,6\n.\n",
+    ),
+    (
+        "any_spacing",
+        b"a\ttable  AREA by SEX where AGE not in(65+,0-15)\t\n",
+        b"release 0\nAREA,SEX,count\nE1,1,1\nE1,2,0\nE2,1,0\nE2,2,2\n.\n",
     ),
     (
         "every_lane_is_an_analyst",
