@@ -3,5 +3,9 @@ pub mod Scripts
 pub mod Parts
 pub mod WholeFiles
 pub mod Outputs
+pub mod Asks
+pub mod ReplyLines
 pub mod Replies
+pub mod ReplyTexts
+pub mod States
 pub mod Setups

@@ -1,20 +1,31 @@
 -- The replies to the lines of a script.
-use Rattle.std.specs.Prelude.{◌≡◌, ◌⊎◌, ◌++◌, ℕ, List, [], length, codes, decimal}
-use Rattle.std.specs.Prelude.{Bool, true, false, Option, Some, None}
+use Rattle.std.specs.Prelude.{◌≡◌, ◌⊎◌, ◌<◌, ◌+◌, ◌++◌, ◌∷◌, ℕ, List, [], length, max}
+use Rattle.std.specs.Prelude.{Some, if◌then◌else◌, is_none}
 use Rattle.tb_model.specs.Releases.{ReleaseValue}
 use Rattle.tb_model.specs.Setups.{SetupValue}
 use Rattle.tb_model.specs.Queries.{QueryValue}
 use Rattle.tb_model.specs.Texts.{table_text}
-use Rattle.tb_query.specs.Faults.{Reads, IsRefused}
-use Rattle.tb_query.specs.FaultNames.{fault_name, fault_position}
+use Rattle.tb_plan.specs.Plans.{plan_of, cube_cells_of}
+use Rattle.tb_query.specs.Faults as queries
+use Rattle.tb_query.specs.FaultNames as query_names
 use Rattle.tb_query.specs.declared.fault.QueryFault.{QueryFault}
+use Rattle.tb_revise.specs.Faults as edits
+use Rattle.tb_revise.specs.FaultNames as edit_names
+use Rattle.tb_revise.specs.declared.fault.EditTextFault.{EditTextFault}
 use Rattle.tb_rows.specs.FaultNames.{FaultNameValue}
-use Rattle.tb_release.specs.Batches.{BatchValue}
+use Rattle.tb_release.specs.Batches.{BatchValue, CanFollow, batch_refusal, changes_of}
 use Rattle.tb_release.specs.Chains.{release_after}
+use Rattle.tb_release.specs.FaultNames as batch_names
 use Rattle.tb_release.specs.declared.edits.Edit.{Edit}
-use Rattle.tb_script.specs.Lines.{is_passed_over}
+use Rattle.tb_release.specs.declared.fault.EditFaultKind.{EditFaultKind}
+use Rattle.tb_release.specs.declared.limits.TheConstants.{MOST_EDITS}
+use Rattle.tb_script.specs.Asks.{asks_of}
 use Rattle.tb_script.specs.Outputs.{ReplyValue}
+use Rattle.tb_script.specs.ReplyLines.{memory_line, refusal_line, held_line, edit_refusal_line}
+use Rattle.tb_script.specs.ReplyLines.{too_many, published_line, batch_refusal_line}
 use Rattle.tb_script.specs.Scripts.{ScriptLine}
+use Rattle.tb_script.specs.declared.asks.Asks.{Asks}
+use Rattle.tb_script.specs.declared.asks.Asks.TheVariants as asks
 
 -- what the lines of a script have led to: the batches that were published, and the edits that are
 -- held
@@ -26,70 +37,115 @@ pub record StateValue : Type 0 where
 abbrev pub start : StateValue
 start = record { chain = []; held = [] }
 
--- the reply where memory is refused
-abbrev pub memory_line : List ℕ
-memory_line = codes "memory\n"
-
-abbrev pub position_text : Option ℕ → List ℕ
-position_text None = []
-position_text (Some i) = codes " " ++ decimal i
-
--- the line for a query that is refused: the number and the word of its first fault, and the
--- position, if the fault has one
-abbrev pub refusal_line : FaultNameValue → Option ℕ → List ℕ
-refusal_line name position =
-    codes "refused " ++ decimal name.number ++ codes " " ++ name.word ++ position_text position
-    ++ codes "\n"
+-- how many records a query's table may cost: the release's, or, where it can be counted by a cube,
+-- as many changes as led to the release, if these are more
+abbrev pub table_price : SetupValue → ReleaseValue → QueryValue → ℕ
+table_price setup release query =
+    if is_none (cube_cells_of (plan_of setup.schema query)) then length release.records
+    else max (length release.records) release.changes
 
 -- a query's table over a release
 abbrev pub table_reply : SetupValue → ReleaseValue → QueryValue → ReplyValue
 table_reply setup release query =
-    record { text = table_text setup release query; price = length release.records }
+    record { text = table_text setup release query; price = table_price setup release query }
 
--- a refused query costs nothing
-abbrev pub refusal_reply : FaultNameValue → Option ℕ → ReplyValue
-refusal_reply name position = record { text = refusal_line name position; price = 0 }
+-- a reply that costs nothing
+abbrev pub free_reply : List ℕ → ReplyValue
+free_reply text = record { text = text; price = 0 }
 
--- where memory is refused, the release's records may have been lent
-abbrev pub memory_reply : ReleaseValue → ReplyValue
-memory_reply release = record { text = memory_line; price = length release.records }
-
--- a line without reply
-abbrev pub no_reply : ReplyValue
-no_reply = record { text = []; price = 0 }
-
--- the reply to a line that reads as a query
+-- the reply to a line that reads as a query: its table, or that memory was refused, and then the
+-- release's records may have been lent
 abbrev pub IsTable : SetupValue → ReleaseValue → List ℕ → ReplyValue → Type 0
 IsTable setup release line reply =
     (query : QueryValue)
-    × Reads setup.schema line query × (reply ≡ table_reply setup release query)
+    × queries.Reads setup.schema line query
+    × ((reply ≡ table_reply setup release query)
+    ⊎ (reply ≡ record (table_reply setup release query) { text = memory_line }))
 
 -- the reply to a line with a fault
-abbrev pub IsRefusal : SetupValue → List ℕ → ReplyValue → Type 0
-IsRefusal setup line reply =
+abbrev pub IsRefusal : SetupValue → List ℕ → List ℕ → Type 0
+IsRefusal setup line text =
     (fault : QueryFault) × (name : FaultNameValue)
-    × IsRefused setup.schema line fault × (fault_name fault ≡ Some name)
-    × (reply ≡ refusal_reply name (fault_position fault))
+    × queries.IsRefused setup.schema line fault × (query_names.fault_name fault ≡ Some name)
+    × (text ≡ refusal_line name (query_names.fault_position fault))
 
 -- a reply to a query's line over a release: its table, the line of its first fault, or that memory
 -- was refused
 abbrev pub IsAnswer : SetupValue → ReleaseValue → List ℕ → ReplyValue → Type 0
 IsAnswer setup release line reply =
     IsTable setup release line reply
-    ⊎ (IsRefusal setup line reply ⊎ (reply ≡ memory_reply release))
+    ⊎ (reply.price ≡ 0) × (IsRefusal setup line reply.text ⊎ (reply.text ≡ memory_line))
 
--- the same where the line has no reply, and where it has one
-abbrev pub IsReplyWhere : Bool → SetupValue → ReleaseValue → List ℕ → ReplyValue → Type 0
-IsReplyWhere true setup release line reply = reply ≡ no_reply
-IsReplyWhere false setup release line reply = IsAnswer setup release line reply
+-- an edit is held, as the last
+abbrev pub IsHeld : SetupValue → List ℕ → List Edit → List ℕ → List Edit → Type 0
+IsHeld setup line held text after =
+    (edit : Edit)
+    × edits.Reads setup.schema line edit × (length held < MOST_EDITS)
+    × (text ≡ held_line (length held + 1)) × (after ≡ held ++ edit ∷ [])
 
--- a reply to a line: none where the line is of blanks alone or begins with `#`, else a query's
-abbrev pub IsReplyTo : SetupValue → ReleaseValue → List ℕ → ReplyValue → Type 0
-IsReplyTo setup release line reply = IsReplyWhere (is_passed_over line) setup release line reply
+-- an edit's line is refused by its first fault
+abbrev pub IsFaulty : SetupValue → List ℕ → List ℕ → Type 0
+IsFaulty setup line text =
+    (fault : EditTextFault) × (name : FaultNameValue)
+    × edits.IsRefused setup.schema line fault × (edit_names.fault_name fault ≡ Some name)
+    × (text ≡ edit_refusal_line name)
 
--- a reply to a lane's line, over the release to which the chain has led from release 0; until
--- revisions come each line leaves the chain and the edits as they are
+-- an edit is refused since no more can be held
+abbrev pub IsOneTooMany : SetupValue → List ℕ → List Edit → List ℕ → Type 0
+IsOneTooMany setup line held text =
+    (edit : Edit)
+    × edits.Reads setup.schema line edit × (length held ≡ MOST_EDITS)
+    × (text ≡ edit_refusal_line too_many)
+
+-- the reply to an edit's line, and the edits that are held after it: those from before, but where
+-- this one is held too
+abbrev pub IsEditReply : SetupValue → List ℕ → List Edit → List ℕ → List Edit → Type 0
+IsEditReply setup line held text after =
+    IsHeld setup line held text after
+    ⊎ (after ≡ held)
+    × (IsFaulty setup line text ⊎ (IsOneTooMany setup line held text ⊎ (text ≡ memory_line)))
+
+-- the batch of edits on a release
+abbrev pub batch_of : ReleaseValue → List Edit → BatchValue
+batch_of release list = record { changes = changes_of release list }
+
+-- `publish` where the held edits can follow the release: their batch is the chain's last
+abbrev pub IsPublished : ReleaseValue → StateValue → List ℕ → StateValue → Type 0
+IsPublished release state text next =
+    CanFollow release state.held
+    × (text ≡ published_line (release.number + 1))
+    × (next ≡ record { chain = state.chain ++ batch_of release state.held ∷ []; held = [] })
+
+-- `publish` where they can't: the chain stays
+abbrev pub IsBatchRefusal : ReleaseValue → StateValue → List ℕ → StateValue → Type 0
+IsBatchRefusal release state text next =
+    (kind : EditFaultKind) × (edit : ℕ)
+    × (batch_refusal release state.held ≡ Some (kind, edit))
+    × (text ≡ batch_refusal_line edit (batch_names.fault_name kind))
+    × (next ≡ record { chain = state.chain; held = [] })
+
+-- the reply to `publish`: no edit is held after it, but where memory was refused
+abbrev pub IsPublishReply : ReleaseValue → StateValue → List ℕ → StateValue → Type 0
+IsPublishReply release state text next =
+    IsPublished release state text next
+    ⊎ (IsBatchRefusal release state text next ⊎ (text ≡ memory_line) × (next ≡ state))
+
+-- the reply to a line that asks for this, over the current release; only an edit and `publish`
+-- change what comes after
+abbrev pub IsReplyTo : Asks → SetupValue → ReleaseValue → StateValue → List ℕ → ReplyValue
+    → StateValue → Type 0
+IsReplyTo asks.Nothing setup release state line reply next =
+    (reply ≡ free_reply []) × (next ≡ state)
+IsReplyTo asks.Table setup release state line reply next =
+    IsAnswer setup release line reply × (next ≡ state)
+IsReplyTo asks.Edit setup release state line reply next =
+    (reply.price ≡ 0) × (next.chain ≡ state.chain)
+    × IsEditReply setup line state.held reply.text next.held
+IsReplyTo asks.Publish setup release state line reply next =
+    (reply.price ≡ 0) × IsPublishReply release state reply.text next
+
+-- the reply to a lane's line, over the release to which the chain has led from release 0
 abbrev pub IsReply : SetupValue → ReleaseValue → StateValue → ScriptLine → ReplyValue → StateValue
     → Type 0
 IsReply setup base state one reply next =
-    (next ≡ state) × IsReplyTo setup (release_after base state.chain) one.line reply
+    IsReplyTo (asks_of one) setup (release_after base state.chain) state one.line reply next

@@ -8,6 +8,7 @@ ghost use Rattle.tb_model.specs.Schemas.{SchemaValue, shape_of};
 ghost use Rattle.tb_model.specs.Texts.{table_text as text_of_table};
 ghost use Rattle.tb_plan.specs.Plans.{plan_of};
 ghost use Rattle.tb_query.specs.Over.{IsOver};
+ghost use Rattle.tb_script.specs.Replies.{table_price};
 ghost use Rattle.tb_script.specs.Setups.{setup_value};
 
 use std::alloc::Global;
@@ -53,7 +54,8 @@ pub fn print_table<L: Ledger>(
 ) -> Result<Vec<u8>, Memory>
     requires over { IsOver setup.now.schema query.now }
     requires fit { AllFit (shape_of setup.now.schema) release.now.records }
-    ensures price { steps.new ≤ steps.old + length release.now.records }
+    ensures price { steps.new ≤ steps.old
+        + table_price (setup_value setup.now) release.now query.now }
     ensures text { IfOk result (λ text. text.items
         ≡ text_of_table (setup_value setup.now) release.now query.now) }
 {

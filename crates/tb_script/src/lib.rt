@@ -8,13 +8,16 @@
 //! and `Setups` (a setup as the definitions see it).
 #![tactic(auto)]
 
+mod answer;
+mod asks;
 mod count;
 mod fault;
 pub mod laws;
 mod limits;
 mod line;
 mod parts;
-mod refusal;
+mod reply;
+mod revise;
 mod run;
 mod script;
 

@@ -1,26 +1,27 @@
 // The replies to a script's lines, written one after another.
 
-ghost use Rattle.std.specs.Prelude.{◌≡◌, ◌≢◌, ◌+◌, ◌≤◌, List, length};
+ghost use Rattle.std.specs.Prelude.{◌≡◌, ◌≢◌, ◌+◌, ◌≤◌, ℕ, List, length};
 ghost use Rattle.tb_base.specs.Records.{AllFit};
 ghost use Rattle.tb_io.specs.Faults.{HasRisen};
 ghost use Rattle.tb_io.specs.Taken.{Took, TookPart};
-ghost use Rattle.tb_io.specs.declared.answers.Wrote.TheVariants as wrote;
 ghost use Rattle.tb_model.specs.Schemas.{shape_of};
 ghost use Rattle.tb_script.specs.Outputs.{AreReplies, ReplyValue, price_of, text_of};
-ghost use Rattle.tb_script.specs.Replies.{IsAnswer, IsReply, IsReplyTo, start};
-ghost use Rattle.tb_script.specs.declared.run.RunEnd.TheVariants as run_end;
+ghost use Rattle.tb_script.specs.Replies.{IsReply, start};
+ghost use Rattle.tb_script.specs.ReplyTexts.{reply_text};
 ghost use Rattle.tb_script.specs.Setups.{setup_value};
+ghost use Rattle.tb_script.specs.States.{ReplyLeads, StateFits};
+ghost use Rattle.tb_script.specs.declared.run.RunEnd.TheVariants as run_end;
 
-use crate::count::print_table;
-use crate::line::is_passed_over;
-use crate::refusal::write_refusal;
+use crate::answer::answer;
+use crate::asks::{Asks, asks_of};
+use crate::reply::Reply;
+use crate::revise::{State, hold, publish};
 use crate::script::Script;
 use std::alloc::Global;
 use std::sync::ledger::Ledger;
-use tb_base::{Memory, Steps};
+use tb_base::Steps;
 use tb_io::{Sink, Wrote};
-use tb_query::read_query;
-use tb_release::Release;
+use tb_release::{Edits, Release};
 use tb_text::Setup;
 
 /// How a script ends: each line was answered, a write failed, or the run is out of memory before
@@ -32,99 +33,66 @@ pub enum RunEnd {
     Memory,
 }
 
-// Writes the reply to a query's line: its table, the line of its first fault, or that the memory
-// was refused.
-fn answer<O: Sink, L: Ledger>(
+// The reply to a line of a lane, and the state after it.
+fn reply<L: Ledger>(
     alloc: Global,
     setup: &Setup,
-    release: &Release,
+    state: &mut State,
+    lane: &str,
     line: &[u8],
-    out: &mut O,
     steps: &mut Steps<L>,
-) -> Wrote
+) -> Reply
     requires few { length line.now ≤ u16.MAX }
-    requires fit { AllFit (shape_of setup.now.schema) release.now.records }
-    ensures count { O.faults out.old ≤ O.faults out.new }
-    ensures failed { result ≡ wrote.Failed → HasRisen (O.faults out.old) (O.faults out.new) }
-    ensures all { result ≡ wrote.All → (reply : ReplyValue)
-        × IsAnswer (setup_value setup.now) release.now line.now reply
-        × Took (O.taken out.old) (O.taken out.new) reply.text
-        × (steps.new ≤ steps.old + reply.price) }
-    ensures part { result ≡ wrote.Failed → (reply : ReplyValue)
-        × IsAnswer (setup_value setup.now) release.now line.now reply
-        × TookPart (O.taken out.old) (O.taken out.new) reply.text
-        × (steps.new ≤ steps.old + reply.price) }
+    requires fit { StateFits (shape_of setup.now.schema) state.old }
+    ensures reply { (phase : ℕ) → ReplyLeads (setup_value setup.now) state.old
+        (record { phase = phase; lane = lane.now; line = line.now }) (reply_text result)
+        steps.old steps.new state.new }
+    ensures fit { StateFits (shape_of setup.now.schema) state.new }
 {
-    match read_query(alloc, &setup.schema, line) {
-        Ok(query) => match print_table(alloc, setup, release, &query, steps) {
-            Ok(text) => out.write(&text),
-            Err(Memory) => out.write(b"memory\n"),
-        },
-        Err(fault) => match fault.name() {
-            Some(name) => write_refusal(out, &name, fault.position()),
-            None => out.write(b"memory\n"),
-        },
-    }
-}
-
-// Writes the reply to a line of a lane, if it has one.
-fn reply<O: Sink, L: Ledger>(
-    alloc: Global,
-    setup: &Setup,
-    release: &Release,
-    line: &[u8],
-    out: &mut O,
-    steps: &mut Steps<L>,
-) -> Wrote
-    requires few { length line.now ≤ u16.MAX }
-    requires fit { AllFit (shape_of setup.now.schema) release.now.records }
-    ensures count { O.faults out.old ≤ O.faults out.new }
-    ensures failed { result ≡ wrote.Failed → HasRisen (O.faults out.old) (O.faults out.new) }
-    ensures all { result ≡ wrote.All → (reply : ReplyValue)
-        × IsReplyTo (setup_value setup.now) release.now line.now reply
-        × Took (O.taken out.old) (O.taken out.new) reply.text
-        × (steps.new ≤ steps.old + reply.price) }
-    ensures part { result ≡ wrote.Failed → (reply : ReplyValue)
-        × IsReplyTo (setup_value setup.now) release.now line.now reply
-        × TookPart (O.taken out.old) (O.taken out.new) reply.text
-        × (steps.new ≤ steps.old + reply.price) }
-{
-    if is_passed_over(line) {
-        Wrote::All
-    } else {
-        answer(alloc, setup, release, line, out, steps)
+    match asks_of(lane, line) {
+        Asks::Nothing => Reply::Nothing,
+        Asks::Table => answer(alloc, setup, &state.release, line, steps),
+        Asks::Edit => hold(alloc, setup, &mut state.held, line),
+        Asks::Publish => publish(alloc, setup, state),
     }
 }
 
 /// Writes the reply to each line of a script, one after another: a query's table counted over the
-/// release, the line of the query's first fault, or `memory` where the memory for it is refused. A
-/// line of blanks alone, or one that begins with `#`, has none. For a table the release's records
-/// are lent once. It takes memory for one table at a time, and is never out of memory itself.
+/// current release, which is the given one until the custodian publishes; the line of the query's
+/// first fault; what became of the custodian's edit or of `publish`; or `memory` where the memory
+/// for it is refused. A line of blanks alone, or one that begins with `#`, has none. For a table the
+/// release's records are lent once. It takes memory for one table at a time, for the edits that are
+/// held, and for the next release while it is made; it is never out of memory itself.
 pub fn run_script<O: Sink, L: Ledger>(
     alloc: Global,
     setup: &Setup,
-    release: &Release,
+    release: Release,
     script: &Script,
     out: &mut O,
     steps: &mut Steps<L>,
 ) -> RunEnd
-    requires fit { AllFit (shape_of setup.now.schema) release.now.records }
+    requires fit { AllFit (shape_of setup.now.schema) release.records }
     ensures count { O.faults out.old ≤ O.faults out.new }
     ensures failed { result ≡ run_end.WriteFault → HasRisen (O.faults out.old) (O.faults out.new) }
     ensures memory { result ≢ run_end.Memory }
     // What was taken are the replies, and the counter rose by no more than their price.
     ensures done { result ≡ run_end.Done → (replies : List ReplyValue)
-        × AreReplies (IsReply (setup_value setup.now) release.now) start script.now.lines replies
+        × AreReplies (IsReply (setup_value setup.now) release) start script.now.lines replies
         × Took (O.taken out.old) (O.taken out.new) (text_of replies)
         × (steps.new ≤ steps.old + price_of replies) }
     // Or a part of some replies.
     ensures part { result ≡ run_end.WriteFault → (replies : List ReplyValue)
-        × AreReplies (IsReply (setup_value setup.now) release.now) start script.now.lines replies
+        × AreReplies (IsReply (setup_value setup.now) release) start script.now.lines replies
         × TookPart (O.taken out.old) (O.taken out.new) (text_of replies)
         × (steps.new ≤ steps.old + price_of replies) }
 {
+    let mut state = State {
+        release,
+        held: Edits::new(alloc),
+    };
     for i in 0..script.len() {
-        match reply(alloc, setup, release, script.line(i), out, steps) {
+        let reply = reply(alloc, setup, &mut state, script.lane(i), script.line(i), steps);
+        match reply.write(out) {
             Wrote::All => {}
             Wrote::Failed => return RunEnd::WriteFault,
         }

@@ -1,0 +1,16 @@
+-- The text of a reply as the program keeps it.
+use Rattle.std.specs.Prelude.{ℕ, List, []}
+use Rattle.tb_script.specs.ReplyLines.{memory_line, refusal_line, held_line, edit_refusal_line}
+use Rattle.tb_script.specs.ReplyLines.{published_line, batch_refusal_line}
+use Rattle.tb_script.specs.declared.reply.Reply.{Reply}
+use Rattle.tb_script.specs.declared.reply.Reply.TheVariants as replies
+
+abbrev pub reply_text : Reply → List ℕ
+reply_text replies.Nothing = []
+reply_text (replies.Table text) = text.items
+reply_text (replies.Refused fault position) = refusal_line fault position
+reply_text (replies.Held count) = held_line count
+reply_text (replies.EditRefused fault) = edit_refusal_line fault
+reply_text (replies.Published number) = published_line number
+reply_text (replies.BatchRefused edit fault) = batch_refusal_line edit fault
+reply_text replies.Memory = memory_line
