@@ -1,12 +1,12 @@
 //! The plain program that the product is measured beside: the same job, written straightforwardly
 //! with nothing but std, and no proofs.
 //!
-//!     baseline script CLASSES - PTABLE PEOPLE THRESHOLD SCRIPT
+//!     baseline script CLASSES RECODES PTABLE PEOPLE THRESHOLD SCRIPT
 //!
 //! It reads whole files, CSV with quotes, finds codes in hash maps, keeps the persons in a set and
-//! the records in a list, and counts a table of any variables by one scan of the list into a dense
-//! array. It has no recodes, filters, totals and labels. It prints
-//! what the product prints. A file at fault ends it with a message and status 1.
+//! the records in a list, and counts the table of any query by one scan of the list into a dense
+//! array: a record is put into its own place and, with totals, into each margin where it lies. It
+//! prints what the product prints. A file or a line at fault ends it with a message and status 1.
 
 use std::borrow::Cow;
 use std::collections::{HashMap, HashSet};
@@ -141,37 +141,90 @@ fn number_up_to(text: &[u8], most: u32) -> Outcome<u32> {
     }
 }
 
+/// What a table may show by: a variable, each category of which is an entry of its own, or a recode
+/// of it, which has an entry for each group.
 #[derive(Default)]
-struct Variable {
+struct Grouping {
     name: String,
+    variable: usize,
+    entry_of: Vec<u16>,
     codes: Vec<String>,
-    category_of: HashMap<Vec<u8>, u16>,
+    labels: Vec<String>,
 }
 
-fn read_classes(bytes: &[u8]) -> Outcome<Vec<Variable>> {
+impl Grouping {
+    fn texts(&self, labels: bool) -> &[String] {
+        if labels { &self.labels } else { &self.codes }
+    }
+}
+
+fn place_of_name(groupings: &[Grouping], name: &str) -> Option<usize> {
+    groupings.iter().position(|grouping| grouping.name == name)
+}
+
+fn text(field: &[u8]) -> Outcome<&str> {
+    Ok(std::str::from_utf8(field)?)
+}
+
+/// The variables, and for each a map from a code to its category.
+type Variables = (Vec<Grouping>, Vec<HashMap<Vec<u8>, u16>>);
+
+fn read_classes(bytes: &[u8]) -> Outcome<Variables> {
     let mut table = Table::new(bytes);
     let (name_at, code_at) = (table.place_of("variable")?, table.place_of("code")?);
-    table.place_of("label")?;
-    let mut variables: Vec<Variable> = Vec::new();
+    let label_at = table.place_of("label")?;
+    let (mut variables, mut categories) = (Vec::<Grouping>::new(), Vec::<HashMap<_, _>>::new());
     let mut fields = Vec::new();
     while table.read(&mut fields)? {
-        let name = std::str::from_utf8(&fields[name_at])?;
-        let code = std::str::from_utf8(&fields[code_at])?;
-        let v = match variables.iter().position(|v| v.name == name) {
-            Some(v) => v,
-            None => {
-                variables.push(Variable { name: name.to_string(), ..Variable::default() });
-                variables.len() - 1
-            }
-        };
+        let name = text(&fields[name_at])?;
+        let v = place_of_name(&variables, name).unwrap_or_else(|| {
+            let (name, variable) = (name.to_string(), variables.len());
+            variables.push(Grouping { name, variable, ..Grouping::default() });
+            categories.push(HashMap::new());
+            variable
+        });
         let variable = &mut variables[v];
         let category = variable.codes.len() as u16;
-        if variable.category_of.insert(code.as_bytes().to_vec(), category).is_some() {
+        if categories[v].insert(fields[code_at].to_vec(), category).is_some() {
             return Err("a code stands twice".into());
         }
-        variable.codes.push(code.to_string());
+        variable.entry_of.push(category);
+        variable.codes.push(text(&fields[code_at])?.to_string());
+        variable.labels.push(text(&fields[label_at])?.to_string());
     }
-    Ok(variables)
+    Ok((variables, categories))
+}
+
+/// The recodes, whose labels are their groups.
+fn read_recodes(bytes: &[u8], (variables, categories): &Variables) -> Outcome<Vec<Grouping>> {
+    let mut table = Table::new(bytes);
+    let (name_at, variable_at) = (table.place_of("recode")?, table.place_of("variable")?);
+    let (code_at, group_at) = (table.place_of("code")?, table.place_of("group")?);
+    let mut recodes = Vec::<Grouping>::new();
+    let mut fields = Vec::new();
+    while table.read(&mut fields)? {
+        let variable = place_of_name(variables, text(&fields[variable_at])?);
+        let variable = variable.ok_or("a variable is unknown")?;
+        let name = text(&fields[name_at])?;
+        let r = place_of_name(&recodes, name).unwrap_or_else(|| {
+            let entry_of = vec![u16::MAX; variables[variable].codes.len()];
+            recodes.push(Grouping { name: name.to_string(), variable, entry_of, ..Grouping::default() });
+            recodes.len() - 1
+        });
+        let recode = &mut recodes[r];
+        let category = categories[variable].get(&*fields[code_at]).ok_or("a code is unknown")?;
+        let group = text(&fields[group_at])?;
+        let entry = recode.codes.iter().position(|code| code == group).unwrap_or_else(|| {
+            recode.codes.push(group.to_string());
+            recode.labels.push(group.to_string());
+            recode.codes.len() - 1
+        });
+        recode.entry_of[*category as usize] = entry as u16;
+    }
+    if recodes.iter().any(|recode| recode.entry_of.contains(&u16::MAX)) {
+        return Err("a recode lacks a code".into());
+    }
+    Ok(recodes)
 }
 
 /// The pvalue of each row and cell key.
@@ -204,7 +257,10 @@ struct Record {
     categories: Vec<u16>,
 }
 
-fn read_people(bytes: &[u8], variables: &[Variable]) -> Outcome<Vec<Record>> {
+fn read_people(
+    bytes: &[u8],
+    (variables, categories_of): &Variables,
+) -> Outcome<Vec<Record>> {
     let mut table = Table::new(bytes);
     let (person_at, key_at) = (table.place_of("person")?, table.place_of("record_key")?);
     let places = variables
@@ -220,10 +276,10 @@ fn read_people(bytes: &[u8], variables: &[Variable]) -> Outcome<Vec<Record>> {
             return Err("a person is 0".into());
         }
         let key = number_up_to(&fields[key_at], KEYS as u32 - 1)? as u8;
-        let categories = variables
+        let categories = categories_of
             .iter()
             .zip(&places)
-            .map(|(variable, place)| variable.category_of.get(&*fields[*place]).copied())
+            .map(|(category_of, place)| category_of.get(&*fields[*place]).copied())
             .collect::<Option<Vec<u16>>>()
             .ok_or("a code is unknown")?;
         if !persons.insert(person) {
@@ -259,55 +315,149 @@ fn put(cell: &mut Cell, key: u8) {
     cell.key = cell.key.wrapping_add(key);
 }
 
-/// The cells of a table, the last variable fastest.
-fn count(asked: &[&Variable], vs: &[usize], records: &[Record]) -> Vec<Cell> {
-    let sizes: Vec<usize> = asked.iter().map(|variable| variable.codes.len()).collect();
+struct Filter {
+    variable: usize,
+    passes: Vec<bool>,
+}
+
+struct Query<'a> {
+    dimensions: Vec<&'a Grouping>,
+    filters: Vec<Filter>,
+    totals: bool,
+    labels: bool,
+}
+
+impl<'a> Query<'a> {
+    /// Reads `table A by B where C in (1,2) and D not in (3) with totals with labels`.
+    fn read(line: &str, groupings: &'a [Grouping]) -> Outcome<Query<'a>> {
+        let spaced = line.replace('(', " ( ").replace(')', " ) ").replace(',', " , ");
+        let mut words = spaced.split_whitespace().peekable();
+        let find = |name: Option<&str>| -> Outcome<&'a Grouping> {
+            let place = name.and_then(|name| place_of_name(groupings, name));
+            Ok(&groupings[place.ok_or("a name is unknown")?])
+        };
+        if words.next() != Some("table") {
+            return Err("a line asks for no table".into());
+        }
+        let mut query =
+            Query { dimensions: Vec::new(), filters: Vec::new(), totals: false, labels: false };
+        query.dimensions.push(find(words.next())?);
+        while words.next_if_eq(&"by").is_some() {
+            query.dimensions.push(find(words.next())?);
+        }
+        let mut word = words.next();
+        while matches!(word, Some("where" | "and")) {
+            let grouping = find(words.next())?;
+            let negated = words.next_if_eq(&"not").is_some();
+            let mut listed = vec![false; grouping.codes.len()];
+            for code in words.by_ref().skip(2).take_while(|word| *word != ")") {
+                if code != "," {
+                    let place = grouping.codes.iter().position(|known| known == code);
+                    listed[place.ok_or("a code is unknown")?] = true;
+                }
+            }
+            let passes = grouping.entry_of.iter().map(|entry| listed[*entry as usize] != negated);
+            query.filters.push(Filter { variable: grouping.variable, passes: passes.collect() });
+            word = words.next();
+        }
+        while let Some("with") = word {
+            match words.next() {
+                Some("totals") => query.totals = true,
+                Some("labels") => query.labels = true,
+                _ => return Err("a query is not understood".into()),
+            }
+            word = words.next();
+        }
+        Ok(query)
+    }
+
+    /// How many entries each dimension has, with Total.
+    fn sizes(&self) -> Vec<usize> {
+        let total = usize::from(self.totals);
+        self.dimensions.iter().map(|dimension| dimension.codes.len() + total).collect()
+    }
+
+    fn passes(&self, record: &Record) -> bool {
+        let passed = |filter: &Filter| filter.passes[record.categories[filter.variable] as usize];
+        self.filters.iter().all(passed)
+    }
+}
+
+fn entry(dimension: &Grouping, record: &Record) -> usize {
+    dimension.entry_of[record.categories[dimension.variable] as usize] as usize
+}
+
+/// The cells of a table, the last dimension fastest.
+fn count(query: &Query, records: &[Record]) -> Vec<Cell> {
+    let sizes = query.sizes();
     let mut cells = vec![Cell::default(); sizes.iter().product()];
-    match vs {
-        [v] => {
-            for record in records {
-                put(&mut cells[record.categories[*v] as usize], record.key);
+    let passed = records.iter().filter(|record| query.passes(record));
+    match (query.dimensions.as_slice(), query.totals) {
+        ([one], false) => {
+            for record in passed {
+                put(&mut cells[entry(one, record)], record.key);
             }
         }
-        [v, w] => {
-            for record in records {
-                let row = record.categories[*v] as usize * sizes[1];
-                put(&mut cells[row + record.categories[*w] as usize], record.key);
+        ([one, two], false) => {
+            for record in passed {
+                put(&mut cells[entry(one, record) * sizes[1] + entry(two, record)], record.key);
             }
         }
-        _ => {
-            for record in records {
-                let place = vs.iter().zip(&sizes).fold(0, |place, (v, size)| {
-                    place * size + record.categories[*v] as usize
-                });
-                put(&mut cells[place], record.key);
+        ([one, two], true) => {
+            let (last_row, last) = ((sizes[0] - 1) * sizes[1], sizes[1] - 1);
+            for record in passed {
+                let (row, column) = (entry(one, record) * sizes[1], entry(two, record));
+                for place in [row + column, row + last, last_row + column, last_row + last] {
+                    put(&mut cells[place], record.key);
+                }
+            }
+        }
+        (dimensions, totals) => {
+            let margins = if totals { 1 << dimensions.len() } else { 1 };
+            for record in passed {
+                for margin in 0..margins {
+                    let of = dimensions.iter().zip(&sizes).enumerate();
+                    let place = of.fold(0, |place, (d, (dimension, size))| {
+                        let is_total = margin & (1 << d) != 0;
+                        place * size + if is_total { size - 1 } else { entry(dimension, record) }
+                    });
+                    put(&mut cells[place], record.key);
+                }
             }
         }
     }
     cells
 }
 
+fn print_field(out: &mut impl Write, text: &str) -> io::Result<()> {
+    if text.contains(['"', ',', '\r', '\n']) {
+        write!(out, "\"{}\",", text.replace('"', "\"\""))
+    } else {
+        write!(out, "{text},")
+    }
+}
+
 fn print_table(
     out: &mut impl Write,
-    variables: &[Variable],
-    vs: &[usize],
+    query: &Query,
     records: &[Record],
     pvalues: &[Option<i16>],
     threshold: u32,
 ) -> io::Result<()> {
-    let asked: Vec<&Variable> = vs.iter().map(|v| &variables[*v]).collect();
-    let cells = count(&asked, vs, records);
+    let cells = count(query, records);
+    let sizes = query.sizes();
     writeln!(out, "release 0")?;
-    for variable in &asked {
-        write!(out, "{},", variable.name)?;
+    for dimension in &query.dimensions {
+        print_field(out, &dimension.name)?;
     }
     writeln!(out, "count")?;
+    let places = cells.len();
     for (place, cell) in cells.into_iter().enumerate() {
-        let mut block: usize = asked.iter().map(|variable| variable.codes.len()).product();
-        let mut rest = place;
-        for variable in &asked {
-            block /= variable.codes.len();
-            write!(out, "{},", variable.codes[rest / block])?;
+        let (mut block, mut rest) = (places, place);
+        for (dimension, size) in query.dimensions.iter().zip(&sizes) {
+            block /= size;
+            let texts = dimension.texts(query.labels);
+            print_field(out, texts.get(rest / block).map_or("Total", String::as_str))?;
             rest %= block;
         }
         match shown(pvalues, threshold, cell) {
@@ -318,36 +468,29 @@ fn print_table(
     writeln!(out, ".")
 }
 
-/// The variables that each line of the script asks for.
-fn read_script(text: &str, variables: &[Variable]) -> Outcome<Vec<Vec<usize>>> {
-    let number_of = |name: &str| {
-        let place = variables.iter().position(|variable| variable.name == name);
-        Ok(place.ok_or("a variable is unknown")?)
-    };
-    text.lines()
-        .map(|line| {
-            let names = line.strip_prefix("a table ").ok_or("a line asks for no table")?;
-            names.split(" by ").map(number_of).collect()
-        })
-        .collect()
-}
-
 fn main() -> Outcome<()> {
+    let usage = "usage: baseline script CLASSES RECODES PTABLE PEOPLE THRESHOLD SCRIPT";
     let words: Vec<String> = env::args().skip(1).collect();
     let [command, classes, recodes, ptable, people, threshold, script] = words.as_slice() else {
-        return Err("usage: baseline script CLASSES - PTABLE PEOPLE THRESHOLD SCRIPT".into());
+        return Err(usage.into());
     };
-    if command != "script" || recodes != "-" {
-        return Err("usage: baseline script CLASSES - PTABLE PEOPLE THRESHOLD SCRIPT".into());
+    if command != "script" {
+        return Err(usage.into());
     }
     let threshold = number_up_to(threshold.as_bytes(), 1_000_000)?;
-    let variables = read_classes(&fs::read(classes)?)?;
+    let schema = read_classes(&fs::read(classes)?)?;
+    let recodes = match recodes.as_str() {
+        "-" => Vec::new(),
+        path => read_recodes(&fs::read(path)?, &schema)?,
+    };
     let pvalues = read_ptable(&fs::read(ptable)?)?;
-    let records = read_people(&fs::read(people)?, &variables)?;
-    let asked = read_script(&fs::read_to_string(script)?, &variables)?;
+    let records = read_people(&fs::read(people)?, &schema)?;
+    let groupings: Vec<Grouping> = schema.0.into_iter().chain(recodes).collect();
     let mut out = BufWriter::new(io::stdout().lock());
-    for vs in asked {
-        print_table(&mut out, &variables, &vs, &records, &pvalues, threshold)?;
+    for line in fs::read_to_string(script)?.lines() {
+        let query = line.strip_prefix("a ").ok_or("a line is not of lane a")?;
+        let query = Query::read(query, &groupings)?;
+        print_table(&mut out, &query, &records, &pvalues, threshold)?;
     }
     Ok(out.flush()?)
 }

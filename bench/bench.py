@@ -1,12 +1,12 @@
 #!/usr/bin/env python3
-"""Measures the program beside the plain one and prints a table of medians, spreads and ratios.
+"""Measures the program beside the plain one and prints tables of medians, spreads and ratios.
 
     bench.py PROGRAM BASELINE
 
 Both run over the same generated input, in turn, and their outputs must be equal byte by byte. A
 ratio is the median of the ratios of runs that followed each other, so that what slows the machine
-for a while slows both sides of it. Nothing here fails because of a time: a target that is missed is
-printed.
+for a while slows both sides of it. What a further table takes is what a script of many lines takes
+beyond a script of one. Nothing here fails because of a time: a target that is missed is printed.
 """
 import filecmp
 import os
@@ -20,40 +20,56 @@ import time
 HERE = os.path.dirname(os.path.abspath(__file__))
 START = 1
 THRESHOLD = 10
-SMALL, LARGE = 20_000, 1_000_000
-ONE, MANY = 1, 1_000
-RUNS = {ONE: 15, MANY: 5}
-CASES = [
-    (SMALL, "ascending", 1, ONE),
-    (SMALL, "ascending", 1, MANY),
-    (LARGE, "ascending", 1, ONE),
-    (LARGE, "ascending", 1, MANY),
-    (LARGE, "ascending", 2, ONE),
-    (LARGE, "ascending", 2, MANY),
-    (LARGE, "shuffled", 1, ONE),
+NONE, SMALL, LARGE = 0, 20_000, 1_000_000
+ONE_DIMENSION = ("AREA", "AGE", "SEX", "TENURE")
+TWO_DIMENSIONS = ("AREA by SEX", "AGE by TENURE", "AREA by AGE")
+MARGINS = "AREA by SEX with totals"
+FILTERED = "AGE by TENURE where SEX in (1)"
+LARGEST = "AREA by AGE"
+RECODED = "AGE10 by TENURE with totals with labels"
+REFUSED = "NOSUCH"
+ASCENDING, SHUFFLED = "ascending", "shuffled"
+# Persons, their order, the queries in turn, and how many lines: one, and for a further table many.
+ONE = 1
+PAIRS = [
+    (SMALL, ONE_DIMENSION, 1_000),
+    (LARGE, ONE_DIMENSION, 1_000),
+    (LARGE, TWO_DIMENSIONS, 400),
+    (LARGE, (MARGINS,), 100),
+    (LARGE, (FILTERED,), 100),
+    (LARGE, (LARGEST,), 100),
+    (LARGE, (RECODED,), 100),
+    (NONE, ("AGE",), 20_000),
+    (NONE, (LARGEST,), 400),
+    (NONE, (REFUSED,), 20_000),
 ]
-TABLES = {
-    1: ["AREA", "AGE", "SEX", "TENURE"],
-    2: ["AREA by SEX", "AGE by TENURE", "AREA by AGE"],
-}
+RUNS = {True: 15, False: 5}
+PROGRAM, PLAIN = "program", "baseline"
 MIB = 1024 * 1024
 
 
 class Case:
-    """An input and a script of tables with so many dimensions: what each program took over it, run
-    by run, and held at its peak."""
+    """An input and a script of so many lines: what each program took over it, run by run, and held
+    at its peak."""
 
-    def __init__(self, persons, order, dimensions, lines):
-        self.persons, self.order = persons, order
-        self.dimensions, self.lines = dimensions, lines
-        self.seconds = {"program": [], "baseline": []}
-        self.peak = {"program": 0, "baseline": 0}
+    def __init__(self, persons, order, queries, lines):
+        self.persons, self.order, self.queries, self.lines = persons, order, queries, lines
+        # The plain program refuses no query.
+        self.whos = [PROGRAM] if REFUSED in queries else [PROGRAM, PLAIN]
+        self.runs = RUNS[lines == ONE and persons == LARGE]
+        self.seconds = {who: [] for who in self.whos}
+        self.peak = {who: 0 for who in self.whos}
 
     def median(self, who):
         return statistics.median(self.seconds[who])
 
     def ratio(self):
-        return median_ratio(self.seconds["program"], self.seconds["baseline"])
+        return median_ratio(self.seconds[PROGRAM], self.seconds[PLAIN])
+
+    def name(self):
+        return {ONE_DIMENSION: "one dimension", TWO_DIMENSIONS: "two dimensions"}.get(
+            self.queries, self.queries[0]
+        )
 
 
 def median_ratio(ours, plain):
@@ -61,19 +77,18 @@ def median_ratio(ours, plain):
 
 
 def make_input(folder, persons, order):
-    words = [folder, str(START), str(persons)] + ["shuffled"] * (order == "shuffled")
+    words = [folder, str(START), str(persons)] + ["shuffled"] * (order == SHUFFLED)
     subprocess.run([sys.executable, f"{HERE}/generate.py", *words], check=True)
 
 
-def make_script(path, dimensions, lines):
-    tables = TABLES[dimensions]
+def make_script(path, case):
     with open(path, "w", encoding="ascii") as out:
-        for line in range(lines):
-            out.write(f"a table {tables[line % len(tables)]}\n")
+        for line in range(case.lines):
+            out.write(f"a table {case.queries[line % len(case.queries)]}\n")
 
 
 def words_of(program, folder, script):
-    files = [f"{folder}/classes.csv", "-", f"{folder}/ptable.csv", f"{folder}/people.csv"]
+    files = [f"{folder}/{name}.csv" for name in ("classes", "recodes", "ptable", "people")]
     return [program, "script", *files, str(THRESHOLD), script]
 
 
@@ -97,66 +112,94 @@ def peak_of(words):
 
 
 def measure(case, programs, folder):
-    script = f"{folder}/script-{case.dimensions}-{case.lines}.txt"
-    make_script(script, case.dimensions, case.lines)
-    words = {who: words_of(program, folder, script) for who, program in programs.items()}
-    for _ in range(RUNS[case.lines]):
-        for who in programs:
+    script = f"{folder}/script.txt"
+    make_script(script, case)
+    words = {who: words_of(programs[who], folder, script) for who in case.whos}
+    for _ in range(case.runs):
+        for who in case.whos:
             case.seconds[who].append(seconds_of(words[who], f"{folder}/{who}.out"))
-        if not filecmp.cmp(f"{folder}/program.out", f"{folder}/baseline.out", shallow=False):
+        outputs = [f"{folder}/{who}.out" for who in case.whos]
+        if not all(filecmp.cmp(outputs[0], path, shallow=False) for path in outputs):
             sys.exit(f"bench: the outputs over {folder} differ")
-    for who in programs:
+    for who in case.whos:
         case.peak[who] = peak_of(words[who])
 
 
 def spread(seconds):
-    middle, least, most = statistics.median(seconds), min(seconds), max(seconds)
-    return f"{middle * 1e3:.0f} ({least * 1e3:.0f} to {most * 1e3:.0f})"
+    return f"{statistics.median(seconds) * 1e3:.0f} ({min(seconds) * 1e3:.0f} to {max(seconds) * 1e3:.0f})"
 
 
 def print_runs(cases):
-    print("| Persons | Order | Dimensions | Lines | Runs | Program, ms | Plain, ms | Ratio | Program, MiB | Plain, MiB |")
+    print("| Persons | Order | Queries | Lines | Runs | Program, ms | Plain, ms | Ratio | Program, MiB | Plain, MiB |")
     print("|---|---|---|---|---|---|---|---|---|---|")
     for case in cases:
-        times = " | ".join(spread(case.seconds[who]) for who in case.seconds)
-        peaks = " | ".join(f"{case.peak[who] / MIB:.0f}" for who in case.peak)
-        print(f"| {case.persons:,} | {case.order} | {case.dimensions} | {case.lines:,} | {RUNS[case.lines]} | {times} | {case.ratio():.2f} | {peaks} |")
+        both = PLAIN in case.whos
+        plain = spread(case.seconds[PLAIN]) if both else ""
+        ratio = f"{case.ratio():.2f}" if both else ""
+        held = f"{case.peak[PLAIN] / MIB:.0f}" if both else ""
+        ours = f"{spread(case.seconds[PROGRAM])} | {plain} | {ratio} | {case.peak[PROGRAM] / MIB:.0f}"
+        print(f"| {case.persons:,} | {case.order} | {case.name()} | {case.lines:,} | {case.runs} | {ours} | {held} |")
 
 
-def further_tables(one, many, who):
-    """The seconds that each table after the first took, run by run."""
-    return [(seconds - one.median(who)) / (MANY - ONE) for seconds in many.seconds[who]]
+class Further:
+    """What each line after the first took, in seconds, run by run."""
+
+    def __init__(self, one, many):
+        self.of = many
+        self.each = {
+            who: [(t - one.median(who)) / (many.lines - ONE) for t in many.seconds[who]]
+            for who in many.whos
+        }
+
+    def median(self, who):
+        return statistics.median(self.each[who])
+
+    def ratio(self):
+        return median_ratio(self.each[PROGRAM], self.each[PLAIN])
+
+    def row(self, most):
+        times = [f"{self.median(who) * 1e3:.2f} ms" for who in (PROGRAM, PLAIN)]
+        what = f"{self.of.persons:,} persons, each further table: {self.of.name()}"
+        return (f"{what}, {' beside '.join(times)}", self.ratio(), most)
 
 
-def further(what, one, many, most):
-    """The row of what each table after the first took beside the plain program's."""
-    ours, plain = further_tables(one, many, "program"), further_tables(one, many, "baseline")
-    times = f"{statistics.median(ours) * 1e3:.1f} ms beside {statistics.median(plain) * 1e3:.1f} ms"
-    return (f"{what}, {times}", median_ratio(ours, plain), most)
-
-
-def print_targets(at):
-    """Prints each target with what was reached; `at` finds a case by persons, order, dimensions and
-    lines."""
-    one, many = at[LARGE, "ascending", 1, ONE], at[LARGE, "ascending", 1, MANY]
-    two, many_two = at[LARGE, "ascending", 2, ONE], at[LARGE, "ascending", 2, MANY]
-    peak = max(case.peak["program"] for case in (one, many, two, many_two)) / MIB
-    growth = one.median("program") / at[SMALL, "ascending", 1, ONE].median("program")
-    shuffled = at[LARGE, "shuffled", 1, ONE]
-    rows = [
-        (f"{LARGE:,} persons, one line: time beside the plain program", one.ratio(), 0.6),
-        further("each further table of one dimension", one, many, 0.7),
-        further("each further table of two dimensions", two, many_two, 0.9),
-        ("peak memory of the process, MiB", peak, 60),
-        (f"time at {LARGE:,} beside {SMALL:,} persons", growth, 55),
-        ("persons in another order: time beside the plain program", shuffled.ratio(), None),
-        ("persons in another order: peak memory, MiB", shuffled.peak["program"] / MIB, None),
-    ]
+def print_rows(rows):
     print("| What | Reached | At most | |")
     print("|---|---|---|---|")
     for what, reached, most in rows:
         holds = "" if most is None else "holds" if reached <= most else "missed"
         print(f"| {what} | {reached:.2f} | {most or 'no target'} | {holds} |")
+
+
+def targets(first, further, shuffled):
+    """Each target with what was reached; `first` and `further` find a case of one line, and what
+    each line after it took, by persons and queries."""
+    one = first[LARGE, ONE_DIMENSION]
+    peak = max(case.peak[PROGRAM] for (persons, _), case in first.items() if persons == LARGE) / MIB
+    growth = one.median(PROGRAM) / first[SMALL, ONE_DIMENSION].median(PROGRAM)
+    yield (f"{LARGE:,} persons, one line: time beside the plain program", one.ratio(), 0.6)
+    yield further[LARGE, ONE_DIMENSION].row(0.7)
+    yield further[SMALL, ONE_DIMENSION].row(None)
+    yield further[LARGE, TWO_DIMENSIONS].row(0.9)
+    yield further[LARGE, (MARGINS,)].row(0.35)
+    yield further[LARGE, (RECODED,)].row(0.35)
+    yield further[LARGE, (FILTERED,)].row(0.55)
+    yield further[LARGE, (LARGEST,)].row(0.55)
+    yield ("peak memory of the process, MiB", peak, 60)
+    yield (f"time at {LARGE:,} beside {SMALL:,} persons", growth, 55)
+    yield ("persons in another order: time beside the plain program", shuffled.ratio(), None)
+    yield ("persons in another order: peak memory, MiB", shuffled.peak[PROGRAM] / MIB, None)
+
+
+def texts(further):
+    """What a line of text takes where there are no records, so all but the loop over them."""
+    csv, fields = further[NONE, ("AGE",)], further[NONE, (LARGEST,)]
+    by_csv = csv.median(PROGRAM) / 102 * 1e9
+    by_fields = fields.median(PROGRAM) / 10_101 * 1e9
+    yield ("a line of a table of one dimension, 101 places, written by `csv`, ns", by_csv, None)
+    yield ("a line of a table of two dimensions, 10,100 places, ns", by_fields, None)
+    yield ("the one beside the other", by_fields / by_csv, 0.5)
+    yield ("a refused line, microseconds", further[NONE, (REFUSED,)].median(PROGRAM) * 1e6, 5)
 
 
 def machine():
@@ -167,8 +210,14 @@ def machine():
 
 
 def main(program, baseline):
-    programs = {"program": os.path.abspath(program), "baseline": os.path.abspath(baseline)}
-    cases = [Case(*of) for of in CASES]
+    programs = {PROGRAM: os.path.abspath(program), PLAIN: os.path.abspath(baseline)}
+    first, further = {}, {}
+    shuffled = Case(LARGE, SHUFFLED, ONE_DIMENSION, ONE)
+    cases = [shuffled]
+    for persons, queries, lines in PAIRS:
+        one, many = (Case(persons, ASCENDING, queries, n) for n in (ONE, lines))
+        first[persons, queries] = one
+        cases += [one, many]
     with tempfile.TemporaryDirectory(prefix="tablebuilder-bench-") as top:
         for case in cases:
             folder = f"{top}/{case.persons}-{case.order}"
@@ -176,10 +225,14 @@ def main(program, baseline):
                 os.mkdir(folder)
                 make_input(folder, case.persons, case.order)
             measure(case, programs, folder)
+    for one, many in zip(cases[1::2], cases[2::2]):
+        further[one.persons, one.queries] = Further(one, many)
     print(f"{machine()}; median (least to most); outputs equal byte by byte\n")
     print_runs(cases)
     print()
-    print_targets(dict(zip(CASES, cases)))
+    print_rows(targets(first, further, shuffled))
+    print()
+    print_rows(texts(further))
 
 
 if __name__ == "__main__":

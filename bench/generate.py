@@ -1,5 +1,5 @@
 #!/usr/bin/env python3
-"""Writes the generated input into a folder: classes.csv, ptable.csv and people.csv.
+"""Writes the generated input into a folder: classes.csv, recodes.csv, ptable.csv and people.csv.
 
     generate.py FOLDER START PERSONS [shuffled]
 
@@ -14,6 +14,7 @@ AGES = [str(n) for n in range(101)]
 SEXES = ["1", "2"]
 TENURES = ["1", "2", "3", "4", "5"]
 VARIABLES = [("AREA", AREAS), ("AGE", AGES), ("SEX", SEXES), ("TENURE", TENURES)]
+DECADES = [f"{n}-{n + 9}" for n in range(0, 100, 10)] + ["100+"]
 
 LAST_ROW = 750
 KEYS = 256
@@ -31,6 +32,12 @@ def class_lines():
     for name, codes in VARIABLES:
         for code in codes:
             yield f"{name},{code},{code}\n"
+
+
+def recode_lines():
+    yield "recode,variable,code,group\n"
+    for age in AGES:
+        yield f"AGE10,AGE,{age},{DECADES[int(age) // 10]}\n"
 
 
 def ptable_lines(start):
@@ -57,6 +64,7 @@ def write(path, lines):
 def main(folder, start, persons, order="ascending"):
     start, persons = int(start), int(persons)
     write(f"{folder}/classes.csv", class_lines())
+    write(f"{folder}/recodes.csv", recode_lines())
     write(f"{folder}/ptable.csv", ptable_lines(start))
     people = person_lines(start, persons)
     if order == "shuffled":

@@ -14,8 +14,9 @@ ghost use Rattle.tb_text.specs.Writers.{IsWithinRecord};
 use crate::bytes::Bytes;
 use crate::fields::{EntryFields, all_fields};
 use crate::lines::add_lines;
+use crate::records::text_by_records;
 use crate::setup::Setup;
-use crate::writing::{begin_record, bytes_from, write_one, writer, written_len};
+use crate::writing::{begin_record, bytes_from, write_one, writer_after, written_len};
 use csv::Writer;
 use std::alloc::Global;
 use tb_base::{Cell, Memory, print_number};
@@ -26,7 +27,7 @@ use tb_schema::Schema;
 const MOST_DIGITS: usize = 8;
 
 // The lines before the first place, roughly.
-const HEAD: usize = 256;
+pub(crate) const HEAD: usize = 256;
 
 // How many bytes the text has at most, but for long names: an entry stands in one line of so many.
 fn room_for(fields: &[EntryFields], places: usize) -> usize {
@@ -41,7 +42,7 @@ fn room_for(fields: &[EntryFields], places: usize) -> usize {
 }
 
 // Adds the first line, with the number of the release.
-fn add_release(text: &mut Bytes, number: u32) -> Result<(), Memory>
+pub(crate) fn add_release(text: &mut Bytes, number: u32) -> Result<(), Memory>
     ensures { OnOk result (text.new ≡ text.old ++ line_text (codes "release " ++ decimal number)) }
 {
     let mut digits = [0; 10];
@@ -96,9 +97,35 @@ fn add_heading(
     text.push_slice(b"count\n")
 }
 
+// The text of a table whose lines are put together from fields.
+fn text_by_fields(
+    alloc: Global,
+    setup: &Setup,
+    query: &Query,
+    number: u32,
+    cells: &[Cell],
+) -> Result<Vec<u8>, Memory>
+    requires names { All (IsName setup.now.schema) query.now.dimensions }
+    requires few { All (λ cell. cell.count ≤ MOST_PERSONS) cells.now }
+    ensures { IfOk result (λ text. text.items
+        ≡ text_of_cells setup.now.schema (pvalue_at setup.now.ptable) setup.now.threshold
+        query.now number cells.now) }
+{
+    let mut rows = writer_after(Vec::new(alloc));
+    begin_record(&mut rows)?;
+    let fields = all_fields(alloc, &mut rows, &setup.schema, query)?;
+    let mut text = Bytes::with_room(alloc, room_for(&fields, cells.len()))?;
+    add_release(&mut text, number)?;
+    add_heading(alloc, &mut text, &mut rows, &setup.schema, query)?;
+    let mut first = Bytes::with_room(alloc, HEAD)?;
+    add_lines(&mut text, setup, &mut first, &fields, cells, 0)?;
+    text.push_slice(b".\n")?;
+    Ok(text.into_vec())
+}
+
 /// The text of a query's table at the release of this number, where these are its cells: one for
 /// each of its places in row-major order, each of at most `MOST_PERSONS` persons. It takes memory
-/// for the text, whose room is reserved once, and for the fields of each dimension.
+/// for the text, and for the fields of each dimension where there is more than one.
 pub fn table_text(
     alloc: Global,
     setup: &Setup,
@@ -112,14 +139,9 @@ pub fn table_text(
         ≡ text_of_cells setup.now.schema (pvalue_at setup.now.ptable) setup.now.threshold
         query.now number cells.now) }
 {
-    let mut rows = writer(alloc);
-    begin_record(&mut rows)?;
-    let fields = all_fields(alloc, &mut rows, &setup.schema, query)?;
-    let mut text = Bytes::with_room(alloc, room_for(&fields, cells.len()))?;
-    add_release(&mut text, number)?;
-    add_heading(alloc, &mut text, &mut rows, &setup.schema, query)?;
-    let mut first = Bytes::with_room(alloc, HEAD)?;
-    add_lines(&mut text, setup, &mut first, &fields, cells, 0)?;
-    text.push_slice(b".\n")?;
-    Ok(text.into_vec())
+    let dimensions = query.dimensions();
+    if dimensions.len() == 1 {
+        return text_by_records(alloc, setup, query, dimensions[0], number, cells);
+    }
+    text_by_fields(alloc, setup, query, number, cells)
 }

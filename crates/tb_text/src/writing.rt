@@ -1,8 +1,8 @@
 // Fields that `csv` writes one after another within one record, which never ends.
 
-ghost use Rattle.std.specs.Prelude.{◌≡◌, ◌<◌, ◌++◌, ◌∷◌, [], length, IfOk, OnOk};
+ghost use Rattle.std.specs.Prelude.{◌≡◌, ◌<◌, ◌++◌, ◌∷◌, [], false, length, IfOk, OnOk};
 ghost use Rattle.csv.specs.Writing.{default_writer, field_text, fields_written, next_sep};
-ghost use Rattle.csv.specs.Writing.{writer_pending, writer_setup, writer_under};
+ghost use Rattle.csv.specs.Writing.{has_written, writer_pending, writer_setup, writer_under};
 ghost use Rattle.tb_text.specs.Lines.{before_another};
 ghost use Rattle.tb_text.specs.Writers.{IsWithinRecord, fields_from};
 
@@ -31,13 +31,17 @@ fn write_field(rows: &mut Writer<Vec<u8>>, text: &[u8]) -> Result<(), Memory>
     }
 }
 
-/// A writer that wrote nothing. It holds some kilobytes, so it is not passed on in a `Result`.
+/// A writer that goes on after a text. It holds some kilobytes, so it is not passed on in a
+/// `Result`.
 #[inline(always)]
-pub(crate) fn writer(alloc: Global) -> Writer<Vec<u8>>
+pub(crate) fn writer_after(text: Vec<u8>) -> Writer<Vec<u8>>
     ensures setup { writer_setup result ≡ default_writer }
+    ensures fields { fields_written result ≡ 0 }
+    ensures wrote { has_written result ≡ false }
     ensures pending { writer_pending result ≡ [] }
+    ensures under { writer_under result ≡ text }
 {
-    WriterBuilder::new().from_writer(Vec::new(alloc))
+    WriterBuilder::new().from_writer(text)
 }
 
 /// Begins a record by an empty field, so that a comma stands before each other.
