@@ -1,0 +1,4 @@
+pub mod Grid
+pub mod Adding
+pub mod Changes
+pub mod Holding

@@ -1,0 +1,54 @@
+// The number of a record's cell: each category leads on by a stride of its variable.
+
+ghost use Rattle.std.specs.Prelude.{◌≡◌, ◌*◌, ◌<◌, All, IfOk, length};
+ghost use Rattle.tb_base.specs.Records.{category_at};
+ghost use Rattle.tb_grid.specs.declared.products.TheConstants.{MOST_CELLS};
+ghost use Rattle.tb_cube.specs.Axes.{LeadsBelow, axes_of as axes_over, number_by};
+
+use std::alloc::Global;
+use tb_base::{Memory, Record, Shape, VarSet};
+use tb_grid::cells_over;
+
+/// A variable, and how many cells one category more leads on.
+#[derive(Clone, Copy)]
+pub struct Axis {
+    pub variable: u16,
+    pub stride: u32,
+}
+
+/// The axes of some variables.
+pub fn axes_of(alloc: Global, shape: &Shape, vars: &VarSet) -> Result<Vec<Axis>, Memory>
+    requires { All (λ v. v < length shape.now) vars.now }
+    ensures { IfOk result (λ axes. axes.items ≡ axes_over shape.now vars.now) }
+{
+    let mut axes = Vec::new(alloc);
+    for j in 0..vars.len() {
+        axes.push(Axis {
+            variable: vars.at(j),
+            stride: cells_over(shape, vars, j + 1) as u32,
+        })?;
+    }
+    Ok(axes)
+}
+
+/// How far a record's category of an axis' variable leads.
+#[inline]
+pub fn offset_of(axis: Axis, one: &Record) -> usize
+    requires { axis.variable < length one.now.codes }
+    ensures { result ≡ category_at one.now axis.variable * axis.stride }
+{
+    one.codes.at(axis.variable as usize) as usize * axis.stride as usize
+}
+
+/// The number of a record's cell.
+#[inline]
+pub fn number_of(axes: &[Axis], one: &Record) -> usize
+    requires { LeadsBelow MOST_CELLS axes.now one.now }
+    ensures { result ≡ number_by axes.now (category_at one.now) }
+{
+    let mut number = 0;
+    for axis in axes {
+        number += offset_of(*axis, one);
+    }
+    number
+}

@@ -1,0 +1,198 @@
+ghost use Rattle.std.specs.Prelude.{◌≡◌, List, [], ◌++◌, ◌+◌, ◌<◌, ◌≤◌, All, IfOk, length};
+ghost use Rattle.std.specs.Prelude.{slice_index_or};
+ghost use Rattle.std.specs.Option.{ForSome, option_copied, option_to_list};
+ghost use Rattle.tb_base.specs.declared.people.TheConstants.{MOST_PERSONS};
+ghost use Rattle.tb_base.specs.declared.records.Record.{Record as AnyRecord};
+ghost use Rattle.tb_base.specs.Cells.{empty_cell};
+ghost use Rattle.tb_base.specs.Records.{AllFit};
+ghost use Rattle.tb_grid.specs.declared.products.TheConstants.{MOST_CELLS};
+ghost use Rattle.tb_model.specs.Cubes.{cube_of};
+ghost use Rattle.tb_cube.specs.Cubes.{cell_count, cube_over, merged_at, merged_with, put_in};
+ghost use Rattle.tb_cube.specs.Cubes.{taken_out, CanPutIn, CanTakeOut, HasRoom, Holds, IsWhole};
+
+use crate::axes::{Axis, axes_of, number_of};
+use crate::merging::{merge_all, merge_into};
+use crate::putting::put_all;
+use std::alloc::Global;
+use std::marker::Model;
+use tb_base::{Cell, Memory, Record, Shape, VarSet};
+use tb_grid::{cells_over, know_cells};
+
+/// The cells over some variables of a classification: one for each list of their categories, in
+/// row-major order, so that the last variable's categories change fastest. A cell counts the
+/// records with its categories, and has their key sum.
+///
+/// Only `zero` and `copy` take memory.
+#[derive(Drop)]
+pub struct Cube {
+    shape: Shape,
+    vars: VarSet,
+    axes: Vec<Axis>,
+    cells: Vec<Cell>,
+}
+
+impl Model for Cube {
+    ghost use Rattle.tb_cube.specs.Cubes.{CubeValue};
+    ghost use Rattle.tb_cube.specs.Axes.{IsCube};
+
+    ghost Value = { CubeValue };
+
+    ghost view = { λ c. record { shape = c.shape; vars = c.vars; cells = c.cells.items } };
+
+    ghost invariant = { λ c. IsCube
+        (record { shape = c.shape; vars = c.vars; cells = c.cells.items }) c.axes.items };
+}
+
+impl Cube {
+    /// The cube of no record over these variables: every cell is empty. It takes memory for the
+    /// cells.
+    pub fn zero(alloc: Global, shape: &Shape, vars: &VarSet) -> Result<Cube, Memory>
+        requires there { All (λ v. v < length shape.now) vars.now }
+        requires few { cell_count shape.now vars.now ≤ MOST_CELLS }
+        ensures { IfOk result (λ cube. cube ≡ cube_over shape.now vars.now []) }
+    {
+        let axes = axes_of(alloc, shape, vars)?;
+        let cells = vec![in alloc; Cell::empty(); cells_over(shape, vars, 0)]?;
+        Ok(Cube {
+            shape: shape.copy()?,
+            vars: vars.copy()?,
+            axes,
+            cells,
+        })
+    }
+
+    /// Puts each record of a piece into the cell of its categories.
+    pub fn add_all(&mut self, piece: &[Record])
+        requires fit { AllFit self.old.shape piece.now }
+        requires room { All (λ c. c.count + length piece.now ≤ MOST_PERSONS) self.old.cells }
+        ensures cells { self.new
+            ≡ merged_with self.old (cube_of self.old.shape self.old.vars piece.now) }
+        // A cube that held some records holds the piece's records too.
+        ensures held { (before : List AnyRecord) → Holds self.old before
+            → Holds self.new (before ++ piece.now) }
+    {
+        know_cells(&self.cells);
+        put_all(&mut self.cells, &self.axes, piece);
+    }
+
+    // Takes a record, if there is one, out of the cell of its categories.
+    fn take_out(&mut self, gone: Option<&Record>)
+        requires { ForSome (option_copied gone) (CanTakeOut self.old) }
+        ensures { self.new ≡ taken_out (option_copied gone.entry) self.old }
+    {
+        if let Some(gone) = gone {
+            let number = number_of(&self.axes, gone);
+            self.cells[number].take_out(gone.key);
+        }
+    }
+
+    // Puts a record, if there is one, into the cell of its categories.
+    fn put(&mut self, new: Option<&Record>)
+        requires { ForSome (option_copied new) (CanPutIn self.old) }
+        ensures { self.new ≡ put_in (option_copied new.entry) self.old }
+    {
+        if let Some(new) = new {
+            let number = number_of(&self.axes, new);
+            self.cells[number].put(new.key);
+        }
+    }
+
+    /// Takes the record before a change out, if there is one, and puts the record after it in, if
+    /// there is one.
+    pub fn apply(&mut self, before: Option<&Record>, after: Option<&Record>)
+        requires before { ForSome (option_copied before) (CanTakeOut self.old) }
+        requires after { ForSome (option_copied after)
+            (CanPutIn (taken_out (option_copied before) self.old)) }
+        ensures cells { self.new ≡ put_in (option_copied after.entry)
+            (taken_out (option_copied before.entry) self.old) }
+        // A cube that held some records, the one before among them, holds the one after in its
+        // place: so it is with a record that is added, dropped or replaced.
+        ensures held { (first rest : List AnyRecord)
+            → Holds self.old (first ++ (option_to_list (option_copied before.entry) ++ rest))
+            → Holds self.new (first ++ (option_to_list (option_copied after.entry) ++ rest)) }
+    {
+        self.take_out(before);
+        self.put(after);
+    }
+
+    /// Merges each cell with the other cube's at its place.
+    pub fn merge(&mut self, other: &Cube)
+        requires shape { other.now.shape ≡ self.old.shape }
+        requires vars { other.now.vars ≡ self.old.vars }
+        requires room { HasRoom self.old other.now }
+        ensures cells { self.new ≡ merged_with self.old other.now.cells }
+        // Cubes that held some records make one that holds both's.
+        ensures held { (ours theirs : List AnyRecord) → Holds self.old ours
+            → Holds other.now theirs → Holds self.new (ours ++ theirs) }
+    {
+        merge_all(&mut self.cells, &other.cells);
+    }
+
+    /// Merges one cell, at a place, with another, so that a cube may be merged in steps.
+    #[inline]
+    pub fn merge_at(&mut self, place: usize, cell: Cell)
+        requires place { place < length self.old.cells }
+        requires room { (slice_index_or self.old.cells place empty_cell).count + cell.count
+            ≤ MOST_PERSONS }
+        ensures { self.new ≡ merged_at self.old place cell }
+    {
+        merge_into(&mut self.cells[place], cell);
+    }
+
+    /// How many cells there are.
+    pub fn cells(&self) -> usize
+        ensures count { result ≡ length self.now.cells }
+        ensures cube { IsWhole self.now }
+    {
+        let _ = &self.vars;
+        self.cells.len()
+    }
+
+    /// The cell at a place.
+    #[inline]
+    pub fn cell(&self, place: usize) -> Cell
+        requires { place < length self.now.cells }
+        ensures { result ≡ slice_index_or self.now.cells place empty_cell }
+    {
+        self.cells[place]
+    }
+
+    /// All the cells.
+    #[inline]
+    pub fn as_slice(&self) -> &[Cell]
+        ensures cells { result.now ≡ self.now.cells }
+        ensures cube { IsWhole self.now }
+    {
+        let _ = &self.vars;
+        &self.cells
+    }
+
+    /// The variables.
+    pub fn vars(&self) -> &VarSet
+        ensures vars { result.now ≡ self.now.vars }
+        ensures cube { IsWhole self.now }
+    {
+        let _ = &self.cells;
+        &self.vars
+    }
+
+    /// How many categories each variable of the classification has.
+    pub fn shape(&self) -> &Shape
+        ensures { result.now ≡ self.now.shape }
+    {
+        let _ = &self.cells;
+        &self.shape
+    }
+
+    /// An equal cube. It takes memory for the cells.
+    pub fn copy(&self) -> Result<Cube, Memory>
+        ensures { IfOk result (λ cube. cube ≡ self.now) }
+    {
+        Ok(Cube {
+            shape: self.shape.copy()?,
+            vars: self.vars.copy()?,
+            axes: self.axes.clone()?,
+            cells: self.cells.clone()?,
+        })
+    }
+}
