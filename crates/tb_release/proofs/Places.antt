@@ -47,9 +47,9 @@ are_named-kept m n edits kept named =
     All-weaker (λ edit. IsNamed m (person_of edit)) (λ edit. IsNamed n (person_of edit)) (λ edit. kept (person_of edit)) edits named
 
 -- ---- the persons of edits
-same_either : (b : Bool) (none : Option ℕ) → none ≡ cond b none none
-same_either true none = refl
-same_either false none = refl
+same_either : (b : Bool) (w : Option ℕ) → w ≡ cond b w w
+same_either true w = refl
+same_either false w = refl
 
 pub nowhere-more : {S : Type 0} (m n : HashMap ℕ (Option ℕ) S) (person : ℕ) → ArePlaced m []
     → ((q : ℕ) → hash.get nat_eq n q ≡ cond (eqb person q) (Some None) (hash.get nat_eq m q)) → ArePlaced n []

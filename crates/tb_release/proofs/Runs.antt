@@ -23,7 +23,7 @@ use Rattle.tb_release.specs.Chains.{after_batch}
 use Rattle.tb_release.specs.Laws.{EditFits}
 use Rattle.tb_release.specs.Results.{IsNext, ChangeFits}
 use Rattle.tb_release.specs.Drafts.{AreMade, AreNamed, ArePlaced, CanSet, HaveVariables, IsDraft, IsDraftOf, closed_up, release_of}
-use Rattle.tb_release.proofs.Chained.{can_follow, batches_lead_on}
+use Rattle.tb_release.proofs.Chained.{can_follow, batches_lead_on, length-changes_of}
 use Rattle.tb_release.proofs.Fitting.{fit_after, stay_fitting}
 use Rattle.tb_release.proofs.Places.{closed_up-full}
 
@@ -122,15 +122,18 @@ last_counts old edits first last changes is_old all =
     let last_is : release_of last ≡ edited_all old edits = all.leaves ∙ ap (λ r. edited_all r edits) is_old in
     (ap (λ (r : ReleaseValue). r.number) last_is ∙ same_number old edits, ap (λ (r : ReleaseValue). r.changes) last_is ∙ same_changes old edits)
 
+pub last_length : (edits : List Edit) (first last : Draft) (changes : List Change) → AreMade edits first last changes → length changes ≡ length edits
+last_length edits first last changes all = ap length all.makes ∙ length-changes_of (release_of first) edits
+
 pub is_next : (old next : ReleaseValue) (edits : List Edit) (first last : Draft) (changes : List Change) (batch : BatchValue) → release_of first ≡ old → AreMade edits first last changes
     → 0 < length edits → length edits ≤ MOST_EDITS → old.number < MOST_RELEASES → old.changes + length edits ≤ MOST_CHANGES
-    → next ≡ record (release_of last) { number = last.number + 1; changes = last.changes + length edits } → batch.changes ≡ changes → IsNext old edits next batch
+    → next ≡ record (release_of last) { number = last.number + 1; changes = last.changes + length edits } → batch ≡ record { changes = changes } → IsNext old edits next batch
 is_next old next edits first last changes batch is_old all some few number room is is_batch =
     let last_is : release_of last ≡ edited_all old edits = all.leaves ∙ ap (λ r. edited_all r edits) is_old in
     let counts = last_counts old edits first last changes is_old all in record {
       can = can_follow old edits few (none_refused old edits some number room (ap (λ r. first_refusal 1 r edits) (sym is_old) ∙ all.possible));
       release = is ∙ rw (counts.0, counts.1) (ap (λ (r : ReleaseValue). record r { number = old.number + 1; changes = old.changes + length edits }) last_is);
-      changes = is_batch ∙ all.makes ∙ ap (λ r. changes_of r edits) is_old;
+      changes = ap (λ (b : BatchValue). b.changes) is_batch ∙ all.makes ∙ ap (λ r. changes_of r edits) is_old;
     }
 
 -- ---- what else is so of the next release and its batch
