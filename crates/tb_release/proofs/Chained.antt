@@ -8,8 +8,8 @@ use Rattle.std.proofs.lemmas.List.Sums.{sum_by-cons}
 use Rattle.tb_model.specs.Releases.{ReleaseValue}
 use Rattle.tb_release.specs.declared.edits.Change.{Change}
 use Rattle.tb_release.specs.declared.edits.Edit.{Edit}
-use Rattle.tb_release.specs.declared.edits.EditFaultKind.{EditFaultKind}
-use Rattle.tb_release.specs.declared.edits.EditFaultKind.TheVariants as kind
+use Rattle.tb_release.specs.declared.fault.EditFaultKind.{EditFaultKind}
+use Rattle.tb_release.specs.declared.fault.EditFaultKind.TheVariants as kind
 use Rattle.tb_release.specs.declared.limits.TheConstants.{MOST_EDITS, MOST_RELEASES, MOST_CHANGES}
 use Rattle.tb_release.specs.Releases.{IsSound}
 use Rattle.tb_release.specs.Edits.{edited, edited_all}
@@ -41,7 +41,7 @@ batch_parts false true c rest none = cc
 batch_parts false false true rest none = cc
 batch_parts false false false rest none = (refl, refl, refl, none)
 
-can_follow : (release : ReleaseValue) (edits : List Edit) → length edits ≤ MOST_EDITS → batch_refusal release edits ≡ None → CanFollow release edits
+pub can_follow : (release : ReleaseValue) (edits : List Edit) → length edits ≤ MOST_EDITS → batch_refusal release edits ≡ None → CanFollow release edits
 can_follow release edits few none =
     let h = batch_parts (eqb (length edits) 0) (leb MOST_RELEASES release.number) (ltb MOST_CHANGES (release.changes + length edits)) (first_refusal 1 release edits) none in
     let apart = eqb-false (length edits) 0 h.0 in record {
@@ -75,7 +75,7 @@ fold-changes release (e ∷ es) s can =
     ap (λ r. fold changed r (changes_of (edited release e) es)) (changed-change_of release e s.distinct can.0)
     ∙ fold-changes (edited release e) es (sound_after release e can.0 s) can.1
 
-length-changes_of : (release : ReleaseValue) (edits : List Edit) → length (changes_of release edits) ≡ length edits
+pub length-changes_of : (release : ReleaseValue) (edits : List Edit) → length (changes_of release edits) ≡ length edits
 length-changes_of release [] = refl
 length-changes_of release (e ∷ es) = ap suc (length-changes_of (edited release e) es)
 

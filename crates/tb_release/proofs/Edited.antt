@@ -13,7 +13,7 @@ use Rattle.tb_base.proofs.PersonLemmas.{AreDistinct-push}
 use Rattle.tb_model.specs.Releases.{ReleaseValue}
 use Rattle.tb_release.specs.declared.edits.Edit.{Edit}
 use Rattle.tb_release.specs.declared.edits.Edit.TheVariants.{Add, Drop, Amend}
-use Rattle.tb_release.specs.declared.edits.EditFaultKind.TheVariants as kind
+use Rattle.tb_release.specs.declared.fault.EditFaultKind.TheVariants as kind
 use Rattle.tb_release.specs.Releases.{KeyBook, IsSound, HasKeyOf}
 use Rattle.tb_release.specs.Edits.{edited, amended, is_of, record_of}
 use Rattle.tb_release.specs.Possible.{IsPossible, CanAdd, refusal, has_other_key}
@@ -49,21 +49,21 @@ none_of release (Drop person) is = rw is refl
 none_of release (Amend person sets) is = rw is refl
 
 -- ---- its change
-change_of-add : (release : ReleaseValue) (person key : ℕ) (codes : List ℕ) → has_person release.records person ≡ false
+pub change_of-add : (release : ReleaseValue) (person key : ℕ) (codes : List ℕ) → has_person release.records person ≡ false
     → change_of release (Add person key codes) ≡ record { person = person; before = None; after = Some (record { person = person; key = key; codes = codes }) }
 change_of-add release person key codes nobody =
     let new : Record = record { person = person; key = key; codes = codes } in
     let here : record_of (release.records ++ new ∷ []) person ≡ Some new = record_of-here person release.records [] new refl nobody in
     rw (none_found person release.records nobody, here) refl
 
-change_of-drop : (release : ReleaseValue) (person : ℕ) (r : Record) → AreDistinct release.records → record_of release.records person ≡ Some r
+pub change_of-drop : (release : ReleaseValue) (person : ℕ) (r : Record) → AreDistinct release.records → record_of release.records person ≡ Some r
     → change_of release (Drop person) ≡ record { person = person; before = Some r; after = None }
 change_of-drop release person r distinct is =
     let s = stands person release.records r distinct is in
     let gone : record_of (filter (λ x. not (is_of person x)) release.records) person ≡ None = rw (dropped s) (record_of-gone person s.before s.after s.none_before s.none_after) in
     rw (is, gone) refl
 
-change_of-amend : (release : ReleaseValue) (person : ℕ) (sets : List (ℕ × ℕ)) (r : Record) → AreDistinct release.records → record_of release.records person ≡ Some r
+pub change_of-amend : (release : ReleaseValue) (person : ℕ) (sets : List (ℕ × ℕ)) (r : Record) → AreDistinct release.records → record_of release.records person ≡ Some r
     → change_of release (Amend person sets) ≡ record { person = person; before = Some r; after = Some (amended sets r) }
 change_of-amend release person sets r distinct is =
     let s = stands person release.records r distinct is in

@@ -37,7 +37,7 @@ fit_if : (b : Bool) (shape : List ℕ) (sets : List (ℕ × ℕ)) (r : Record) �
 fit_if true shape sets r inside fits = amended_fits shape sets r inside fits
 fit_if false shape sets r inside fits = fits
 
-fit_after : (shape : List ℕ) (release : ReleaseValue) (edit : Edit) → AllFit shape release.records → EditFits shape edit → AllFit shape (edited release edit).records
+pub fit_after : (shape : List ℕ) (release : ReleaseValue) (edit : Edit) → AllFit shape release.records → EditFits shape edit → AllFit shape (edited release edit).records
 fit_after shape release (Add person key codes) fit fits = All-push (Fits shape) release.records (record { person = person; key = key; codes = codes }) fit fits
 fit_after shape release (Drop person) fit fits = All-filter (λ x. not (is_of person x)) (Fits shape) release.records fit
 fit_after shape release (Amend person sets) fit fits =

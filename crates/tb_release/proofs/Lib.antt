@@ -1,6 +1,11 @@
-pub mod Books
+mod Vectors
 pub mod Persons
+pub mod Books
 pub mod Edited
 pub mod Chained
 pub mod Fitting
-pub mod Vectors
+pub mod Slots
+pub mod Places
+pub mod Keys
+pub mod Made
+pub mod Runs

@@ -10,7 +10,7 @@ use Rattle.tb_model.proofs.SmallSetup.{records, person}
 use Rattle.tb_release.specs.declared.edits.Change.{Change}
 use Rattle.tb_release.specs.declared.edits.Edit.{Edit}
 use Rattle.tb_release.specs.declared.edits.Edit.TheVariants.{Add, Drop, Amend}
-use Rattle.tb_release.specs.declared.edits.EditFaultKind.TheVariants as kind
+use Rattle.tb_release.specs.declared.fault.EditFaultKind.TheVariants as kind
 use Rattle.tb_release.specs.Edits.{edited_all}
 use Rattle.tb_release.specs.Batches.{changes_of, next_release, batch_refusal}
 

@@ -1,12 +1,15 @@
 -- Batches of changes, and which of them follow a release.
 use Rattle.std.specs.Prelude.{◌≡◌, ◌<◌, ◌≤◌, ℕ, ◌+◌, ◌==◌, ◌||◌, nat_le, nat_lt}
-use Rattle.std.specs.Prelude.{if◌then◌else◌, List, [], ◌∷◌, length, Option, Some}
+use Rattle.std.specs.Prelude.{if◌then◌else◌, List, [], ◌∷◌, length, Option, Some, refl}
+use Rattle.std.specs.Coded.{Coded, code_by, coded×, coded_ℕ, coded_list, coded_option}
+use Rattle.tb_base.specs.declared.records.Record.{Record}
+use Rattle.tb_base.specs.Records.{record_code}
 use Rattle.tb_model.specs.Releases.{ReleaseValue}
 use Rattle.tb_release.specs.declared.edits.Edit.{Edit}
 use Rattle.tb_release.specs.declared.edits.Edit.TheVariants.{Add, Drop, Amend}
 use Rattle.tb_release.specs.declared.edits.Change.{Change}
-use Rattle.tb_release.specs.declared.edits.EditFaultKind.{EditFaultKind}
-use Rattle.tb_release.specs.declared.edits.EditFaultKind.TheVariants as kind
+use Rattle.tb_release.specs.declared.fault.EditFaultKind.{EditFaultKind}
+use Rattle.tb_release.specs.declared.fault.EditFaultKind.TheVariants as kind
 use Rattle.tb_release.specs.declared.limits.TheConstants.{MOST_EDITS, MOST_RELEASES, MOST_CHANGES}
 use Rattle.tb_release.specs.Edits.{record_of, edited, edited_all}
 use Rattle.tb_release.specs.Possible.{ArePossible, first_refusal}
@@ -35,6 +38,20 @@ changes_of release (edit ∷ edits) =
 -- a batch: the changes of one list of edits
 pub record BatchValue : Type 0 where
   pub changes : List Change
+
+-- how a change and a batch are coded, for types whose values hold them
+abbrev pub change_code : Coded Change
+change_code =
+    code_by (ℕ × (Option Record × Option Record))
+    (coded× coded_ℕ (coded× (coded_option record_code) (coded_option record_code)))
+    (λ c. (c.person, (c.before, c.after)))
+    (λ p. record { person = p.0; before = p.1.0; after = p.1.1 })
+    (λ _. refl)
+
+abbrev pub batch_code : Coded BatchValue
+batch_code =
+    code_by (List Change) (coded_list change_code) (λ b. b.changes)
+    (λ cs. record { changes = cs }) (λ _. refl)
 
 -- edits can follow a release: there are some and at most the most, each is possible, and neither
 -- the releases nor the changes so far become too many

@@ -4,3 +4,6 @@ pub mod Possible
 pub mod Batches
 pub mod Chains
 pub mod Laws
+pub mod FaultNames
+pub mod Results
+pub mod Drafts

@@ -8,8 +8,8 @@ use Rattle.tb_base.specs.Persons.{has_person}
 use Rattle.tb_model.specs.Releases.{ReleaseValue}
 use Rattle.tb_release.specs.declared.edits.Edit.{Edit}
 use Rattle.tb_release.specs.declared.edits.Edit.TheVariants.{Add, Drop, Amend}
-use Rattle.tb_release.specs.declared.edits.EditFaultKind.{EditFaultKind}
-use Rattle.tb_release.specs.declared.edits.EditFaultKind.TheVariants as kind
+use Rattle.tb_release.specs.declared.fault.EditFaultKind.{EditFaultKind}
+use Rattle.tb_release.specs.declared.fault.EditFaultKind.TheVariants as kind
 use Rattle.tb_release.specs.Releases.{KeyBook}
 use Rattle.tb_release.specs.Edits.{edited}
 

@@ -1,5 +1,9 @@
-ghost use Rattle.std.specs.Prelude.{◌≡◌, ◌<◌, IfOk, length, slice_index_or};
+ghost use Rattle.std.specs.Prelude.{◌≡◌, ◌<◌, ◌≤◌, [], Some, IfOk, length, slice_get};
+ghost use Rattle.std.specs.Prelude.{slice_index_or};
+ghost use Rattle.tb_release.specs.declared.limits.TheConstants.{MOST_EDITS};
+ghost use Rattle.tb_release.specs.Results.{Pushes};
 
+use crate::limits::MOST_EDITS;
 use std::alloc::Global;
 use std::marker::Model;
 use tb_base::{Codes, Memory, Record};
@@ -62,14 +66,83 @@ pub struct Change {
     pub after: Option<Record>,
 }
 
-/// Why an edit isn't possible, or why some edits make no batch. `PersonThere`, `NoSuchPerson` and
-/// `KeyChanged` are an edit's alone; `TooMany` may be an edit's or that of all together; and there
-/// is `Nothing` where there is no edit.
-#[derive(Clone, Copy, Debug, PartialEq, Eq)]
-pub enum EditFaultKind {
-    PersonThere,
-    NoSuchPerson,
-    KeyChanged,
-    TooMany,
-    Nothing,
+/// Why an edit isn't held: there are `MOST_EDITS` already, or the call is out of memory. It has the
+/// edit.
+#[derive(Debug, Drop)]
+pub enum Pushed {
+    Full(Edit),
+    Memory(Edit),
+}
+
+/// Edits that are held, in order, at most `MOST_EDITS`.
+#[derive(Drop)]
+pub struct Edits {
+    list: Vec<Edit>,
+}
+
+impl Model for Edits {
+    ghost use Rattle.std.specs.Prelude.{List, length, ◌≤◌};
+    ghost use Rattle.tb_release.specs.declared.edits.Edit.{Edit};
+    ghost use Rattle.tb_release.specs.declared.limits.TheConstants.{MOST_EDITS};
+
+    ghost Value = { List Edit };
+
+    ghost view = { λ e. e.list.items };
+
+    ghost invariant = { λ e. length e.list.items ≤ MOST_EDITS };
+}
+
+impl Edits {
+    /// No edits. It takes no memory.
+    pub fn new(alloc: Global) -> Edits
+        ensures { result ≡ [] }
+    {
+        Edits {
+            list: Vec::new(alloc),
+        }
+    }
+
+    /// How many edits are held.
+    pub fn len(&self) -> usize
+        ensures { result ≡ length self.now }
+    {
+        self.list.len()
+    }
+
+    /// The edit at place `i`, from 0.
+    pub fn at(&self, i: usize) -> &Edit
+        requires { i < length self.now }
+        ensures { slice_get self.now i ≡ Some result.now }
+    {
+        &self.list[i]
+    }
+
+    /// Holds no edits any more.
+    pub fn clear(&mut self)
+        ensures { self.new ≡ [] }
+    {
+        self.list.clear();
+    }
+
+    /// Holds one more edit, as the last. Where `MOST_EDITS` are held already, and where the call is
+    /// out of memory, the edit comes back and nothing has changed.
+    pub fn push(&mut self, edit: Edit) -> Result<(), Pushed>
+        ensures { Pushes self.old edit result self.new }
+    {
+        if self.list.len() >= MOST_EDITS {
+            return Err(Pushed::Full(edit));
+        }
+        match self.list.push(edit) {
+            Ok(()) => Ok(()),
+            Err(failed) => Err(Pushed::Memory(failed.value)),
+        }
+    }
+
+    // All of them.
+    pub(crate) fn all(&self) -> &[Edit]
+        ensures all { result.now ≡ self.now }
+        ensures few { length self.now ≤ MOST_EDITS }
+    {
+        self.list.as_slice()
+    }
 }

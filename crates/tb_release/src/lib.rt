@@ -1,18 +1,27 @@
-//! Releases of the microdata: their records and numbers, and what edits make of them.
+//! Releases of the microdata: their records and numbers, what edits make of them, and the batches
+//! that lead from one to the next.
 //!
-//! It stands on `tb_base` and `tb_model`. Its contracts cite `Releases` of `tb_model` (what a
-//! release is, and release 0), and here `specs/Releases` (what is true of every release). `laws`
-//! cites the others: `Edits` (what an edit leaves), `Possible` (which edits are possible, and why
-//! one isn't), `Batches` (which batches follow a release) and `Chains` (the release to which a
-//! chain of batches leads).
+//! It stands on `tb_base`, `tb_model` and `tb_rows` (how a refusal is printed). Its contracts cite
+//! `Releases` of `tb_model` (what a release is, and release 0), and here `specs/Releases` (what is
+//! true of every release), `Edits` (what an edit leaves), `Possible` (which edits are possible, and
+//! why one isn't), `Batches` (which batches follow a release, and the first refusal of edits) and
+//! `Results` (what the calls return). `laws` cites `Chains` too (the release to which a chain of
+//! batches leads).
 #![tactic(auto)]
 
+mod batches;
+mod draft;
 mod edits;
+mod fault;
+mod following;
 pub mod laws;
 mod limits;
 mod release;
 
-pub use edits::{Change, Edit, EditFaultKind, Sets};
+pub use batches::{Batch, Batches};
+pub use edits::{Change, Edit, Edits, Pushed, Sets};
+pub use fault::{EditFault, EditFaultKind};
+pub use following::next;
 pub use limits::{MOST_CHANGES, MOST_EDITS, MOST_RELEASES};
 pub use release::{Lent, Release};
 

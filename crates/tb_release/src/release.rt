@@ -3,7 +3,7 @@ ghost use Rattle.std.specs.Prelude.{IfOk};
 ghost use Rattle.tb_base.specs.declared.people.TheConstants.{MOST_PERSONS};
 ghost use Rattle.tb_model.specs.Releases.{first_release};
 ghost use Rattle.tb_model.specs.Setups.{SetupValue};
-ghost use Rattle.tb_release.specs.Releases.{IsSound};
+ghost use Rattle.tb_release.specs.Releases.{IsSound, release_view};
 
 use std::alloc::Global;
 use std::collections::BTreeMap;
@@ -114,6 +114,40 @@ impl Release {
         ensures { result ≡ self.now.changes }
     {
         self.changes
+    }
+
+    // A release of these parts.
+    pub(crate) fn of(
+        records: Vec<Record>,
+        left: BTreeMap<u32, u8>,
+        number: u32,
+        changes: u32,
+    ) -> Release
+        requires { IsSound (release_view records.items left.entries number changes) }
+        ensures { result ≡ release_view records.items left.entries number changes }
+    {
+        Release {
+            records,
+            left,
+            number,
+            changes,
+        }
+    }
+
+    // The records, which are lent to `next` alone without a charge.
+    pub(crate) fn records(&self) -> &[Record]
+        ensures records { result.now ≡ self.now.records }
+        ensures sound { IsSound self.now }
+    {
+        self.records.as_slice()
+    }
+
+    // The keys of those who left.
+    pub(crate) fn copy_left(&self) -> Result<BTreeMap<u32, u8>, Memory>
+        ensures { IfOk result (λ left. self.now
+            ≡ release_view self.now.records left.entries self.now.number self.now.changes) }
+    {
+        Ok(self.left.clone()?)
     }
 
     /// The records, in pieces. The counter rises by how many records there are.

@@ -1,9 +1,13 @@
 // What no clause says: with ample memory a release is made, over the small microdata and over none,
-// and so are settings.
+// and so are settings, batches and next releases.
+
+mod edited;
+mod fitting;
+mod limits;
 
 ghost use Rattle.std.specs.Prelude.{◌≡◌, ◌+◌, ◌*◌, ◌<◌, length};
 
-use crate::{Lent, Release, Sets};
+use crate::{EditFault, EditFaultKind, Lent, Release, Sets};
 use std::alloc::Global;
 use std::marker::Brand;
 use std::sync::ledger::{Blank, Ledger};
@@ -11,7 +15,7 @@ use std::test::Fail;
 use tb_base::{Codes, MOST_PERSONS, Memory, People, Record, Steps};
 
 // A person, the record key, and the categories of SEX, AGE and AREA.
-type Row = (u32, u8, [u16; 3]);
+pub type Row = (u32, u8, [u16; 3]);
 
 static FOUR: [Row; 4] = [
     (101, 200, [0, 0, 0]),
@@ -30,7 +34,7 @@ fn record_of(alloc: Global, row: Row) -> Result<Record, Memory> {
     Ok(Record { person, key, codes })
 }
 
-fn people_of(alloc: Global, rows: &[Row]) -> Result<People, Memory> {
+pub fn people_of(alloc: Global, rows: &[Row]) -> Result<People, Memory> {
     let mut people = People::new(alloc);
     for row in rows {
         if people.add(record_of(alloc, *row)?).is_err() {
@@ -66,6 +70,22 @@ fn are_rows(lent: &Lent, rows: &[Row]) -> bool {
         }
     }
     rest.next().is_none()
+}
+
+// Release 0 of the small microdata.
+pub fn release_of(alloc: Global) -> Result<Release, Memory> {
+    let people = people_of(alloc, four())?;
+    if people.len() > MOST_PERSONS {
+        return Err(Memory);
+    }
+    Release::first(alloc, people)
+}
+
+// Whether a release's records are those of the rows.
+pub fn is_of_rows(release: &Release, rows: &[Row]) -> bool {
+    let records = release.records();
+    records.len() == rows.len()
+        && records.iter().zip(rows).all(|(one, row)| is_row(one, *row))
 }
 
 // The counter rises at each lending by how many records there are.
@@ -112,5 +132,75 @@ fn settings(rt: HostRuntime) -> Result<(), Fail> {
     assert!(rt; sets.len() == 2);
     assert_eq!(rt; sets.at(0), (1, 2));
     assert_eq!(rt; sets.at(1), (1, 1));
+    Ok(())
+}
+
+// Each kind with its number and its word.
+static NAMES: [(EditFaultKind, u8, &str); 5] = [
+    (EditFaultKind::PersonThere, 1, "PersonThere"),
+    (EditFaultKind::NoSuchPerson, 2, "NoSuchPerson"),
+    (EditFaultKind::KeyChanged, 3, "KeyChanged"),
+    (EditFaultKind::TooMany, 4, "TooMany"),
+    (EditFaultKind::Nothing, 5, "Nothing"),
+];
+
+fn names() -> &'static [(EditFaultKind, u8, &'static str)] {
+    &NAMES
+}
+
+// Each fault with its text.
+static TEXTS: [(EditFault, &str); 6] = [
+    (
+        EditFault::Refused {
+            kind: EditFaultKind::PersonThere,
+            edit: 1,
+        },
+        "edit 1: the person has a record already",
+    ),
+    (
+        EditFault::Refused {
+            kind: EditFaultKind::NoSuchPerson,
+            edit: 3,
+        },
+        "edit 3: the person has no record",
+    ),
+    (
+        EditFault::Refused {
+            kind: EditFaultKind::KeyChanged,
+            edit: 10_000,
+        },
+        "edit 10000: the person must have the same record key as before",
+    ),
+    (
+        EditFault::Refused {
+            kind: EditFaultKind::TooMany,
+            edit: 0,
+        },
+        "edit 0: there must be at most 1,000,000 records, 10,000 releases and 1,000,000 changes",
+    ),
+    (
+        EditFault::Refused {
+            kind: EditFaultKind::Nothing,
+            edit: 0,
+        },
+        "edit 0: there must be at least one edit",
+    ),
+    (EditFault::Memory, "out of memory"),
+];
+
+fn texts() -> &'static [(EditFault, &'static str)] {
+    &TEXTS
+}
+
+#[test]
+fn names_and_texts_of_faults(rt: HostRuntime) -> Result<(), Fail> {
+    for (kind, number, word) in names() {
+        assert_eq!(rt; kind.name().number(), *number);
+        assert_eq!(rt; kind.name().word(), *word);
+    }
+    for (fault, want) in texts() {
+        let text = format!(in rt.alloc(); "{fault}")?;
+        assert_eq!(rt; text.as_str(), *want);
+    }
     Ok(())
 }
