@@ -1,0 +1,6 @@
+pub mod Parts
+pub mod Categories
+pub mod Spelled
+pub mod SyntaxRules
+pub mod OneAnswer
+pub mod Fitting
