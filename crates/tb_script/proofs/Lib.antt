@@ -7,3 +7,5 @@ pub mod WholeFiles
 pub mod OutputLemmas
 pub mod Pieces
 pub mod Answering
+pub mod Revising
+pub mod Leading

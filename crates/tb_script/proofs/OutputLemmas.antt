@@ -8,9 +8,15 @@ use Rattle.tb_io.specs.Taken.{Took, TookPart}
 use Rattle.tb_io.proofs.TakenLemmas.{Took-append, TookPart-append, TookPart-longer}
 use Rattle.tb_model.specs.Releases.{ReleaseValue}
 use Rattle.tb_model.specs.Setups.{SetupValue}
-use Rattle.tb_script.specs.Lines.{is_passed_over}
+use Rattle.tb_release.specs.Chains.{release_after}
+use Rattle.tb_script.specs.Asks.{asks_of}
+use Rattle.tb_script.specs.declared.asks.Asks.{Asks}
+use Rattle.tb_script.specs.declared.asks.Asks.TheVariants as asks
+use Rattle.tb_script.specs.declared.revise.State.{State}
+use Rattle.tb_script.specs.ReplyLines.{memory_line}
+use Rattle.tb_script.specs.States.{ReplyLeads, StandsFor}
 use Rattle.tb_script.specs.Outputs.{AreReplies, Lead, ReplyValue, price_of, text_of}
-use Rattle.tb_script.specs.Replies.{IsReply, IsReplyTo, IsReplyWhere, memory_reply, no_reply, start}
+use Rattle.tb_script.specs.Replies.{IsReply, IsReplyTo, StateValue, free_reply, start}
 use Rattle.tb_script.specs.Scripts.{ScriptLine}
 
 module _ {S L : Type 0} (Step : S → L → ReplyValue → S → Type 0) where
@@ -38,53 +44,65 @@ text_of-one r = append-nil r.text
 pub price_of-one : (r : ReplyValue) → price_of (r ∷ []) ≡ r.price
 price_of-one r = omega arith
 
-module _ (setup : SetupValue) (base : ReleaseValue) where
-  -- a line has no reply, or may find no memory, so any lines have replies
-  reply_where : (b : Bool) (line : List ℕ) → (reply : ReplyValue) × IsReplyWhere b setup base line reply
-  reply_where true line = (no_reply, refl)
-  reply_where false line = (memory_reply base, inr (inr refl))
+-- every line may find no memory, or has no reply, so it has some
+reply_to_any : (what : Asks) (setup : SetupValue) (release : ReleaseValue) (state : StateValue) (line : List ℕ) → (reply : ReplyValue) × (next : StateValue) × IsReplyTo what setup release state line reply next
+reply_to_any asks.Nothing setup release state line = (free_reply [], state, refl, refl)
+reply_to_any asks.Table setup release state line = (free_reply memory_line, state, inr (refl, inr refl), refl)
+reply_to_any asks.Edit setup release state line = (free_reply memory_line, state, refl, refl, inr (refl, inr (inr refl)))
+reply_to_any asks.Publish setup release state line = (free_reply memory_line, state, refl, inr (inr (refl, refl)))
 
-  some_replies : (lines : List ScriptLine) → (rs : List ReplyValue) × Lead (IsReply setup base) start lines rs start
-  some_replies [] = ([], refl)
-  some_replies (one ∷ lines) =
-      let (reply, h) = reply_where (is_passed_over one.line) one.line in
-      let (rs, others) = some_replies lines in
-      (reply ∷ rs, (start, (refl, h), others))
+-- a line by its parts
+pub same_line : (one : ScriptLine) (lane line : List ℕ) → lane ≡ one.lane → line ≡ one.line → record { phase = one.phase; lane = lane; line = line } ≡ one
+same_line one lane line same also = rw (same, also) refl
+
+module _ (setup : SetupValue) (base : ReleaseValue) where
+  some_replies : (lines : List ScriptLine) (state : StateValue) → (rs : List ReplyValue) × (last : StateValue) × Lead (IsReply setup base) state lines rs last
+  some_replies [] state = ([], state, refl)
+  some_replies (one ∷ lines) state =
+      let (reply, next, h) = reply_to_any (asks_of one) setup (release_after base state.chain) state one.line in
+      let (rs, last, others) = some_replies lines next in
+      (reply ∷ rs, last, next, h, others)
 
   -- so far, and one more line
-  one-more-line : (lines : List ScriptLine) (i : ℕ) (one : ScriptLine) (rs : List ReplyValue) (reply : ReplyValue) → i < length lines → get_or lines i one ≡ one → Lead (IsReply setup base) start (take i lines) rs start
-      → IsReplyTo setup base one.line reply → Lead (IsReply setup base) start (take (i + 1) lines) (rs ++ reply ∷ []) start
-  one-more-line lines i one rs reply below here before step =
-      rw (take_more lines i one below, here) (Lead-append (IsReply setup base) (take i lines) (one ∷ []) rs (reply ∷ []) start start start before (Lead-one (IsReply setup base) one reply start start (refl, step)))
+  one-more-line : (lines : List ScriptLine) (i : ℕ) (one : ScriptLine) (rs : List ReplyValue) (reply : ReplyValue) (value next : StateValue) → i < length lines → get_or lines i one ≡ one → Lead (IsReply setup base) start (take i lines) rs value
+      → IsReply setup base value one reply next → Lead (IsReply setup base) start (take (i + 1) lines) (rs ++ reply ∷ []) next
+  one-more-line lines i one rs reply value next below here before step =
+      rw (take_more lines i one below, here) (Lead-append (IsReply setup base) (take i lines) (one ∷ []) rs (reply ∷ []) start value next before (Lead-one (IsReply setup base) one reply value next step))
 
-  module _ (a b c : Option (List ℕ)) (p q r : ℕ) (lines : List ScriptLine) (i : ℕ) (one : ScriptLine) (bytes : List ℕ) (below : i < length lines) (here : get_or lines i one ≡ one) (same : bytes ≡ one.line)
-      (before : (rs : List ReplyValue) × Lead (IsReply setup base) start (take i lines) rs start × Took a b (text_of rs) × (q ≤ p + price_of rs)) where
+  -- the replies to the lines so far were taken, for no more than their price, and led to this state
+  abbrev pub AreTaken : Option (List ℕ) → Option (List ℕ) → ℕ → ℕ → List ScriptLine → State → Type 0
+  AreTaken a b p q lines state =
+      (rs : List ReplyValue) × (value : StateValue)
+      × Lead (IsReply setup base) start lines rs value × StandsFor base state value
+      × Took a b (text_of rs) × (q ≤ p + price_of rs)
+
+  module _ (a b c : Option (List ℕ)) (p q r : ℕ) (lines : List ScriptLine) (i : ℕ) (one : ScriptLine) (old new : State) (text : List ℕ) (below : i < length lines) (here : get_or lines i one ≡ one)
+      (step : ReplyLeads setup old one text q r new) (before : AreTaken a b p q (take i lines) old) where
     -- the reply to one more line was taken
-    pub reply-taken : (reply : ReplyValue) × IsReplyTo setup base bytes reply × Took b c reply.text × (r ≤ q + reply.price)
-        → (rs : List ReplyValue) × Lead (IsReply setup base) start (take (i + 1) lines) rs start × Took a c (text_of rs) × (r ≤ p + price_of rs)
-    reply-taken (reply, answer, took, cost) =
-        let step : IsReplyTo setup base one.line reply = subst (λ (b : List ℕ). IsReplyTo setup base b reply) same answer in
-        let (rs, lead, so_far, costs) = before in
-        let text : text_of (rs ++ reply ∷ []) ≡ text_of rs ++ reply.text = text_of-append rs (reply ∷ []) ∙ ap (λ t. text_of rs ++ t) (text_of-one reply) in
+    pub reply-taken : Took b c text → AreTaken a c p r (take (i + 1) lines) new
+    reply-taken took =
+        let (rs, value, lead, stands, so_far, costs) = before in
+        let (reply, next, is_reply, goes_on, same, cost) = step base value stands in
+        let whole : text_of (rs ++ reply ∷ []) ≡ text_of rs ++ text = text_of-append rs (reply ∷ []) ∙ ap (λ t. text_of rs ++ t) (text_of-one reply ∙ same) in
         let price : price_of (rs ++ reply ∷ []) ≡ price_of rs + reply.price = price_of-append rs (reply ∷ []) ∙ ap (λ n. price_of rs + n) (price_of-one reply) in
-        (rs ++ reply ∷ [], one-more-line lines i one rs reply below here lead step, rw text (Took-append a b c (text_of rs) reply.text so_far took), omega (arith, price, cost, costs))
+        (rs ++ reply ∷ [], next, one-more-line lines i one rs reply value next below here lead is_reply, goes_on, rw whole (Took-append a b c (text_of rs) text so_far took), omega (arith, price, cost, costs))
 
     -- a part of the reply was taken, which is a part of some replies to all lines
-    pub reply-cut : (reply : ReplyValue) × IsReplyTo setup base bytes reply × TookPart b c reply.text × (r ≤ q + reply.price)
+    pub reply-cut : TookPart b c text
         → (rs : List ReplyValue) × AreReplies (IsReply setup base) start lines rs × TookPart a c (text_of rs) × (r ≤ p + price_of rs)
-    reply-cut (reply, answer, part, cost) =
-        let step : IsReplyTo setup base one.line reply = subst (λ (b : List ℕ). IsReplyTo setup base b reply) same answer in
-        let (rs, lead, so_far, costs) = before in
-        let (others, rest) = some_replies (drop (i + 1) lines) in
-        let whole = Lead-append (IsReply setup base) (take (i + 1) lines) (drop (i + 1) lines) (rs ++ reply ∷ []) others start start start (one-more-line lines i one rs reply below here lead step) rest in
-        let all : Lead (IsReply setup base) start lines ((rs ++ reply ∷ []) ++ others) start = subst (λ ls. Lead (IsReply setup base) start ls ((rs ++ reply ∷ []) ++ others) start) (take-append-drop (i + 1) lines) whole in
-        let one_text : text_of (rs ++ reply ∷ []) ≡ text_of rs ++ reply.text = text_of-append rs (reply ∷ []) ∙ ap (λ t. text_of rs ++ t) (text_of-one reply) in
-        let text : text_of ((rs ++ reply ∷ []) ++ others) ≡ (text_of rs ++ reply.text) ++ text_of others = text_of-append (rs ++ reply ∷ []) others ∙ ap (λ t. t ++ text_of others) one_text in
+    reply-cut part =
+        let (rs, value, lead, stands, so_far, costs) = before in
+        let (reply, next, is_reply, goes_on, same, cost) = step base value stands in
+        let (others, last, rest) = some_replies (drop (i + 1) lines) next in
+        let whole = Lead-append (IsReply setup base) (take (i + 1) lines) (drop (i + 1) lines) (rs ++ reply ∷ []) others start next last (one-more-line lines i one rs reply value next below here lead is_reply) rest in
+        let all : Lead (IsReply setup base) start lines ((rs ++ reply ∷ []) ++ others) last = subst (λ ls. Lead (IsReply setup base) start ls ((rs ++ reply ∷ []) ++ others) last) (take-append-drop (i + 1) lines) whole in
+        let one_text : text_of (rs ++ reply ∷ []) ≡ text_of rs ++ text = text_of-append rs (reply ∷ []) ∙ ap (λ t. text_of rs ++ t) (text_of-one reply ∙ same) in
+        let texts : text_of ((rs ++ reply ∷ []) ++ others) ≡ (text_of rs ++ text) ++ text_of others = text_of-append (rs ++ reply ∷ []) others ∙ ap (λ t. t ++ text_of others) one_text in
         let one_price : price_of (rs ++ reply ∷ []) ≡ price_of rs + reply.price = price_of-append rs (reply ∷ []) ∙ ap (λ n. price_of rs + n) (price_of-one reply) in
         let price : price_of ((rs ++ reply ∷ []) ++ others) ≡ price_of (rs ++ reply ∷ []) + price_of others = price_of-append (rs ++ reply ∷ []) others in
-        ((rs ++ reply ∷ []) ++ others, (start, all), rw text (TookPart-longer a c (text_of rs ++ reply.text) (text_of others) (TookPart-append a b c (text_of rs) reply.text so_far part)), omega (arith, one_price, price, cost, costs))
+        ((rs ++ reply ∷ []) ++ others, (last, all), rw texts (TookPart-longer a c (text_of rs ++ text) (text_of others) (TookPart-append a b c (text_of rs) text so_far part)), omega (arith, one_price, price, cost, costs))
 
   -- every reply was taken
-  pub replies-taken : (a b : Option (List ℕ)) (p q : ℕ) (lines : List ScriptLine) (i : ℕ) → length lines ≤ i → (rs : List ReplyValue) × Lead (IsReply setup base) start (take i lines) rs start × Took a b (text_of rs) × (q ≤ p + price_of rs)
+  pub replies-taken : (a b : Option (List ℕ)) (p q : ℕ) (lines : List ScriptLine) (i : ℕ) (state : State) → length lines ≤ i → AreTaken a b p q (take i lines) state
       → (rs : List ReplyValue) × AreReplies (IsReply setup base) start lines rs × Took a b (text_of rs) × (q ≤ p + price_of rs)
-  replies-taken a b p q lines i past (rs, lead, took, cost) = (rs, (start, subst (λ ls. Lead (IsReply setup base) start ls rs start) (take_all i lines past) lead), took, cost)
+  replies-taken a b p q lines i state past (rs, value, lead, stands, took, cost) = (rs, (value, subst (λ ls. Lead (IsReply setup base) start ls rs value) (take_all i lines past) lead), took, cost)

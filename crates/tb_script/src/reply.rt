@@ -99,7 +99,10 @@ fn write_batch_refusal<O: Sink>(out: &mut O, edit: u32, fault: &FaultName) -> Wr
     let place = &first[..edit_len];
     let number = &second[..number_len];
     let word = fault.word().as_bytes();
-    write_all(out, &[b"refused batch ", place, b" ", number, b" ", word, b"\n"])
+    write_all(
+        out,
+        &[b"refused batch ", place, b" ", number, b" ", word, b"\n"],
+    )
 }
 
 impl Reply {

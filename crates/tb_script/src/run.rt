@@ -91,7 +91,14 @@ pub fn run_script<O: Sink, L: Ledger>(
         held: Edits::new(alloc),
     };
     for i in 0..script.len() {
-        let reply = reply(alloc, setup, &mut state, script.lane(i), script.line(i), steps);
+        let reply = reply(
+            alloc,
+            setup,
+            &mut state,
+            script.lane(i),
+            script.line(i),
+            steps,
+        );
         match reply.write(out) {
             Wrote::All => {}
             Wrote::Failed => return RunEnd::WriteFault,
