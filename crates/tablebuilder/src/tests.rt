@@ -15,6 +15,7 @@ mod limits;
 mod memory;
 mod order;
 mod queries;
+mod revisions;
 mod rows;
 
 pub const CLASSES: &[u8] = b"variable,code,label\nSEX,1,Male\nSEX,2,Female\nAGE,0-15,Under 16\n\

@@ -41,32 +41,30 @@ pub fn end_by<O: Sink>(end: &End, out: &mut O) -> Status
 // Answers the script that is asked for.
 fn answer<O: Sink, L: Ledger>(
     alloc: Global,
-    asked: &Asked,
+    asked: Asked,
     out: &mut O,
     steps: &mut Steps<L>,
 ) -> Status
-    requires fit { AllFit (shape_of asked.now.setup.schema) asked.now.release.records }
-    requires first { asked.now.release
-        ≡ first_release (setup_value asked.now.setup) asked.now.release.records }
+    requires fit { AllFit (shape_of asked.setup.schema) asked.release.records }
+    requires first { asked.release
+        ≡ first_release (setup_value asked.setup) asked.release.records }
     ensures { ((result ≡ status.Done) × ((replies : List ReplyValue)
-        × AreAnswers (asked_value asked.now) replies
+        × AreAnswers (asked_value asked) replies
         × Took (O.taken out.old) (O.taken out.new) (text_of replies)
         × (steps.new ≤ steps.old + price_of replies)))
         ⊎ ((result ≡ status.WriteFault)
         × HasRisen (O.faults out.old) (O.faults out.new)
         × ((replies : List ReplyValue)
-        × AreAnswers (asked_value asked.now) replies
+        × AreAnswers (asked_value asked) replies
         × TookPart (O.taken out.old) (O.taken out.new) (text_of replies)
         × (steps.new ≤ steps.old + price_of replies))) }
 {
-    match run_script(
-        alloc,
-        &asked.setup,
-        &asked.release,
-        &asked.script,
-        out,
-        steps,
-    ) {
+    let Asked {
+        setup,
+        release,
+        script,
+    } = asked;
+    match run_script(alloc, &setup, release, &script, out, steps) {
         RunEnd::Done => Status::Done,
         RunEnd::WriteFault => Status::WriteFault,
         RunEnd::Memory => end_by(&End::Memory, out),
@@ -78,10 +76,12 @@ fn answer<O: Sink, L: Ledger>(
 /// tells why.
 ///
 /// The arguments are `script CLASSES RECODES PTABLE PEOPLE THRESHOLD SCRIPT`; others are refused. A
-/// printed table is the perturbed table counted from scratch over the microdata, and a query is
-/// refused for the first fault of its text. A line that finds no memory gets the reply `memory`,
-/// and the next line is answered. The counter rises by how many records are lent: once for each
-/// table. It takes memory for the files, for what they say, and for one table at a time.
+/// printed table is the perturbed table counted from scratch over the release of its number, to
+/// which the custodian's lines before it led, and a query is refused for the first fault of its
+/// text. A line that finds no memory gets the reply `memory`, and the next line is answered. The
+/// counter rises by how many records are lent: once for each table. It takes memory for the files,
+/// for what they say, for one table at a time, for the edits that are held, and for the next release
+/// while it is made.
 pub fn tablebuilder<F: Files, O: Sink, L: Ledger>(
     alloc: Global,
     words: &[String],
@@ -109,7 +109,7 @@ pub fn tablebuilder<F: Files, O: Sink, L: Ledger>(
 {
     match read_command(words) {
         Some(command) => match load(alloc, files, &command) {
-            Ok(asked) => answer(alloc, &asked, out, steps),
+            Ok(asked) => answer(alloc, asked, out, steps),
             Err(end) => end_by(&end, out),
         },
         None => end_by(&End::Usage, out),

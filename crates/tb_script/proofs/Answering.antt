@@ -17,6 +17,9 @@ use Rattle.tb_script.specs.ReplyLines.{memory_line, refusal_line}
 pub refusal-parts : (a b w v p q : List ℕ) → a ≡ b → w ≡ v → p ≡ q → codes "refused " ++ (a ++ 32 ∷ (w ++ 32 ∷ (p ++ 10 ∷ []))) ≡ codes "refused " ++ ((((b ++ 32 ∷ []) ++ v) ++ 32 ∷ q) ++ 10 ∷ [])
 refusal-parts a b w v p q h k l = rw (h, k, l) (ap (λ t. codes "refused " ++ t) (grind (arith, common_steps)))
 
+pub batch-parts : (a b c d w v : List ℕ) → a ≡ b → c ≡ d → w ≡ v → codes "refused batch " ++ (a ++ 32 ∷ (c ++ 32 ∷ (w ++ 10 ∷ []))) ≡ codes "refused batch " ++ (((((b ++ 32 ∷ []) ++ d) ++ 32 ∷ []) ++ v) ++ 10 ∷ [])
+batch-parts a b c d w v h k l = rw (h, k, l) (ap (λ t. codes "refused batch " ++ t) (grind (arith, common_steps)))
+
 module _ (setup : SetupValue) (release : ReleaseValue) (line : List ℕ) (p q : ℕ) where
   -- the line's answer may have this text, at no more than its price
   abbrev pub Answers : List ℕ → Type 0

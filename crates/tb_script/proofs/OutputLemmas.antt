@@ -46,14 +46,18 @@ price_of-one r = omega arith
 
 -- every line may find no memory, or has no reply, so it has some
 reply_to_any : (what : Asks) (setup : SetupValue) (release : ReleaseValue) (state : StateValue) (line : List ℕ) → (reply : ReplyValue) × (next : StateValue) × IsReplyTo what setup release state line reply next
-reply_to_any asks.Nothing setup release state line = (free_reply [], state, refl, refl)
-reply_to_any asks.Table setup release state line = (free_reply memory_line, state, inr (refl, inr refl), refl)
-reply_to_any asks.Edit setup release state line = (free_reply memory_line, state, refl, refl, inr (refl, inr (inr refl)))
-reply_to_any asks.Publish setup release state line = (free_reply memory_line, state, refl, inr (inr (refl, refl)))
+reply_to_any asks.Nothing setup release state line = (free_reply [], state, (refl, refl))
+reply_to_any asks.Table setup release state line = (free_reply memory_line, state, (inr (refl, inr refl), refl))
+reply_to_any asks.Edit setup release state line = (free_reply memory_line, state, (refl, refl, inr (refl, inr (inr refl))))
+reply_to_any asks.Publish setup release state line = (free_reply memory_line, state, (refl, inr (inr (refl, refl))))
 
 -- a line by its parts
-pub same_line : (one : ScriptLine) (lane line : List ℕ) → lane ≡ one.lane → line ≡ one.line → record { phase = one.phase; lane = lane; line = line } ≡ one
+same_line : (one : ScriptLine) (lane line : List ℕ) → lane ≡ one.lane → line ≡ one.line → record { phase = one.phase; lane = lane; line = line } ≡ one
 same_line one lane line same also = rw (same, also) refl
+
+pub step_of : (setup : SetupValue) (old new : State) (one : ScriptLine) (lane line text : List ℕ) (q r : ℕ) → lane ≡ one.lane → line ≡ one.line
+    → ((phase : ℕ) → ReplyLeads setup old (record { phase = phase; lane = lane; line = line }) text q r new) → ReplyLeads setup old one text q r new
+step_of setup old new one lane line text q r same also h = subst (λ (x : ScriptLine). ReplyLeads setup old x text q r new) (same_line one lane line same also) (h one.phase)
 
 module _ (setup : SetupValue) (base : ReleaseValue) where
   some_replies : (lines : List ScriptLine) (state : StateValue) → (rs : List ReplyValue) × (last : StateValue) × Lead (IsReply setup base) state lines rs last
@@ -61,7 +65,7 @@ module _ (setup : SetupValue) (base : ReleaseValue) where
   some_replies (one ∷ lines) state =
       let (reply, next, h) = reply_to_any (asks_of one) setup (release_after base state.chain) state one.line in
       let (rs, last, others) = some_replies lines next in
-      (reply ∷ rs, last, next, h, others)
+      (reply ∷ rs, last, (next, h, others))
 
   -- so far, and one more line
   one-more-line : (lines : List ScriptLine) (i : ℕ) (one : ScriptLine) (rs : List ReplyValue) (reply : ReplyValue) (value next : StateValue) → i < length lines → get_or lines i one ≡ one → Lead (IsReply setup base) start (take i lines) rs value

@@ -1,12 +1,14 @@
 -- What `publish` leads to.
-use Rattle.std.proofs.Common.{◌≡◌, ◌∙◌, refl, ap, sym, subst, ℕ, ◌+◌, List, [], ◌∷◌, ◌++◌, Some, inl, inr}
+use Rattle.std.proofs.Common.{◌≡◌, ◌∙◌, refl, ap, sym, subst, ℕ, ◌+◌, List, [], ◌∷◌, ◌++◌, Option, Some, inl, inr}
 use Rattle.std.proofs.lemmas.List.Sums.{fold-append}
 use Rattle.tb_release.specs.declared.edits.Edit.{Edit}
 use Rattle.tb_release.specs.declared.fault.EditFaultKind.{EditFaultKind}
 use Rattle.tb_release.specs.Batches.{BatchValue, CanFollow, batch_refusal}
 use Rattle.tb_release.specs.Chains.{after_batch, release_after}
 use Rattle.tb_release.specs.FaultNames.{fault_name}
-use Rattle.tb_release.specs.Results.{IsNext}
+use Rattle.tb_release.specs.Results.{IsNext, IsWhy}
+use Rattle.tb_release.specs.declared.fault.EditFault.{EditFault}
+use Rattle.tb_release.specs.declared.fault.EditFault.TheVariants as fault
 use Rattle.tb_script.specs.Replies.{batch_of}
 use Rattle.tb_script.specs.ReplyLines.{memory_line, published_line, batch_refusal_line}
 use Rattle.tb_script.specs.States.{PublishLeads}
@@ -36,3 +38,7 @@ batch_refused old new kind edit why same none base value stands =
 -- there was no memory
 pub not_published : (state : State) → PublishLeads state memory_line state
 not_published state base value stands = (value, inr (inr (refl, refl)), stands)
+
+-- why the edits were refused
+pub why_of : (why : Option (EditFaultKind × ℕ)) (f : EditFault) (kind : EditFaultKind) (edit : ℕ) → IsWhy why f → f ≡ fault.Refused kind edit → why ≡ Some (kind, edit)
+why_of why f kind edit h is = subst (λ (x : EditFault). IsWhy why x) is h

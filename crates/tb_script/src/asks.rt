@@ -1,6 +1,6 @@
 // What a lane's line asks for.
 
-ghost use Rattle.std.specs.Prelude.{◌≡◌};
+ghost use Rattle.std.specs.Prelude.{◌≡◌, ℕ};
 ghost use Rattle.tb_revise.specs.Words.{words_of};
 ghost use Rattle.tb_script.specs.Asks as asks;
 

@@ -33,7 +33,7 @@ pub(crate) enum Reply {
 }
 
 // Writes a line of some text and a number.
-fn write_number<O: Sink>(out: &mut O, before: &[u8], number: u32) -> Wrote
+fn write_number<O: Sink>(out: &mut O, before: &'static [u8], number: u32) -> Wrote
     ensures count { O.faults out.old ≤ O.faults out.new }
     ensures failed { result ≡ wrote.Failed → HasRisen (O.faults out.old) (O.faults out.new) }
     ensures all { result ≡ wrote.All → Took (O.taken out.old) (O.taken out.new)
@@ -47,7 +47,7 @@ fn write_number<O: Sink>(out: &mut O, before: &[u8], number: u32) -> Wrote
 }
 
 // Writes a line of some text, and the number and the word of a fault.
-fn write_fault<O: Sink>(out: &mut O, before: &[u8], fault: &FaultName) -> Wrote
+fn write_fault<O: Sink>(out: &mut O, before: &'static [u8], fault: &FaultName) -> Wrote
     ensures count { O.faults out.old ≤ O.faults out.new }
     ensures failed { result ≡ wrote.Failed → HasRisen (O.faults out.old) (O.faults out.new) }
     ensures all { result ≡ wrote.All → Took (O.taken out.old) (O.taken out.new)

@@ -55,9 +55,9 @@ static QUERIES: [Query; 11] = [
         b"release 0\nAREA,SEX,count\nE1,1,1\nE1,2,0\nE2,1,0\nE2,2,2\n.\n",
     ),
     (
-        "every_lane_is_an_analyst",
-        b"custodian publish\na publish\nb table SEX\ncustodian table SEX where SEX in (2)\n",
-        b"refused 2 Syntax 1\nrefused 2 Syntax 1\nrelease 0\nSEX,count\n1,1\n2,2\n.\n\
+        "every_lane_asks_queries",
+        b"a publish\nb table SEX\ncustodian table SEX where SEX in (2)\n",
+        b"refused 2 Syntax 1\nrelease 0\nSEX,count\n1,1\n2,2\n.\n\
         release 0\nSEX,count\n1,0\n2,2\n.\n",
     ),
     (
