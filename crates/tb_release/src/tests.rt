@@ -24,7 +24,7 @@ static FOUR: [Row; 4] = [
     (104, 7, [1, 1, 1]),
 ];
 
-fn four() -> &'static [Row] {
+pub fn four() -> &'static [Row] {
     &FOUR
 }
 
