@@ -2,8 +2,10 @@
 
 use super::edited::{next_of, shape};
 use super::{four, people_of};
-use crate::{Edit, EditFault, EditFaultKind, Edits, MOST_CHANGES, MOST_EDITS, MOST_RELEASES};
-use crate::{Pushed, Release, Sets};
+use crate::{
+    Edit, EditFault, EditFaultKind, Edits, MOST_CHANGES, MOST_EDITS, MOST_RELEASES, Pushed,
+    Release, Sets,
+};
 use std::alloc::Global;
 use std::collections::BTreeMap;
 use std::test::Fail;
@@ -67,9 +69,15 @@ fn most_edits_are_held(rt: HostRuntime) -> Result<(), Fail> {
 fn most_releases(rt: HostRuntime) -> Result<(), Fail> {
     let last = MOST_RELEASES;
     assert_eq!(rt; refusal(rt.alloc(), last - 1, 0, 1)?, None);
-    assert_eq!(rt; refusal(rt.alloc(), last, 0, 1)?, Some(EditFaultKind::TooMany));
+    assert_eq!(rt;
+        refusal(rt.alloc(), last, 0, 1)?,
+        Some(EditFaultKind::TooMany)
+    );
     // Where there is no edit, that is told first.
-    assert_eq!(rt; refusal(rt.alloc(), last, 0, 0)?, Some(EditFaultKind::Nothing));
+    assert_eq!(rt;
+        refusal(rt.alloc(), last, 0, 0)?,
+        Some(EditFaultKind::Nothing)
+    );
     Ok(())
 }
 
@@ -77,7 +85,10 @@ fn most_releases(rt: HostRuntime) -> Result<(), Fail> {
 fn most_changes(rt: HostRuntime) -> Result<(), Fail> {
     let before = MOST_CHANGES - 2;
     assert_eq!(rt; refusal(rt.alloc(), 5, before, 2)?, None);
-    assert_eq!(rt; refusal(rt.alloc(), 5, before, 3)?, Some(EditFaultKind::TooMany));
+    assert_eq!(rt;
+        refusal(rt.alloc(), 5, before, 3)?,
+        Some(EditFaultKind::TooMany)
+    );
     Ok(())
 }
 
@@ -127,10 +138,11 @@ fn ends_at_most_persons(alloc: Global) -> Result<bool, EditFault> {
     let refused = match one_more(alloc, &shape, 0) {
         Ok(_) => false,
         Err(fault) => {
-            fault == EditFault::Refused {
-                kind: EditFaultKind::TooMany,
-                edit: 1,
-            }
+            fault
+                == EditFault::Refused {
+                    kind: EditFaultKind::TooMany,
+                    edit: 1,
+                }
         }
     };
     let made = one_more(alloc, &shape, 2)?;
