@@ -1,5 +1,3 @@
-use Rattle.std.proofs.Common.{sym, ap, ◌∙◌, ◌++◌, ◌∷◌, []}
-use Rattle.tb_release.specs.Drafts.{closed_up}
 use Rattle.tb_release.proofs.Slots.{closed_up-push, closed_up-push_none}
 use Rattle.tb_release.proofs.parts.records_of.Goals as goal
 
