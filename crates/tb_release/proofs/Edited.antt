@@ -1,6 +1,6 @@
 -- One edit.
-use Rattle.std.proofs.Common.{◌≡◌, ℕ, ◌+◌, ◌<◌, ◌≤◌, Bool, true, false, not, leb, List, [], ◌∷◌, ◌++◌, map, length, refl, sym, ap, ◌∙◌, arith, length-append}
-use Rattle.std.specs.Prelude.{Option, Some, None, filter, if◌then◌else◌}
+use Rattle.std.proofs.Common.{◌≡◌, ℕ, ◌+◌, ◌≤◌, Bool, true, false, not, leb, List, [], ◌∷◌, ◌++◌, map, length, refl, sym, ap, ◌∙◌, arith, length-append}
+use Rattle.std.specs.Prelude.{Some, None, filter, if◌then◌else◌}
 use Rattle.std.specs.FinMap as finmap
 use Rattle.std.proofs.lemmas.Bool.{leb-false, lt-leb, eq-eqb}
 use Rattle.std.proofs.lemmas.List.{length-map}
@@ -16,7 +16,7 @@ use Rattle.tb_release.specs.declared.edits.Edit.TheVariants.{Add, Drop, Amend}
 use Rattle.tb_release.specs.declared.fault.EditFaultKind.TheVariants as kind
 use Rattle.tb_release.specs.Releases.{KeyBook, IsSound, HasKeyOf}
 use Rattle.tb_release.specs.Edits.{edited, amended, is_of, record_of}
-use Rattle.tb_release.specs.Possible.{IsPossible, CanAdd, refusal, has_other_key}
+use Rattle.tb_release.specs.Possible.{IsPossible, refusal, has_other_key}
 use Rattle.tb_release.specs.Batches.{change_of}
 use Rattle.tb_release.specs.Chains.{changed}
 use Rattle.tb_release.proofs.Persons.{stands, found, none_found, dropped, replaced, record_of-here, record_of-gone, distinct-filter, distinct-map}

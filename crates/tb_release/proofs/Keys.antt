@@ -9,7 +9,6 @@ use Rattle.std.specs.FinMap.{get-from_entries, same_map, nat_cmp-IsAntisymmetric
 use Rattle.std.specs.FinMap.{find as find_entry}
 use Rattle.std.specs.Ordering.{nat_cmp, is_eq}
 use Rattle.std.specs.Cmp.{nat_cmp_total}
-use Rattle.std.proofs.lemmas.Bool.{eq-eqb, ne_eqb}
 use Rattle.std.proofs.lemmas.Bool.Decides.{eqb_tells}
 use Rattle.std.proofs.lemmas.List.Folds.{find-append}
 use Rattle.tb_base.specs.declared.records.Record.{Record}

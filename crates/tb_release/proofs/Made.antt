@@ -1,7 +1,7 @@
 -- A draft before and after an edit.
-use Rattle.std.proofs.Common.{◌≡◌, ℕ, ◌+◌, ◌-◌, ◌<◌, ◌≤◌, Bool, true, false, cond, not, eqb, List, [], ◌∷◌, ◌++◌, map, length, get_or, set, refl, sym, ap, ◌∙◌, subst, arith, length-append}
+use Rattle.std.proofs.Common.{◌≡◌, ℕ, ◌+◌, ◌-◌, ◌<◌, ◌≤◌, true, false, cond, not, eqb, List, [], ◌∷◌, ◌++◌, map, length, get_or, set, refl, sym, ap, ◌∙◌, subst, arith, length-append}
 use Rattle.std.specs.Prelude.{Option, Some, None, filter, is_some, if◌then◌else◌, slice_index_or, slice_set, nat_eq}
-use Rattle.std.specs.Option.{option_map, ForSome}
+use Rattle.std.specs.Option.{option_map}
 use Rattle.std.specs.HashMap as hash
 use Rattle.std.specs.BTreeMap as tree
 use Rattle.std.specs.FinMap as finmap
@@ -19,11 +19,11 @@ use Rattle.tb_release.specs.declared.fault.EditFaultKind.TheVariants as kind
 use Rattle.tb_release.specs.Releases.{KeyBook, IsSound}
 use Rattle.tb_release.specs.Edits.{edited, amended, is_of, record_of}
 use Rattle.tb_release.specs.Possible.{IsPossible, CanAdd, refusal, has_other_key}
-use Rattle.tb_release.specs.Drafts.{IsDraft, IsMade, IsNamed, HaveVariables, release_of, closed_up, place_of}
+use Rattle.tb_release.specs.Drafts.{IsDraft, IsMade, release_of, closed_up, place_of}
 use Rattle.tb_release.proofs.Edited.{change_of-add, change_of-drop, change_of-amend, sound_after}
 use Rattle.tb_release.proofs.Keys.{book_of, other_key-left, book-added, book-dropped, book-amended}
 use Rattle.tb_release.proofs.Places.{placed-updated, named-updated}
-use Rattle.tb_release.proofs.Slots.{SlotAt, slot_at, set_slot, get_slot, slot_within, slot_stands, stands_found, has_place, somewhere, nobody_nowhere, closed_up-append, closed_up-emptied, closed_up-amended, length-emptied, place_of-push, place_of-emptied, place_of-replaced, flip}
+use Rattle.tb_release.proofs.Slots.{slot_at, get_slot, slot_stands, stands_found, has_place, nobody_nowhere, closed_up-append, closed_up-emptied, closed_up-amended, length-emptied, place_of-push, place_of-emptied, place_of-replaced}
 
 -- ---- refusals
 pub person_there : (draft : Draft) (person key : ℕ) → is_some (place_of draft.slots.items person) ≡ true → Some kind.PersonThere ≡ refusal (release_of draft) (Add person key [])

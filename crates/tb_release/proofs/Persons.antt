@@ -1,6 +1,6 @@
 -- A person's record among records of distinct persons.
-use Rattle.std.proofs.Common.{◌≡◌, ℕ, Bool, true, false, cond, not, eqb, List, [], ◌∷◌, ◌++◌, map, refl, sym, ap, inl, inr}
-use Rattle.std.specs.Prelude.{Option, Some, None, filter, if◌then◌else◌, ◌||◌}
+use Rattle.std.proofs.Common.{◌≡◌, ℕ, Bool, true, false, cond, not, eqb, List, [], ◌∷◌, ◌++◌, map, refl, ap, inl, inr}
+use Rattle.std.specs.Prelude.{Some, None, filter, if◌then◌else◌, ◌||◌}
 use Rattle.std.proofs.lemmas.Bool.Decides.{eqb_tells}
 use Rattle.std.proofs.lemmas.Bool.{eq-eqb}
 use Rattle.std.proofs.lemmas.List.{map-append}

@@ -1,6 +1,6 @@
 -- Persons who are looked up in a map of places.
 use Rattle.std.proofs.Common.{◌≡◌, ℕ, ◌+◌, ◌<◌, ◌≤◌, Bool, true, false, cond, eqb, List, [], ◌∷◌, ◌++◌, map, length, take, drop, get_or, refl, sym, ap, ◌∙◌, subst, inl, inr, arith, length-take-le}
-use Rattle.std.specs.Prelude.{Option, Some, None, nat_eq, is_some, All}
+use Rattle.std.specs.Prelude.{Option, Some, None, nat_eq, is_some}
 use Rattle.std.specs.HashMap as hash
 use Rattle.std.specs.HashMap.{HashMap}
 use Rattle.std.proofs.lemmas.Bool.Decides.{eqb_tells}

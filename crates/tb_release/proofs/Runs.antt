@@ -17,12 +17,12 @@ use Rattle.tb_release.specs.declared.fault.EditFaultKind.{EditFaultKind}
 use Rattle.tb_release.specs.declared.limits.TheConstants.{MOST_EDITS, MOST_RELEASES, MOST_CHANGES}
 use Rattle.tb_release.specs.Releases.{IsSound, release_view}
 use Rattle.tb_release.specs.Edits.{edited, edited_all, record_of}
-use Rattle.tb_release.specs.Possible.{IsPossible, refusal, first_refusal}
-use Rattle.tb_release.specs.Batches.{BatchValue, CanFollow, Follows, person_of, change_of, changes_of, next_release, batch_refusal}
+use Rattle.tb_release.specs.Possible.{refusal, first_refusal}
+use Rattle.tb_release.specs.Batches.{BatchValue, Follows, person_of, change_of, changes_of, batch_refusal}
 use Rattle.tb_release.specs.Chains.{after_batch}
 use Rattle.tb_release.specs.Laws.{EditFits}
 use Rattle.tb_release.specs.Results.{IsNext, ChangeFits}
-use Rattle.tb_release.specs.Drafts.{AreMade, AreNamed, ArePlaced, CanSet, HaveVariables, IsDraft, IsDraftOf, closed_up, release_of}
+use Rattle.tb_release.specs.Drafts.{AreMade, AreNamed, ArePlaced, CanSet, HaveVariables, IsDraftOf, closed_up, release_of}
 use Rattle.tb_release.proofs.Chained.{can_follow, batches_lead_on, length-changes_of}
 use Rattle.tb_release.proofs.Fitting.{fit_after, stay_fitting}
 use Rattle.tb_release.proofs.Places.{closed_up-full}

@@ -1,13 +1,11 @@
 -- Worked batches over the small setup's records.
 use Rattle.std.proofs.Common.{◌≡◌, ℕ, List, [], ◌∷◌, refl}
-use Rattle.std.specs.Prelude.{Some, None, map}
+use Rattle.std.specs.Prelude.{Some, None}
 use Rattle.std.specs.FinMap.{get-insert, get-from_entries}
 use Rattle.std.specs.Cmp.{nat_cmp_total}
-use Rattle.tb_base.specs.declared.records.Record.{Record}
 use Rattle.tb_model.specs.Setups.{SetupValue}
-use Rattle.tb_model.specs.Releases.{ReleaseValue, first_release}
+use Rattle.tb_model.specs.Releases.{first_release}
 use Rattle.tb_model.proofs.SmallSetup.{records, person}
-use Rattle.tb_release.specs.declared.edits.Change.{Change}
 use Rattle.tb_release.specs.declared.edits.Edit.{Edit}
 use Rattle.tb_release.specs.declared.edits.Edit.TheVariants.{Add, Drop, Amend}
 use Rattle.tb_release.specs.declared.fault.EditFaultKind.TheVariants as kind

@@ -16,6 +16,7 @@ mod fault;
 mod following;
 pub mod laws;
 mod limits;
+mod parts;
 mod release;
 
 pub use batches::{Batch, Batches};

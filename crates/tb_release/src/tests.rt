@@ -24,7 +24,7 @@ static FOUR: [Row; 4] = [
     (104, 7, [1, 1, 1]),
 ];
 
-fn four() -> &'static [Row] {
+pub fn four() -> &'static [Row] {
     &FOUR
 }
 
@@ -84,8 +84,7 @@ pub fn release_of(alloc: Global) -> Result<Release, Memory> {
 // Whether a release's records are those of the rows.
 pub fn is_of_rows(release: &Release, rows: &[Row]) -> bool {
     let records = release.records();
-    records.len() == rows.len()
-        && records.iter().zip(rows).all(|(one, row)| is_row(one, *row))
+    records.len() == rows.len() && records.iter().zip(rows).all(|(one, row)| is_row(one, *row))
 }
 
 // The counter rises at each lending by how many records there are.

@@ -26,12 +26,17 @@ pub enum Want {
 type Case = (&'static [&'static [Ask]], Want);
 
 const MAN: [u16; 3] = [0, 2, 0];
+
 const WOMAN: [u16; 3] = [1, 0, 1];
 
 static CASES: [Case; 24] = [
     // A person comes, is amended and goes; and doesn't return with another key.
     (
-        &[&[Ask::Add(200, 9, MAN), Ask::Amend(200, &[(1, 0)]), Ask::Drop(200)]],
+        &[&[
+            Ask::Add(200, 9, MAN),
+            Ask::Amend(200, &[(1, 0)]),
+            Ask::Drop(200),
+        ]],
         Want::Rows(&[
             (101, 200, [0, 0, 0]),
             (102, 100, [0, 1, 0]),
@@ -41,7 +46,11 @@ static CASES: [Case; 24] = [
     ),
     (
         &[
-            &[Ask::Add(200, 9, MAN), Ask::Amend(200, &[(1, 0)]), Ask::Drop(200)],
+            &[
+                Ask::Add(200, 9, MAN),
+                Ask::Amend(200, &[(1, 0)]),
+                Ask::Drop(200),
+            ],
             &[Ask::Add(200, 10, MAN)],
         ],
         Want::Refused(EditFaultKind::KeyChanged, 1),
@@ -61,17 +70,28 @@ static CASES: [Case; 24] = [
         Want::Refused(EditFaultKind::KeyChanged, 1),
     ),
     (
-        &[&[Ask::Drop(101)], &[Ask::Add(101, 200, WOMAN)], &[Ask::Drop(101)], &[
-            Ask::Drop(102),
-            Ask::Add(101, 199, WOMAN),
-        ]],
+        &[
+            &[Ask::Drop(101)],
+            &[Ask::Add(101, 200, WOMAN)],
+            &[Ask::Drop(101)],
+            &[Ask::Drop(102), Ask::Add(101, 199, WOMAN)],
+        ],
         Want::Refused(EditFaultKind::KeyChanged, 2),
     ),
     // Each refusal alone.
     (&[&[]], Want::Refused(EditFaultKind::Nothing, 0)),
-    (&[&[Ask::Add(101, 200, MAN)]], Want::Refused(EditFaultKind::PersonThere, 1)),
-    (&[&[Ask::Drop(999)]], Want::Refused(EditFaultKind::NoSuchPerson, 1)),
-    (&[&[Ask::Amend(999, &[(0, 0)])]], Want::Refused(EditFaultKind::NoSuchPerson, 1)),
+    (
+        &[&[Ask::Add(101, 200, MAN)]],
+        Want::Refused(EditFaultKind::PersonThere, 1),
+    ),
+    (
+        &[&[Ask::Drop(999)]],
+        Want::Refused(EditFaultKind::NoSuchPerson, 1),
+    ),
+    (
+        &[&[Ask::Amend(999, &[(0, 0)])]],
+        Want::Refused(EditFaultKind::NoSuchPerson, 1),
+    ),
     (
         &[&[Ask::Drop(101), Ask::Drop(102), Ask::Drop(999)]],
         Want::Refused(EditFaultKind::NoSuchPerson, 3),
@@ -95,23 +115,43 @@ static CASES: [Case; 24] = [
     ),
     // One person in one batch: add and drop, add and amend, drop and amend, in each order.
     (
-        &[&[Ask::Add(200, 9, MAN), Ask::Drop(200), Ask::Amend(200, &[(1, 0)])]],
+        &[&[
+            Ask::Add(200, 9, MAN),
+            Ask::Drop(200),
+            Ask::Amend(200, &[(1, 0)]),
+        ]],
         Want::Refused(EditFaultKind::NoSuchPerson, 3),
     ),
     (
-        &[&[Ask::Amend(200, &[(1, 0)]), Ask::Add(200, 9, MAN), Ask::Drop(200)]],
+        &[&[
+            Ask::Amend(200, &[(1, 0)]),
+            Ask::Add(200, 9, MAN),
+            Ask::Drop(200),
+        ]],
         Want::Refused(EditFaultKind::NoSuchPerson, 1),
     ),
     (
-        &[&[Ask::Amend(102, &[(0, 1)]), Ask::Add(102, 100, MAN), Ask::Drop(102)]],
+        &[&[
+            Ask::Amend(102, &[(0, 1)]),
+            Ask::Add(102, 100, MAN),
+            Ask::Drop(102),
+        ]],
         Want::Refused(EditFaultKind::PersonThere, 2),
     ),
     (
-        &[&[Ask::Drop(102), Ask::Amend(102, &[(0, 1)]), Ask::Add(102, 100, MAN)]],
+        &[&[
+            Ask::Drop(102),
+            Ask::Amend(102, &[(0, 1)]),
+            Ask::Add(102, 100, MAN),
+        ]],
         Want::Refused(EditFaultKind::NoSuchPerson, 2),
     ),
     (
-        &[&[Ask::Drop(102), Ask::Add(102, 100, WOMAN), Ask::Amend(102, &[(1, 2), (2, 0)])]],
+        &[&[
+            Ask::Drop(102),
+            Ask::Add(102, 100, WOMAN),
+            Ask::Amend(102, &[(1, 2), (2, 0)]),
+        ]],
         Want::Rows(&[
             (101, 200, [0, 0, 0]),
             (103, 20, [0, 2, 1]),
@@ -120,7 +160,11 @@ static CASES: [Case; 24] = [
         ]),
     ),
     (
-        &[&[Ask::Amend(102, &[(0, 1)]), Ask::Drop(102), Ask::Add(102, 100, MAN)]],
+        &[&[
+            Ask::Amend(102, &[(0, 1)]),
+            Ask::Drop(102),
+            Ask::Add(102, 100, MAN),
+        ]],
         Want::Rows(&[
             (101, 200, [0, 0, 0]),
             (103, 20, [0, 2, 1]),
@@ -149,13 +193,28 @@ static CASES: [Case; 24] = [
     ),
     // All go, and others come in the order of the edits.
     (
-        &[&[Ask::Drop(104), Ask::Drop(102), Ask::Drop(101), Ask::Drop(103)]],
+        &[&[
+            Ask::Drop(104),
+            Ask::Drop(102),
+            Ask::Drop(101),
+            Ask::Drop(103),
+        ]],
         Want::Rows(&[]),
     ),
     (
         &[
-            &[Ask::Drop(104), Ask::Drop(102), Ask::Drop(101), Ask::Drop(103)],
-            &[Ask::Add(7, 1, MAN), Ask::Add(5, 2, WOMAN), Ask::Add(6, 3, MAN), Ask::Drop(5)],
+            &[
+                Ask::Drop(104),
+                Ask::Drop(102),
+                Ask::Drop(101),
+                Ask::Drop(103),
+            ],
+            &[
+                Ask::Add(7, 1, MAN),
+                Ask::Add(5, 2, WOMAN),
+                Ask::Add(6, 3, MAN),
+                Ask::Drop(5),
+            ],
         ],
         Want::Rows(&[(7, 1, MAN), (6, 3, MAN)]),
     ),
@@ -242,10 +301,11 @@ fn is_right(alloc: Global, case: &Case) -> bool {
         Err(fault) => match want {
             Want::Rows(_) => false,
             Want::Refused(kind, edit) => {
-                fault == EditFault::Refused {
-                    kind: *kind,
-                    edit: *edit,
-                }
+                fault
+                    == EditFault::Refused {
+                        kind: *kind,
+                        edit: *edit,
+                    }
             }
         },
     }
@@ -267,7 +327,11 @@ fn kept(alloc: Global) -> Result<(usize, usize), EditFault> {
     let (_, batch) = made(alloc, &shape(alloc)?, &release_of(alloc)?, &edits)?;
     let mut batches = Batches::new(alloc);
     batches.push(Arc::new(alloc, batch)?)?;
-    let changes = if batches.len() == 1 { batches.at(0).len() } else { 0 };
+    let changes = if batches.len() == 1 {
+        batches.at(0).len()
+    } else {
+        0
+    };
     Ok((batches.len(), changes))
 }
 

@@ -1,19 +1,18 @@
 // Whether records and edits fit a shape, which `next` asks of them.
 
 ghost use Rattle.std.specs.Prelude.{◌≡◌, ◌<◌, All, ℕ, true};
-ghost use Rattle.std.specs.List.{AllByRecursion};
 ghost use Rattle.std.specs.Prelude.{length, slice_index};
 ghost use Rattle.tb_base.specs.Records.{AllFit, Fits};
 ghost use Rattle.tb_release.specs.Laws.{EditFits};
+ghost use Rattle.tb_release.specs.declared.edits.Edit.TheVariants as edits;
 
 use crate::{Edit, Edits, Release, Sets};
 use tb_base::{Codes, Record, Shape};
 
 // Whether there is one category of each variable, and each is in range.
-fn codes_fit(shape: &Shape, codes: &Codes) -> bool
-    ensures long { result ≡ true → length codes.now ≡ length shape.now }
-    ensures below { result ≡ true → (v : ℕ) → v < length shape.now
-        → slice_index codes.now v < slice_index shape.now v }
+fn codes_fit(shape: &Shape, key: u8, codes: &Codes) -> bool
+    ensures { result ≡ true → (person : ℕ)
+        → Fits shape.now (record { person = person; key = key; codes = codes.now }) }
 {
     if codes.len() != shape.len() {
         return false;
@@ -29,7 +28,7 @@ fn codes_fit(shape: &Shape, codes: &Codes) -> bool
 fn record_fits(shape: &Shape, one: &Record) -> bool
     ensures { result ≡ true → Fits shape.now one.now }
 {
-    codes_fit(shape, &one.codes)
+    codes_fit(shape, one.key, &one.codes)
 }
 
 pub fn all_fit(shape: &Shape, release: &Release) -> bool
@@ -45,8 +44,7 @@ pub fn all_fit(shape: &Shape, release: &Release) -> bool
 }
 
 fn sets_fit(shape: &Shape, sets: &Sets) -> bool
-    ensures { result ≡ true → All
-        (λ s. (s.0 < length shape.now) × (s.1 < slice_index shape.now s.0)) sets.now }
+    ensures { result ≡ true → EditFits shape.now (edits.Amend 0 sets.now) }
 {
     for i in 0..sets.len() {
         let (variable, category) = sets.at(i);
@@ -61,7 +59,7 @@ fn edit_fits(shape: &Shape, edit: &Edit) -> bool
     ensures { result ≡ true → EditFits shape.now edit.now }
 {
     match edit {
-        Edit::Add { codes, .. } => codes_fit(shape, codes),
+        Edit::Add { key, codes, .. } => codes_fit(shape, *key, codes),
         Edit::Drop { .. } => true,
         Edit::Amend { sets, .. } => sets_fit(shape, sets),
     }

@@ -1,10 +1,13 @@
 // As much as there may be, and one more.
 
 use super::edited::{next_of, shape};
-use super::release_of;
-use crate::{Edit, EditFault, EditFaultKind, Edits, MOST_CHANGES, MOST_EDITS, MOST_RELEASES};
-use crate::{Pushed, Release, Sets};
+use super::{four, people_of};
+use crate::{
+    Edit, EditFault, EditFaultKind, Edits, MOST_CHANGES, MOST_EDITS, MOST_RELEASES, Pushed,
+    Release, Sets,
+};
 use std::alloc::Global;
+use std::collections::BTreeMap;
 use std::test::Fail;
 use tb_base::{Codes, MOST_PERSONS, Memory, People, Record, Shape};
 
@@ -20,28 +23,29 @@ fn amends(alloc: Global, count: usize) -> Result<Edits, Memory> {
     Ok(edits)
 }
 
-// The release after so many batches of so many amends each.
-fn after(alloc: Global, shape: &Shape, batches: u32, count: usize) -> Result<Release, EditFault> {
-    let edits = amends(alloc, count)?;
-    let mut release = release_of(alloc)?;
-    for _ in 0..batches {
-        release = next_of(alloc, shape, &release, &edits)?;
+// A release of the small microdata with this number and so many changes.
+fn release_at(alloc: Global, number: u32, changes: u32) -> Result<Release, Memory> {
+    let people = people_of(alloc, four())?;
+    if people.len() > MOST_PERSONS {
+        return Err(Memory);
     }
-    Ok(release)
+    let records = people.into_list();
+    Ok(Release::of(records, BTreeMap::new(alloc), number, changes))
 }
 
-// Whether so many edits are refused so.
-fn is_refused(
+// Why so many edits of such a release are refused, if they are.
+fn refusal(
     alloc: Global,
-    shape: &Shape,
-    release: &Release,
+    number: u32,
+    changes: u32,
     count: usize,
-    kind: EditFaultKind,
-) -> Result<bool, EditFault> {
+) -> Result<Option<EditFaultKind>, Memory> {
+    let release = release_at(alloc, number, changes)?;
     let edits = amends(alloc, count)?;
-    match next_of(alloc, shape, release, &edits) {
-        Ok(_) => Ok(false),
-        Err(fault) => Ok(fault == EditFault::Refused { kind, edit: 0 }),
+    match next_of(alloc, &shape(alloc)?, &release, &edits) {
+        Ok(_) => Ok(None),
+        Err(EditFault::Refused { kind, edit: 0 }) => Ok(Some(kind)),
+        Err(_) => Err(Memory),
     }
 }
 
@@ -61,32 +65,30 @@ fn most_edits_are_held(rt: HostRuntime) -> Result<(), Fail> {
     Ok(())
 }
 
-// Whether the last release that may be made is the last, and `Nothing` is still told first.
-fn ends_at_most_releases(alloc: Global) -> Result<bool, EditFault> {
-    let shape = shape(alloc)?;
-    let last = after(alloc, &shape, MOST_RELEASES, 1)?;
-    Ok(last.number() == MOST_RELEASES
-        && is_refused(alloc, &shape, &last, 1, EditFaultKind::TooMany)?
-        && is_refused(alloc, &shape, &last, 0, EditFaultKind::Nothing)?)
-}
-
 #[test]
 fn most_releases(rt: HostRuntime) -> Result<(), Fail> {
-    assert!(rt; ends_at_most_releases(rt.alloc())?);
+    let last = MOST_RELEASES;
+    assert_eq!(rt; refusal(rt.alloc(), last - 1, 0, 1)?, None);
+    assert_eq!(rt;
+        refusal(rt.alloc(), last, 0, 1)?,
+        Some(EditFaultKind::TooMany)
+    );
+    // Where there is no edit, that is told first.
+    assert_eq!(rt;
+        refusal(rt.alloc(), last, 0, 0)?,
+        Some(EditFaultKind::Nothing)
+    );
     Ok(())
-}
-
-// Whether there may be as many changes as there are, and not one more.
-fn ends_at_most_changes(alloc: Global) -> Result<bool, EditFault> {
-    let shape = shape(alloc)?;
-    let last = after(alloc, &shape, 100, MOST_EDITS)?;
-    Ok(last.changes() == MOST_CHANGES
-        && is_refused(alloc, &shape, &last, 1, EditFaultKind::TooMany)?)
 }
 
 #[test]
 fn most_changes(rt: HostRuntime) -> Result<(), Fail> {
-    assert!(rt; ends_at_most_changes(rt.alloc())?);
+    let before = MOST_CHANGES - 2;
+    assert_eq!(rt; refusal(rt.alloc(), 5, before, 2)?, None);
+    assert_eq!(rt;
+        refusal(rt.alloc(), 5, before, 3)?,
+        Some(EditFaultKind::TooMany)
+    );
     Ok(())
 }
 
@@ -136,10 +138,11 @@ fn ends_at_most_persons(alloc: Global) -> Result<bool, EditFault> {
     let refused = match one_more(alloc, &shape, 0) {
         Ok(_) => false,
         Err(fault) => {
-            fault == EditFault::Refused {
-                kind: EditFaultKind::TooMany,
-                edit: 1,
-            }
+            fault
+                == EditFault::Refused {
+                    kind: EditFaultKind::TooMany,
+                    edit: 1,
+                }
         }
     };
     let made = one_more(alloc, &shape, 2)?;

@@ -1,4 +1,4 @@
-use Rattle.std.proofs.Common.{◌∙◌, sym, subst, arith, ◌≡◌, ◌<◌, ◌≤◌, ◌+◌, length}
+use Rattle.std.proofs.Common.{◌∙◌, sym, subst, arith, ◌<◌, ◌≤◌, ◌+◌, length}
 use Rattle.tb_release.specs.declared.limits.TheConstants.{MOST_EDITS, MOST_RELEASES, MOST_CHANGES}
 use Rattle.tb_release.specs.Releases.{IsSound}
 use Rattle.tb_release.specs.Results.{IsNext}

@@ -1,5 +1,4 @@
-use Rattle.std.proofs.Common.{◌≡◌, ◌+◌, refl, ap, arith}
-use Rattle.tb_base.specs.declared.records.Record.{Record}
+use Rattle.std.proofs.Common.{◌+◌, refl, arith}
 use Rattle.tb_release.specs.declared.draft.Draft.{Draft}
 use Rattle.tb_release.proofs.Made.{add_made, same_codes}
 use Rattle.tb_release.proofs.draft.Draft.add.Goals as goal

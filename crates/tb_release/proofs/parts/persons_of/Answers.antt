@@ -2,7 +2,7 @@ use Rattle.std.proofs.Common.{subst}
 use Rattle.std.proofs.lemmas.List.{take_all}
 use Rattle.tb_release.specs.Drafts.{AreNamed}
 use Rattle.tb_release.proofs.Places.{named-more, nowhere-more}
-use Rattle.tb_release.proofs.draft.persons_of.Goals as goal
+use Rattle.tb_release.proofs.parts.persons_of.Goals as goal
 
 pub loop-edit-preserved : goal.loop-edit-preserved
 loop-edit-preserved c =

@@ -1,6 +1,6 @@
 use Rattle.std.proofs.Common.{◌≡◌}
 use Rattle.tb_release.specs.Drafts.{closed_up}
-use Rattle.tb_release.proofs.draft.records_of.Given as goal
+use Rattle.tb_release.proofs.parts.records_of.Given as goal
 
 -- the records of the slots so far
 abbrev pub invariant-loop-slot : goal.invariant-loop-slot

@@ -1,5 +1,5 @@
 use Rattle.std.proofs.Common.{◌≡◌, take}
-use Rattle.tb_release.proofs.draft.list_of.Given as goal
+use Rattle.tb_release.proofs.parts.list_of.Given as goal
 
 -- the categories so far
 abbrev pub invariant-loop-i : goal.invariant-loop-i

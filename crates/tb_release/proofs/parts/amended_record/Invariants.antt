@@ -1,6 +1,6 @@
 use Rattle.std.proofs.Common.{◌≡◌, length, drop}
 use Rattle.tb_release.specs.Edits.{amended}
-use Rattle.tb_release.proofs.draft.amended_record.Given as goal
+use Rattle.tb_release.proofs.parts.amended_record.Given as goal
 
 -- the settings that are left lead to the same record as all do
 abbrev pub invariant-loop-i : goal.invariant-loop-i

@@ -2,8 +2,8 @@ use Rattle.std.proofs.Common.{sym, subst, ◌∙◌, ◌+◌, map, take, Some}
 use Rattle.std.proofs.lemmas.List.{take_all}
 use Rattle.tb_release.specs.Drafts.{ArePlaced, IsNamed}
 use Rattle.tb_release.proofs.Places.{placed-updated, placed-other, named-updated, place-more}
-use Rattle.tb_release.proofs.draft.places_of.Goals.{then-contains_key+in_ok-insert, else-contains_key}
-use Rattle.tb_release.proofs.draft.places_of.Goals as goal
+use Rattle.tb_release.proofs.parts.places_of.Goals.{then-contains_key+in_ok-insert, else-contains_key}
+use Rattle.tb_release.proofs.parts.places_of.Goals as goal
 
 pub loop-i-preserved : goal.loop-i-preserved
 loop-i-preserved c =

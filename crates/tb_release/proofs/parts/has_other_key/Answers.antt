@@ -1,6 +1,6 @@
 use Rattle.std.proofs.Common.{refl}
 use Rattle.tb_release.proofs.Keys.{get-entries_of}
-use Rattle.tb_release.proofs.draft.has_other_key.Goals as goal
+use Rattle.tb_release.proofs.parts.has_other_key.Goals as goal
 
 pub returns-in-Some : goal.returns-in-Some
 returns-in-Some c = rw (get-entries_of c.args.left.now.entries c.args.person, ← c.in-Some.ensures.value) refl

@@ -1,7 +1,5 @@
-use Rattle.std.proofs.Common.{sym, ap, ◌∙◌, ◌++◌, ◌∷◌, []}
-use Rattle.tb_release.specs.Drafts.{closed_up}
 use Rattle.tb_release.proofs.Slots.{closed_up-push, closed_up-push_none}
-use Rattle.tb_release.proofs.draft.records_of.Goals as goal
+use Rattle.tb_release.proofs.parts.records_of.Goals as goal
 
 pub loop-slot-preserved-in-Continue-branch-2 : goal.loop-slot-preserved-in-Continue-branch-2
 loop-slot-preserved-in-Continue-branch-2 c = closed_up-push c.loop-slot.yielded c.in-Some.slot c.in-Some-slot.record c.loop-slot.records.items c.push.new.self.items c.in-Some-slot.is c.loop-slot.invariant c.in_ok-push.ensures.items

@@ -1,6 +1,6 @@
 use Rattle.std.proofs.Common.{ℕ, map, take, Some}
 use Rattle.tb_release.specs.Drafts.{ArePlaced, IsNamed}
-use Rattle.tb_release.proofs.draft.places_of.Given as goal
+use Rattle.tb_release.proofs.parts.places_of.Given as goal
 
 -- whoever is there has the place among the records so far
 abbrev pub invariant-loop-i : goal.invariant-loop-i
