@@ -1,9 +1,7 @@
 -- An edit that was read fits the classification.
-use Rattle.std.proofs.Common.{◌≡◌, ◌∙◌, ap, sym, refl, subst, ℕ, zero, suc, ◌+◌, ◌==◌, ◌<◌, Bool, true, false, List, [], ◌∷◌, length, map, get_or, Option, Some, None, arith, inl, inr}
-use Rattle.std.specs.Prelude.{bytes_eq, find, if◌then◌else◌, is_none, nat_lt, option_and_then, slice_index, unwrap_or}
+use Rattle.std.proofs.Common.{◌≡◌, ◌∙◌, sym, refl, subst, ℕ, zero, suc, ◌+◌, ◌==◌, ◌<◌, Bool, true, false, List, [], ◌∷◌, length, map, get_or, Option, Some, None, arith}
+use Rattle.std.specs.Prelude.{bytes_eq, if◌then◌else◌, is_none, nat_lt, option_and_then, slice_index, unwrap_or}
 use Rattle.std.specs.List.{AllByRecursion, list_any, range_with_len}
-use Rattle.std.specs.Option.{option_map, option_or}
-use Rattle.std.proofs.lemmas.Bool.{cases_Bool}
 use Rattle.std.proofs.lemmas.Bool.Decides.{nat_tests}
 use Rattle.std.proofs.lemmas.List.{get_or-map, length-map}
 use Rattle.std.proofs.lemmas.List.FromFn.{length-range_with_len}
@@ -19,8 +17,8 @@ use Rattle.tb_schema.specs.Names.{place_in}
 use Rattle.tb_release.specs.Laws.{EditFits}
 use Rattle.tb_revise.specs.declared.fault.EditTextFault.{EditTextFault}
 use Rattle.tb_revise.specs.declared.fault.EditTextFault.TheVariants as faults
-use Rattle.tb_revise.specs.Faults.{fault_if, has_bad_number, has_unknown_name, has_unknown_code, misses_variable, sets_twice, settings_refusal, refusal}
-use Rattle.tb_revise.specs.Grammar.{NamedSetting, NamedEdit, NamedAdd, NamedDrop, NamedAmend, settings_of}
+use Rattle.tb_revise.specs.Faults.{has_bad_number, has_unknown_name, has_unknown_code, misses_variable, settings_refusal, refusal}
+use Rattle.tb_revise.specs.Grammar.{NamedSetting, NamedEdit, NamedAdd, NamedDrop, NamedAmend}
 use Rattle.tb_revise.specs.Laws.{ReadEditsFit}
 use Rattle.tb_revise.specs.Meanings.{categories_named, categories_set, category_named, category_set, edit_meant, key_meant, person_meant, set_meant, sets_meant, variable_meant, variable_named}
 

@@ -9,7 +9,7 @@ use Rattle.tb_release.specs.declared.edits.Edit.{Edit}
 use Rattle.tb_revise.specs.declared.fault.EditTextFault.{EditTextFault}
 use Rattle.tb_revise.specs.declared.fault.EditTextFault.TheVariants as faults
 use Rattle.tb_revise.specs.Faults.{fault_if, has_bad_number, has_unknown_name, has_unknown_code, misses_variable, sets_twice, settings_refusal, refusal, Reads, IsRefused}
-use Rattle.tb_revise.specs.Grammar.{NamedSetting, NamedEdit, IsEdit, Spells, settings_of}
+use Rattle.tb_revise.specs.Grammar.{NamedSetting, NamedEdit, Spells, settings_of}
 use Rattle.tb_revise.specs.Meanings.{edit_meant, sets_meant}
 use Rattle.tb_revise.specs.Reading.{read_words}
 use Rattle.tb_revise.specs.Words.{words_of}

@@ -1,11 +1,9 @@
 -- Words are no edit exactly where a rule of the syntax is broken.
-use Rattle.std.proofs.Common.{◌≡◌, ℕ, suc, ◌+◌, ◌==◌, ◌<◌, Bool, true, false, not, List, [], ◌∷◌, length, map, Option, Some, None, sym, refl, ◌∙◌, arith, inl, inr}
+use Rattle.std.proofs.Common.{◌≡◌, ℕ, suc, ◌==◌, Bool, true, false, not, List, [], ◌∷◌, length, Option, Some, None, sym, refl, ◌∙◌, arith}
 use Rattle.std.specs.Prelude.{bytes_eq, codes, is_none, nat_lt}
 use Rattle.std.specs.List.{list_any, position_or_len}
 use Rattle.std.specs.Option.{option_map}
-use Rattle.std.proofs.lemmas.Bool.{cases_Bool}
 use Rattle.std.proofs.lemmas.Bool.Decides.{nat_tests}
-use Rattle.tb_base.specs.Lists.{all_some}
 use Rattle.tb_revise.specs.Grammar.{NamedSetting, NamedEdit, NamedAdd, NamedAmend, IsEdit, is_equals}
 use Rattle.tb_revise.specs.Laws.{SyntaxByRules, has_syntax_fault, lacks_equals, lacks_words}
 use Rattle.tb_revise.specs.Reading.{read_setting, read_settings, read_add, read_drop, read_amend, read_words}

@@ -7,8 +7,8 @@ pub fn one_edit()
     ensures { OneEdit }
 {}
 
-/// Words are no edit exactly where the first isn't there or is no word of an edit, a word is missing
-/// or too many, or a setting has no `=`.
+/// Words are no edit exactly where the first isn't there or is no word of an edit, a word is
+/// missing or too many, or a setting has no `=`.
 pub fn syntax_by_rules()
     ensures { SyntaxByRules }
 {}
@@ -19,8 +19,8 @@ pub fn one_answer()
     ensures { OneAnswer }
 {}
 
-/// An edit that a line reads as sets variables of the schema to categories of theirs, and an add has
-/// one of each variable and a key in range.
+/// An edit that a line reads as sets variables of the schema to categories of theirs, and an add
+/// has one of each variable and a key in range.
 pub fn read_edits_fit()
     ensures { ReadEditsFit }
 {}

@@ -51,8 +51,8 @@ fn has_unknown_name(schema: &Schema, settings: &[Setting]) -> bool
     false
 }
 
-// The fault of settings of which the first has an unknown code and these are the others.
-fn unknown_before(schema: &Schema, others: &[Setting]) -> EditTextFault
+// The fault where a setting has an unknown code: an unknown name among those after it comes first.
+fn unknown_fault(schema: &Schema, others: &[Setting]) -> EditTextFault
     ensures { result ≡ (if has_unknown_name schema.now (setting_views others.now)
         then EditTextFault.UnknownName else EditTextFault.UnknownCode) }
 {
@@ -109,7 +109,7 @@ fn sets_meant(
             return Err(EditTextFault::UnknownName);
         };
         let Some(category) = category_named(schema, variable, s) else {
-            return Err(unknown_before(schema, others));
+            return Err(unknown_fault(schema, others));
         };
         sets.push((variable, category))?;
         left = others;

@@ -1,4 +1,4 @@
-use Rattle.std.proofs.Common.{◌≡◌, ◌∙◌, sym, refl, ap, None, Some, arith, rules}
+use Rattle.std.proofs.Common.{◌≡◌, ◌∙◌, sym, refl, None, Some, arith, rules}
 use Rattle.tb_revise.specs.Meanings.{category_set}
 use Rattle.tb_revise.proofs.Categories.{category-missing, category-more, no-more-categories}
 use Rattle.tb_revise.proofs.meaning.categories_set.Goals as goal
