@@ -1,0 +1,5 @@
+pub mod Spread
+pub mod Zipped
+pub mod Among
+pub mod Tables
+pub mod Added

@@ -1,0 +1,203 @@
+-- What the cells of a cube add at a number.
+use Rattle.std.proofs.Common.{◌≡◌, ℕ, zero, suc, ◌+◌, ◌*◌, ◌%◌, ◌<◌, ◌≤◌, ◌⊎◌, Bool, true, false, cond, List, [], ◌∷◌, length, drop, get_or, refl, ap, sym, subst, ◌∙◌, inl, inr, arith}
+use Rattle.std.specs.Prelude.{◌==◌, slice_index}
+use Rattle.std.specs.List.{sum_by, range_with_len, list_any}
+use Rattle.std.proofs.Math.Nat.{mod-add-mod}
+use Rattle.std.proofs.lemmas.Bool.{ne_eqb, or_parts}
+use Rattle.std.proofs.lemmas.List.{drop_more}
+use Rattle.std.proofs.lemmas.List.Sums.{sum_by-cons}
+use Rattle.tb_model.proofs.SumLemmas.{sum_by-ext, sum_by-none}
+use Rattle.std.proofs.lemmas.Nat.{mul-le}
+use Rattle.tb_grid.proofs.Sums.{sum-more}
+use Rattle.tb_grid.proofs.Factors.{at-least}
+use Rattle.tb_plan.specs.Plans.{PlanValue, DimensionValue, ConditionValue, uses, place_count}
+use Rattle.tb_plan.specs.Steps.{dimension_step, filter_step, step_at}
+use Rattle.tb_cube.specs.Cubes.{cell_count}
+use Rattle.tb_rollup.specs.Rolling.{spread, AreUnused}
+
+-- how many cells a cube over some variables has
+abbrev pub count_of : PlanValue → List ℕ → ℕ
+count_of plan vars = cell_count plan.shape vars
+
+-- a variable that isn't used has no steps
+no-dimension : (totals : Bool) (ds : List DimensionValue) (v c : ℕ) → list_any (λ d. d.variable == v) ds ≡ false → dimension_step totals ds v c ≡ 0
+no-dimension totals [] v c h = refl
+no-dimension totals (d ∷ ds) v c h =
+    let both = or_parts (d.variable == v) (list_any (λ x. x.variable == v) ds) h in
+    rw (both.0, no-dimension totals ds v c both.1) (omega arith)
+
+no-filter : (places : ℕ) (fs : List ConditionValue) (v c : ℕ) → list_any (λ f. f.variable == v) fs ≡ false → filter_step places fs v c ≡ 0
+no-filter places [] v c h = refl
+no-filter places (f ∷ fs) v c h =
+    let both = or_parts (f.variable == v) (list_any (λ x. x.variable == v) fs) h in
+    rw (both.0, no-filter places fs v c both.1) (omega arith)
+
+pub no-step : (plan : PlanValue) (v c : ℕ) → uses plan v ≡ false → step_at plan v c ≡ 0
+no-step plan v c h =
+    let both = or_parts (list_any (λ d. d.variable == v) plan.dimensions) (list_any (λ f. f.variable == v) plan.filters) h in
+    rw (no-dimension plan.totals plan.dimensions v c both.0, no-filter (place_count plan) plan.filters v c both.1) (omega arith)
+
+pub spread-more : (plan : PlanValue) (v : ℕ) (vs : List ℕ) (f : ℕ → ℕ) (k base i : ℕ)
+    → spread plan (v ∷ vs) f k base i ≡ sum_by (λ c. spread plan vs f (k * slice_index plan.shape v + c) (base + step_at plan v c) i) (range_with_len 0 (slice_index plan.shape v))
+unfolding spread
+spread-more plan v vs f k base i = refl
+
+pub spread-end : (plan : PlanValue) (f : ℕ → ℕ) (k base i : ℕ) → spread plan [] f k base i ≡ cond (base == i) (f k) 0
+unfolding spread
+spread-end plan f k base i = refl
+
+-- a number past a place adds nothing there
+pub spread-past : (plan : PlanValue) (vs : List ℕ) (f : ℕ → ℕ) (k base i : ℕ) → i < base → spread plan vs f k base i ≡ 0
+unfolding spread
+spread-past plan [] f k base i past = rw (ne_eqb base i (λ e. omega arith)) refl
+spread-past plan (v ∷ vs) f k base i past =
+    sum_by-ext _ (λ (_ : ℕ). 0) (range_with_len 0 (slice_index plan.shape v)) (λ c. spread-past plan vs f (k * slice_index plan.shape v + c) (base + step_at plan v c) i (omega arith))
+    ∙ sum_by-none (range_with_len 0 (slice_index plan.shape v))
+
+-- a range in rows
+pub sum-shift : (f : ℕ → ℕ) (a n : ℕ) → sum_by f (range_with_len (a + 1) n) ≡ sum_by (λ e. f (e + 1)) (range_with_len a n)
+sum-shift f a zero = refl
+sum-shift f a (suc n) = rw (sum_by-cons f (a + 1) (range_with_len (a + 1 + 1) n), sum_by-cons (λ e. f (e + 1)) a (range_with_len (a + 1) n), sum-shift f (a + 1) n) refl
+
+pub sum-next : (f : ℕ → ℕ) (n : ℕ) → sum_by f (range_with_len 0 (n + 1)) ≡ sum_by f (range_with_len 0 n) + f n
+sum-next f n = let z : 0 + n ≡ n = omega arith in sum-more f 0 n ∙ ap (λ j. sum_by f (range_with_len 0 n) + f j) z
+
+sum-join : (f : ℕ → ℕ) (a m : ℕ) → sum_by f (range_with_len 0 (m + a)) ≡ sum_by f (range_with_len 0 m) + sum_by (λ r. f (m + r)) (range_with_len 0 a)
+sum-join f zero m = let e : m + 0 ≡ m = omega arith in rw e (omega arith)
+sum-join f (suc a) m =
+    let e : m + suc a ≡ m + a + 1 = omega arith in
+    let s : suc a ≡ a + 1 = omega arith in
+    let left : sum_by f (range_with_len 0 (m + suc a)) ≡ sum_by f (range_with_len 0 (m + a)) + f (m + a) = ap (λ j. sum_by f (range_with_len 0 j)) e ∙ sum-next f (m + a) in
+    let right : sum_by (λ r. f (m + r)) (range_with_len 0 (suc a)) ≡ sum_by (λ r. f (m + r)) (range_with_len 0 a) + f (m + a) = ap (λ j. sum_by (λ r. f (m + r)) (range_with_len 0 j)) s ∙ sum-next (λ r. f (m + r)) a in
+    left ∙ ap (λ x. x + f (m + a)) (sum-join f a m) ∙ (let turn : sum_by f (range_with_len 0 m) + sum_by (λ r. f (m + r)) (range_with_len 0 a) + f (m + a) ≡ sum_by f (range_with_len 0 m) + (sum_by (λ r. f (m + r)) (range_with_len 0 a) + f (m + a)) = omega arith in turn) ∙ ap (λ x. sum_by f (range_with_len 0 m) + x) (sym right)
+
+pub sum-rows : (f : ℕ → ℕ) (n m : ℕ) → sum_by f (range_with_len 0 (n * m)) ≡ sum_by (λ c. sum_by (λ r. f (c * m + r)) (range_with_len 0 m)) (range_with_len 0 n)
+sum-rows f zero m = let e : 0 * m ≡ 0 = omega arith in ap (λ j. sum_by f (range_with_len 0 j)) e
+sum-rows f (suc n) m =
+    let row : ℕ → ℕ = λ c. sum_by (λ r. f (c * m + r)) (range_with_len 0 m) in
+    let e : suc n * m ≡ n * m + m = omega arith in
+    let s : suc n ≡ n + 1 = omega arith in
+    ap (λ j. sum_by f (range_with_len 0 j)) e ∙ sum-join f m (n * m) ∙ ap (λ x. x + row n) (sum-rows f n m) ∙ sym (ap (λ j. sum_by row (range_with_len 0 j)) s ∙ sum-next row n)
+
+-- variables that aren't used make one run
+pub spread-unused : (plan : PlanValue) (vs : List ℕ) (f : ℕ → ℕ) (k base i : ℕ) → AreUnused plan vs
+    → spread plan vs f k base i ≡ cond (base == i) (sum_by (λ r. f (k * count_of plan vs + r)) (range_with_len 0 (count_of plan vs))) 0
+unfolding spread
+spread-unused plan [] f k base i unused =
+    let e : k * 1 + 0 ≡ k = omega arith in
+    rw e (ap (λ x. cond (base == i) x 0) (omega arith))
+spread-unused plan (v ∷ vs) f k base i unused =
+    let n : ℕ = slice_index plan.shape v in
+    let m : ℕ = count_of plan vs in
+    let row : (c : ℕ) → spread plan vs f (k * n + c) (base + step_at plan v c) i ≡ cond (base == i) (sum_by (λ r. f (k * (n * m) + (c * m + r))) (range_with_len 0 m)) 0 = λ c.
+    let same : base + step_at plan v c ≡ base = rw (no-step plan v c unused.0) (omega arith) in
+    rw same (spread-unused plan vs f (k * n + c) base i unused.1
+    ∙ ap (λ x. cond (base == i) x 0) (sum_by-ext (λ r. f ((k * n + c) * m + r)) (λ r. f (k * (n * m) + (c * m + r))) (range_with_len 0 m) (λ r. let flat : (k * n + c) * m + r ≡ k * (n * m) + (c * m + r) = omega arith in ap f flat))) in
+    sum_by-ext _ _ (range_with_len 0 n) row
+    ∙ elim (base == i) as (λ b. sum_by (λ c. cond b (sum_by (λ r. f (k * (n * m) + (c * m + r))) (range_with_len 0 m)) 0) (range_with_len 0 n) ≡ cond b (sum_by (λ r. f (k * (n * m) + r)) (range_with_len 0 (n * m))) 0) [
+      | true ↦ sym (sum-rows (λ r. f (k * (n * m) + r)) n m)
+      | false ↦ sum_by-none (range_with_len 0 n)
+    ]
+
+-- one more category: what it adds, and what a category past all places adds
+pub add-more : (k old mid new s x : ℕ) → mid % k ≡ (old + s) % k → new % k ≡ (mid + x) % k → new % k ≡ (old + (s + x)) % k
+add-more k old mid new s x h e =
+    let turn : old + s + x ≡ old + (s + x) = omega arith in
+    e ∙ sym (mod-add-mod mid k x) ∙ ap (λ y. (y + x) % k) h ∙ mod-add-mod (old + s) k x ∙ ap (λ y. y % k) turn
+
+zero-factor : (n m : ℕ) → n * m ≡ 0 → (n ≡ 0) ⊎ (m ≡ 0)
+zero-factor zero m h = inl refl
+zero-factor (suc n) m h = inr (omega (arith, h, at-least (suc n) m (omega arith)))
+
+second-factor : (n m : ℕ) → 0 < n * m → 0 < m
+second-factor n zero h = absurd (omega arith)
+second-factor n (suc m) h = omega arith
+
+turned : (n m : ℕ) → n * m ≡ m * n
+turned n m = omega arith
+
+-- a cube with no cells adds nothing
+pub spread-none : (plan : PlanValue) (vs : List ℕ) (f : ℕ → ℕ) (k base i : ℕ) → count_of plan vs ≡ 0 → spread plan vs f k base i ≡ 0
+unfolding spread
+spread-none plan [] f k base i none = absurd (omega (arith, none))
+spread-none plan (v ∷ vs) f k base i none = elim (zero-factor (slice_index plan.shape v) (count_of plan vs) none) [
+  | inl h ↦ ap (λ n. sum_by (λ c. spread plan vs f (k * slice_index plan.shape v + c) (base + step_at plan v c) i) (range_with_len 0 n)) h
+  | inr h ↦
+      sum_by-ext _ (λ (_ : ℕ). 0) (range_with_len 0 (slice_index plan.shape v)) (λ c. spread-none plan vs f (k * slice_index plan.shape v + c) (base + step_at plan v c) i h)
+      ∙ sum_by-none (range_with_len 0 (slice_index plan.shape v))
+]
+
+-- where a roll-up stands at a variable v with n categories
+pub record Level (plan : PlanValue) (vars : List ℕ) (j k long v n : ℕ) : Type 0 where
+  pub is : drop j vars ≡ v ∷ drop (j + 1) vars
+  pub size : n ≡ slice_index plan.shape v
+  pub rest : 0 < count_of plan (drop (j + 1) vars)
+  pub inside : (c : ℕ) → c < n → (k * n + c + 1) * count_of plan (drop (j + 1) vars) ≤ long
+  pub room : (c : ℕ) → c < n → k * n + c < long
+
+level : (plan : PlanValue) (vars : List ℕ) (j k long : ℕ) → j < length vars → 0 < count_of plan (drop j vars) → (k + 1) * count_of plan (drop j vars) ≤ long
+    → Level plan vars j k long (get_or vars j 0) (slice_index plan.shape (get_or vars j 0))
+level plan vars j k long below some whole =
+    let n : ℕ = slice_index plan.shape (get_or vars j 0) in
+    let m : ℕ = count_of plan (drop (j + 1) vars) in
+    let is = drop_more vars j 0 below in
+    let count : count_of plan (drop j vars) ≡ n * m = ap (count_of plan) is in
+    let rest : 0 < m = second-factor n m (omega (arith, some, count)) in
+    let whole' : (k + 1) * (n * m) ≤ long = rw (← count) whole in
+    let inside : (c : ℕ) → c < n → (k * n + c + 1) * m ≤ long = λ c h.
+    let row : k * n + c + 1 ≤ (k + 1) * n = omega arith in
+    let flat : (k + 1) * n * m ≡ (k + 1) * (n * m) = omega arith in
+    omega (arith, mul-le (k * n + c + 1) m ((k + 1) * n) m row (omega arith), flat, whole') in
+    record {
+      is = is;
+      size = refl;
+      rest = rest;
+      inside = inside;
+      room = λ c h. omega (arith, inside c h, at-least m (k * n + c + 1) rest, turned m (k * n + c + 1));
+    }
+
+pub level-at : (plan : PlanValue) (vars : List ℕ) (j k long v n : ℕ) → j < length vars → 0 < count_of plan (drop j vars) → (k + 1) * count_of plan (drop j vars) ≤ long
+    → v ≡ get_or vars j 0 → n ≡ slice_index plan.shape v → Level plan vars j k long v n
+level-at plan vars j k long v n below some whole e count =
+    subst (λ (s : ℕ). Level plan vars j k long v s) (sym count) (subst (λ (w : ℕ). Level plan vars j k long w (slice_index plan.shape w)) (sym e) (level plan vars j k long below some whole))
+
+-- the sums of a loop over the categories of a variable
+pub one-category : (plan : PlanValue) (vs : List ℕ) (f : ℕ → ℕ) (k n base v c i m old mid new : ℕ) → mid % m ≡ (old + sum_by (λ e. spread plan vs f (k * n + e) (base + step_at plan v e) i) (range_with_len 0 c)) % m
+    → new % m ≡ (mid + spread plan vs f (k * n + c) (base + step_at plan v c) i) % m
+    → new % m ≡ (old + sum_by (λ e. spread plan vs f (k * n + e) (base + step_at plan v e) i) (range_with_len 0 (c + 1))) % m
+one-category plan vs f k n base v c i m old mid new h e =
+    let g : ℕ → ℕ = λ e. spread plan vs f (k * n + e) (base + step_at plan v e) i in
+    add-more m old mid new (sum_by g (range_with_len 0 c)) (g c) h e ∙ ap (λ s. (old + s) % m) (sym (sum-next g c))
+
+-- nothing is added
+pub nothing : (m old x : ℕ) → x ≡ 0 → old % m ≡ (old + x) % m
+nothing m old x none = let e : old ≡ old + x = omega arith in ap (λ y. y % m) e
+
+pub all-categories : (plan : PlanValue) (vars : List ℕ) (f : ℕ → ℕ) (j k n base v c i m old new long : ℕ) → Level plan vars j k long v n → c ≡ n
+    → new % m ≡ (old + sum_by (λ e. spread plan (drop (j + 1) vars) f (k * n + e) (base + step_at plan v e) i) (range_with_len 0 c)) % m
+    → new % m ≡ (old + spread plan (drop j vars) f k base i) % m
+all-categories plan vars f j k n base v c i m old new long at done h =
+    let vs : List ℕ = drop (j + 1) vars in
+    let whole : spread plan (drop j vars) f k base i ≡ sum_by (λ e. spread plan vs f (k * n + e) (base + step_at plan v e) i) (range_with_len 0 c) =
+    ap (λ xs. spread plan xs f k base i) at.is ∙ spread-more plan v vs f k base i
+    ∙ ap (λ x. sum_by (λ e. spread plan vs f (k * x + e) (base + step_at plan v e) i) (range_with_len 0 x)) (sym at.size)
+    ∙ ap (λ x. sum_by (λ e. spread plan vs f (k * n + e) (base + step_at plan v e) i) (range_with_len 0 x)) (sym done) in
+    h ∙ ap (λ s. (old + s) % m) (sym whole)
+
+-- the last variables of a cube with cells make no more cells
+pub suffix-some : (plan : PlanValue) (vars : List ℕ) (j : ℕ) → 0 < count_of plan vars → 0 < count_of plan (drop j vars)
+suffix-some plan vars zero some = some
+suffix-some plan [] (suc j) some = some
+suffix-some plan (v ∷ vs) (suc j) some = suffix-some plan vs j (second-factor (slice_index plan.shape v) (count_of plan vs) some)
+
+first-factor : (n m : ℕ) → 0 < n * m → 0 < n
+first-factor zero m h = absurd (omega arith)
+first-factor (suc n) m h = omega arith
+
+pub suffix-le : (plan : PlanValue) (vars : List ℕ) (j : ℕ) → 0 < count_of plan vars → count_of plan (drop j vars) ≤ count_of plan vars
+suffix-le plan vars zero some = omega arith
+suffix-le plan [] (suc j) some = omega arith
+suffix-le plan (v ∷ vs) (suc j) some =
+    let n : ℕ = slice_index plan.shape v in
+    let m : ℕ = count_of plan vs in
+    omega (arith, suffix-le plan vs j (second-factor n m some), at-least n m (first-factor n m some))

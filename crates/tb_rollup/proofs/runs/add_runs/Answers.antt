@@ -1,0 +1,35 @@
+use Rattle.std.proofs.Common.{ℕ, List, ◌+◌, ◌*◌, ◌%◌, ◌<◌, ◌≤◌, length, cond, ap, sym, ◌∙◌, arith}
+use Rattle.std.specs.Prelude.{◌==◌, slice_index}
+use Rattle.std.proofs.lemmas.Nat.{mul-le}
+use Rattle.tb_base.specs.declared.cells.Cell.{Cell}
+use Rattle.tb_grid.specs.Totals.{part_at, modulus}
+use Rattle.tb_rollup.specs.Rolling.{run_sum, runs_at}
+use Rattle.tb_rollup.proofs.Added.{added-at, one-run, past-at}
+use Rattle.tb_rollup.proofs.runs.add_runs.Goals as goal
+use Rattle.tb_rollup.proofs.runs.add_runs.Goals.{then-to-cells, else-to-cells}
+
+pub loop-c-preserved : goal.loop-c-preserved
+loop-c-preserved c = λ p i below.
+    let f : ℕ → ℕ = part_at p c.args.all.now in
+    let to : ℕ → ℕ = λ e. c.args.base + slice_index c.args.steps.now e in
+    let sum : ℕ → ℕ = λ e. run_sum f (c.args.from + e * c.args.run) c.args.run in
+    let before : i < length c.loop-c.cells = omega (arith, below, c.if-to-cells.auto.cells, c.loop-c.auto.cells) in
+    one-run p (λ e. cond (to e == i) (sum e) 0) (part_at p c.args.cells.now i) (part_at p c.loop-c.cells i) (part_at p c.if-to-cells.cells i) c.loop-c.c (c.loop-c.invariant p i before)
+    (elim c.if-to-cells.branch [
+      | then-to-cells w ↦
+          ap (λ (cells : List Cell). part_at p cells i % modulus p) w.cells-is
+          ∙ added-at p c.loop-c.cells (to c.loop-c.c) i w.add.new.cell w.sum_of.result (sum c.loop-c.c) w.if-to-cells.true (w.add.ensures p) (w.sum_of.ensures p)
+      | else-to-cells w ↦
+          ap (λ (cells : List Cell). part_at p cells i % modulus p) w.cells-is
+          ∙ past-at p c.loop-c.cells (to c.loop-c.c) i (sum c.loop-c.c) (omega (arith, before, w.if-to-cells.false))
+    ])
+
+pub returns-then-run-eq1 : goal.returns-then-run-eq1
+returns-then-run-eq1 c = λ p i below.
+    c.add_cells.ensures p i below
+    ∙ ap (λ run. (part_at p c.args.cells.now i + runs_at (part_at p c.args.all.now) c.args.from c.args.steps.now run c.args.base i) % modulus p) (sym c.if-run-eq1.true)
+
+pub sum_of-requires-clause-inside : goal.sum_of-requires-clause-inside
+sum_of-requires-clause-inside c =
+    let low : c.loop-c.c + 1 ≤ length c.args.steps.now = omega arith in
+    omega (arith, mul-le (c.loop-c.c + 1) c.args.run (length c.args.steps.now) c.args.run low (omega arith), c.requires.inside)

@@ -1,0 +1,52 @@
+-- What a roll-up adds at each place, variable by variable.
+use Rattle.std.specs.Prelude.{◌≡◌, ◌+◌, ◌*◌, ◌==◌, ◌<◌, ◌≤◌, ℕ, cond, false}
+use Rattle.std.specs.Prelude.{List, [], ◌∷◌, length, drop, slice_index}
+use Rattle.std.specs.List.{sum_by, range_with_len}
+use Rattle.tb_cube.specs.Cubes.{cell_count, CubeValue}
+use Rattle.tb_grid.specs.declared.products.TheConstants.{MOST_CELLS}
+use Rattle.tb_plan.specs.Plans.{PlanValue, uses}
+use Rattle.tb_plan.specs.Steps.{step_at, steps_of}
+use Rattle.tb_query.specs.declared.limits.TheConstants.{MOST_PLACES}
+
+-- what the cells of a cube add at the number i: f gives a part of the cell at each place; the
+-- categories of the variables before these lead to the place k among theirs, and to the number base
+unfoldable pub spread : PlanValue → List ℕ → (ℕ → ℕ) → ℕ → ℕ → ℕ → ℕ
+spread plan [] f k base i = cond (base == i) (f k) 0
+spread plan (v ∷ vs) f k base i =
+    sum_by
+    (λ c. spread plan vs f (k * slice_index plan.shape v + c) (base + step_at plan v c) i)
+    (range_with_len 0 (slice_index plan.shape v))
+
+-- what a run of cells adds, from a place on
+abbrev pub run_sum : (ℕ → ℕ) → ℕ → ℕ → ℕ
+run_sum f from run = sum_by (λ r. f (from + r)) (range_with_len 0 run)
+
+-- what runs of cells add at the number i, one run for each step beyond base
+abbrev pub runs_at : (ℕ → ℕ) → ℕ → List ℕ → ℕ → ℕ → ℕ → ℕ
+runs_at f from steps run base i =
+    sum_by (λ c. cond (base + slice_index steps c == i) (run_sum f (from + c * run) run) 0)
+    (range_with_len 0 (length steps))
+
+-- no dimension and no filter is over these variables
+abbrev pub AreUnused : PlanValue → List ℕ → Type 0
+AreUnused plan [] = Unit {0}
+AreUnused plan (v ∷ vs) = (uses plan v ≡ false) × AreUnused plan vs
+
+-- the last variable of a cube that the plan uses: its place among the cube's variables, the steps
+-- of its categories, and how many cells each of them has
+pub record IsLast (plan : PlanValue) (vars : List ℕ) (at : ℕ) (steps : List ℕ) (run : ℕ)
+    : Type 0 where
+  pub there : at < length vars
+  pub steps_are : steps ≡ steps_of plan (slice_index vars at)
+  pub rest : AreUnused plan (drop (at + 1) vars)
+  pub run_is : run ≡ cell_count plan.shape (drop (at + 1) vars)
+
+-- where a roll-up stands: before variable j of the cube, at the place k of the categories so far,
+-- and at a number below those of the table's cells
+pub record Stands (cube : CubeValue) (plan : PlanValue) (cells j k base : ℕ) : Type 0 where
+  pub shape : cube.shape ≡ plan.shape
+  pub whole : (k + 1) * cell_count plan.shape (drop j cube.vars) ≤ length cube.cells
+  pub some : 0 < cell_count plan.shape (drop j cube.vars)
+  pub small : length cube.cells ≤ MOST_CELLS
+  pub low : base < cells
+  pub few : cells ≤ MOST_PLACES

@@ -1,0 +1,15 @@
+//! The cells of a table from those of a cube.
+//!
+//! It stands on `tb_base`, `tb_model`, `tb_grid`, `tb_plan` and `tb_cube`. Each cell of the cube is
+//! read once and added at its place without Total; the cells with Total are then summed from the
+//! table's own. Its contract cites `Cubes.rolled_up` and `Places.cells_of` of `tb_model`: what the
+//! cells of a table are from those of a cube, and counted from scratch.
+#![tactic(auto)]
+
+mod runs;
+mod walk;
+
+pub use walk::roll_into;
+
+#[cfg(test)]
+mod tests;

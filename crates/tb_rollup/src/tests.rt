@@ -1,0 +1,249 @@
+// What no clause says: worked cells, rolled up from the cube of the plan's own variables and from
+// that of all of them, beside the cells of a scan.
+
+ghost use Rattle.std.specs.Prelude.{◌≡◌, ◌<◌, ◌≤◌, true, All, IfOk, length};
+ghost use Rattle.tb_base.specs.declared.people.TheConstants.{MOST_PERSONS};
+ghost use Rattle.tb_base.specs.Records.{AllFit};
+ghost use Rattle.tb_cube.specs.Cubes.{Holds};
+ghost use Rattle.tb_model.specs.Schemas.{shape_of};
+
+use crate::roll_into;
+use std::alloc::Global;
+use std::test::Fail;
+use tb_base::{Cell, Memory, Record, Shape, VarSet};
+use tb_cube::Cube;
+use tb_grid::{MOST_CELLS, cells_over};
+use tb_plan::Plan;
+use tb_query::{MOST_LINE_BYTES, read_query};
+use tb_records::read_people;
+use tb_scan::{empty_cells, scan_into};
+use tb_schema::{Schema, SchemaFault};
+
+const CLASSES: &[u8] = b"variable,code,label\nSEX,1,Male\nSEX,2,Female\nAGE,0-15,Under 16\n\
+    AGE,16-64,Working age\nAGE,65+,65 and over\nAREA,E1,\"North, rural\"\nAREA,E2,South\n\
+    LAND,N,North\n";
+
+const RECODES: &[u8] = b"recode,variable,code,group\nAGE2,AGE,0-15,young\n\
+    AGE2,AGE,16-64,old\nAGE2,AGE,65+,old\n";
+
+const PEOPLE: &[u8] = b"person,record_key,SEX,AGE,AREA,LAND\n101,200,1,0-15,E1,N\n\
+    102,100,1,16-64,E1,N\n103,20,1,65+,E2,N\n\
+    104,7,2,16-64,E2,N\n";
+
+// A query, and the count and the cell key of each place of its table.
+type Row = (&'static [u8], &'static [(u32, u8)]);
+
+static ROWS: [Row; 16] = [
+    (b"table SEX", &[(3, 64), (1, 7)]),
+    // Totals over one dimension, and over three.
+    (b"table SEX with totals", &[(3, 64), (1, 7), (4, 71)]),
+    (
+        b"table SEX by AGE by AREA with totals",
+        &[
+            (1, 200),
+            (0, 0),
+            (1, 200),
+            (1, 100),
+            (0, 0),
+            (1, 100),
+            (0, 0),
+            (1, 20),
+            (1, 20),
+            (2, 44),
+            (1, 20),
+            (3, 64),
+            (0, 0),
+            (0, 0),
+            (0, 0),
+            (0, 0),
+            (1, 7),
+            (1, 7),
+            (0, 0),
+            (0, 0),
+            (0, 0),
+            (0, 0),
+            (1, 7),
+            (1, 7),
+            (1, 200),
+            (0, 0),
+            (1, 200),
+            (1, 100),
+            (1, 7),
+            (2, 107),
+            (0, 0),
+            (1, 20),
+            (1, 20),
+            (2, 44),
+            (2, 27),
+            (4, 71),
+        ],
+    ),
+    // The last dimension changes fastest.
+    (b"table AREA by SEX", &[(2, 44), (0, 0), (1, 20), (1, 7)]),
+    // The same records by a recode, a filter and a negated filter.
+    (b"table AGE2", &[(1, 200), (3, 127)]),
+    (
+        b"table AREA where AGE2 in (old) with totals",
+        &[(1, 100), (2, 27), (3, 127)],
+    ),
+    (
+        b"table SEX where AGE not in (0-15) with totals",
+        &[(2, 120), (1, 7), (3, 127)],
+    ),
+    // A filter on a variable that is no dimension; two on one; one that lists every code, negated.
+    (b"table SEX where AGE in (65+)", &[(1, 20), (0, 0)]),
+    (
+        b"table SEX where AGE in (0-15, 16-64) and AGE not in (0-15)",
+        &[(1, 100), (1, 7)],
+    ),
+    (
+        b"table SEX where AGE not in (0-15, 16-64, 65+) with totals",
+        &[(0, 0), (0, 0), (0, 0)],
+    ),
+    // A variable of one category, alone and beside another.
+    (b"table LAND with totals", &[(4, 71), (4, 71)]),
+    (b"table LAND by AREA", &[(2, 44), (2, 27)]),
+    // A recode beside its variable.
+    (
+        b"table AGE by AGE2",
+        &[(1, 200), (0, 0), (0, 0), (2, 107), (0, 0), (1, 20)],
+    ),
+    // A filter on a dimension, and with all three variables used.
+    (b"table SEX where SEX in (2)", &[(0, 0), (1, 7)]),
+    (
+        b"table SEX where AGE in (16-64) and AREA in (E2)",
+        &[(0, 0), (1, 7)],
+    ),
+    (
+        b"table AREA where SEX in (1) and AGE2 in (old) with totals",
+        &[(1, 100), (1, 20), (2, 120)],
+    ),
+];
+
+fn rows() -> &'static [Row] {
+    &ROWS
+}
+
+fn setup(alloc: Global) -> Result<Schema, SchemaFault> {
+    Schema::read(alloc, CLASSES, Some(RECODES))
+}
+
+fn plan_for(alloc: Global, schema: &Schema, line: &[u8]) -> Result<Plan, Fail>
+    requires { length line.now ≤ MOST_LINE_BYTES }
+    ensures { IfOk result (λ plan. plan.shape ≡ shape_of schema.now) }
+{
+    let query = read_query(alloc, schema, line)?;
+    Ok(Plan::of(alloc, schema, &query)?)
+}
+
+fn is_like(cells: &[Cell], want: &[(u32, u8)]) -> bool {
+    cells.len() == want.len()
+        && cells.iter().zip(want).all(|(cell, (count, key))| cell.count == *count
+            && cell.key == *key)
+}
+
+// Whether these variables are the shape's.
+fn are_some_of(shape: &Shape, vars: &VarSet) -> bool
+    ensures { result ≡ true → All (λ v. v < length shape.now) vars.now }
+{
+    for i in 0..vars.len() {
+        if vars.at(i) as usize >= shape.len() {
+            return false;
+        }
+    }
+    true
+}
+
+// The cube of some records. Variables that can't be asked for fail the test.
+fn cube_for(alloc: Global, shape: &Shape, vars: &VarSet, records: &[Record]) -> Result<Cube, Memory>
+    requires fit { AllFit shape.now records.now }
+    requires few { length records.now ≤ MOST_PERSONS }
+    ensures shape { IfOk result (λ cube. cube.shape ≡ shape.now) }
+    ensures held { IfOk result (λ cube. Holds cube records.now) }
+{
+    if !are_some_of(shape, vars) || cells_over(shape, vars, 0) > MOST_CELLS {
+        return Err(Memory);
+    }
+    let mut cube = Cube::zero(alloc, shape, vars)?;
+    cube.add_all(records);
+    Ok(cube)
+}
+
+// Whether the cells rolled up from a cube over these variables are as wanted.
+fn is_rolled(
+    alloc: Global,
+    plan: &Plan,
+    shape: &Shape,
+    vars: &VarSet,
+    records: &[Record],
+    want: &[(u32, u8)],
+) -> Result<bool, Memory>
+    requires shape { plan.now.shape ≡ shape.now }
+    requires fit { AllFit shape.now records.now }
+    requires few { length records.now ≤ MOST_PERSONS }
+{
+    let cube = cube_for(alloc, shape, vars, records)?;
+    if !cube.vars().includes(plan.vars()) {
+        return Ok(false);
+    }
+    let mut cells = empty_cells(alloc, plan)?;
+    roll_into(&cube, plan, &mut cells);
+    Ok(is_like(&cells, want))
+}
+
+// Whether the cells into which the records are scanned are as wanted.
+fn is_scanned(
+    alloc: Global,
+    plan: &Plan,
+    records: &[Record],
+    want: &[(u32, u8)],
+) -> Result<bool, Memory>
+    requires fit { AllFit plan.now.shape records.now }
+    requires few { length records.now ≤ MOST_PERSONS }
+{
+    let mut cells = empty_cells(alloc, plan)?;
+    scan_into(plan, records, &mut cells);
+    Ok(is_like(&cells, want))
+}
+
+// Whether a row's cells are right both ways, and from both cubes.
+fn is_right(
+    alloc: Global,
+    schema: &Schema,
+    all: &VarSet,
+    records: &[Record],
+    row: Row,
+) -> Result<bool, Fail>
+    requires fit { AllFit (shape_of schema.now) records.now }
+    requires few { length records.now ≤ MOST_PERSONS }
+{
+    let (line, want) = row;
+    if line.len() > MOST_LINE_BYTES {
+        return Ok(false);
+    }
+    let plan = plan_for(alloc, schema, line)?;
+    Ok(
+        is_rolled(alloc, &plan, schema.shape(), plan.vars(), records, want)?
+            && is_rolled(alloc, &plan, schema.shape(), all, records, want)?
+            && is_scanned(alloc, &plan, records, want)?,
+    )
+}
+
+// How many rows come before the first that is wrong.
+fn right_rows(alloc: Global, schema: &Schema) -> Result<usize, Fail> {
+    let all = VarSet::of(alloc, &[0, 1, 2, 3])?;
+    let people = read_people(alloc, schema, PEOPLE)?;
+    for (i, row) in rows().iter().enumerate() {
+        if !is_right(alloc, schema, &all, people.all(), *row)? {
+            return Ok(i);
+        }
+    }
+    Ok(rows().len())
+}
+
+#[test]
+fn worked_cells(rt: HostRuntime) -> Result<(), Fail> {
+    let schema = setup(rt.alloc())?;
+    assert_eq!(rt; right_rows(rt.alloc(), &schema)?, 16);
+    Ok(())
+}

@@ -1,0 +1,215 @@
+// A cube walked once, variable by variable, down to the last one that the plan uses. The steps of
+// the categories add up to the number of a place, and what is past all places fails a filter.
+
+ghost use Rattle.std.specs.Prelude.{◌≡◌, ℕ, ◌+◌, ◌-◌, ◌%◌, ◌<◌, ◌≤◌, List, false, true, All};
+ghost use Rattle.std.specs.Prelude.{drop, length, slice_index, MatchOption};
+ghost use Rattle.std.specs.List.{sum_by};
+ghost use Rattle.std.specs.Option.{IfSome};
+ghost use Rattle.tb_base.specs.declared.people.TheConstants.{MOST_PERSONS};
+ghost use Rattle.tb_base.specs.declared.records.Record.{Record};
+ghost use Rattle.tb_base.specs.Cells.{empty_cell};
+ghost use Rattle.tb_base.specs.Records.{AllFit};
+ghost use Rattle.tb_base.specs.Sets.{includes_all};
+ghost use Rattle.tb_cube.specs.Cubes.{Holds};
+ghost use Rattle.tb_grid.specs.Totals.{modulus, part_at, Part};
+ghost use Rattle.tb_model.specs.Cubes.{rolled_up};
+ghost use Rattle.tb_model.specs.Places.{cells_of};
+ghost use Rattle.tb_model.specs.Queries.{QueryValue};
+ghost use Rattle.tb_model.specs.Schemas.{SchemaValue};
+ghost use Rattle.tb_plan.specs.Plans.{place_count, plan_of, uses, vars_of};
+ghost use Rattle.tb_plan.specs.Steps.{steps_of};
+ghost use Rattle.tb_query.specs.declared.limits.TheConstants.{MOST_PLACES};
+ghost use Rattle.tb_rollup.specs.Rolling.{spread, AreUnused, IsLast, Stands};
+
+use crate::runs::add_runs;
+use tb_base::Cell;
+use tb_cube::Cube;
+use tb_grid::{cells_over, know_cells};
+use tb_plan::Plan;
+
+/// The last variable of a cube that a plan uses: its place among the cube's variables, the steps of
+/// its categories, and how many cells each category has.
+#[derive(Clone, Copy)]
+struct Last<'a> {
+    at: usize,
+    steps: &'a [u32],
+    run: usize,
+}
+
+// The steps of a variable's categories, if the plan uses it.
+#[inline]
+fn steps_if_used(plan: &Plan, v: u16) -> Option<&[u32]>
+    requires { v < length plan.now.shape }
+    ensures { MatchOption result (uses plan.now v ≡ false)
+        (λ steps. steps.now ≡ steps_of plan.now v) }
+{
+    if plan.uses(v) {
+        Some(plan.steps(v))
+    } else {
+        None
+    }
+}
+
+// The number after a category, where these are its variable's steps.
+#[inline]
+fn next(steps: Option<&[u32]>, c: usize, base: usize) -> usize
+    requires category { IfSome steps (λ s. c < length s.now) }
+    requires few { base ≤ MOST_PLACES }
+    ensures { MatchOption steps.entry (result ≡ base)
+        (λ s. result ≡ base + slice_index s.now c) }
+{
+    match steps {
+        Some(steps) => base + steps[c] as usize,
+        None => base,
+    }
+}
+
+// Adds each cell of the cube whose categories before the last variable have the place k, where
+// those categories lead to `base`. What leads past all places is left out.
+#[inline]
+fn roll_last(cube: &Cube, plan: &Plan, last: &Last, cells: &mut [Cell], k: usize, base: usize)
+    requires last { IsLast plan.now cube.now.vars last.now.at last.now.steps.now last.now.run }
+    requires stands { Stands cube.now plan.now (length cells.old) last.now.at k base }
+    ensures { (p : Part) (i : ℕ) → i < length cells.old
+        → part_at p cells.new i % modulus p
+        ≡ (part_at p cells.old i
+        + spread plan.now (drop last.now.at cube.now.vars) (part_at p cube.now.cells) k base i)
+        % modulus p }
+{
+    let _ = plan;
+    let from = k * (last.steps.len() * last.run);
+    add_runs(cube.as_slice(), from, last.steps, last.run, base, cells);
+}
+
+// The same for the first j categories, where variable j is next to the last.
+fn roll_rows(
+    cube: &Cube,
+    plan: &Plan,
+    last: &Last,
+    cells: &mut [Cell],
+    j: usize,
+    k: usize,
+    base: usize,
+)
+    requires last { IsLast plan.now cube.now.vars last.now.at last.now.steps.now last.now.run }
+    requires depth { j + 1 ≡ last.now.at }
+    requires stands { Stands cube.now plan.now (length cells.old) j k base }
+    ensures { (p : Part) (i : ℕ) → i < length cells.old
+        → part_at p cells.new i % modulus p
+        ≡ (part_at p cells.old i
+        + spread plan.now (drop j cube.now.vars) (part_at p cube.now.cells) k base i)
+        % modulus p }
+{
+    let v = cube.vars().at(j);
+    let n = cube.shape().at(v as usize) as usize;
+    let steps = steps_if_used(plan, v);
+    for c in 0..n {
+        let to = next(steps, c, base);
+        if to < cells.len() {
+            roll_last(cube, plan, last, cells, k * n + c, to);
+        }
+    }
+}
+
+// The same for any variable j before the last.
+fn roll_from(
+    cube: &Cube,
+    plan: &Plan,
+    last: &Last,
+    cells: &mut [Cell],
+    j: usize,
+    k: usize,
+    base: usize,
+)
+    requires last { IsLast plan.now cube.now.vars last.now.at last.now.steps.now last.now.run }
+    requires depth { j < last.now.at }
+    requires stands { Stands cube.now plan.now (length cells.old) j k base }
+    ensures { (p : Part) (i : ℕ) → i < length cells.old
+        → part_at p cells.new i % modulus p
+        ≡ (part_at p cells.old i
+        + spread plan.now (drop j cube.now.vars) (part_at p cube.now.cells) k base i)
+        % modulus p }
+{
+    if j == last.at - 1 {
+        roll_rows(cube, plan, last, cells, j, k, base);
+        return;
+    }
+    let v = cube.vars().at(j);
+    let n = cube.shape().at(v as usize) as usize;
+    let steps = steps_if_used(plan, v);
+    for c in 0..n {
+        let to = next(steps, c, base);
+        if to < cells.len() {
+            roll_from(cube, plan, last, cells, j + 1, k * n + c, to);
+        }
+    }
+}
+
+// How many of the cube's variables there are up to the last that the plan uses.
+fn used_part(cube: &Cube, plan: &Plan) -> usize
+    ensures within { result ≤ length cube.now.vars }
+    ensures last { 0 < result → uses plan.now (slice_index cube.now.vars (result - 1)) ≡ true }
+    ensures rest { AreUnused plan.now (drop result cube.now.vars) }
+{
+    let mut part = cube.vars().len();
+    while part > 0 && !plan.uses(cube.vars().at(part - 1)) {
+        part -= 1;
+    }
+    part
+}
+
+// Adds each cell of the cube at the number to which it leads.
+fn roll(cube: &Cube, plan: &Plan, cells: &mut [Cell])
+    requires shape { cube.now.shape ≡ plan.now.shape }
+    requires some { 0 < length cells.old }
+    requires few { length cells.old ≤ MOST_PLACES }
+    ensures { (p : Part) (i : ℕ) → i < length cells.old
+        → part_at p cells.new i % modulus p
+        ≡ (part_at p cells.old i
+        + spread plan.now cube.now.vars (part_at p cube.now.cells) 0 0 i) % modulus p }
+{
+    if cube.cells() == 0 {
+        return;
+    }
+    let part = used_part(cube, plan);
+    let run = cells_over(cube.shape(), cube.vars(), part);
+    if part == 0 {
+        add_runs(cube.as_slice(), 0, &[0], run, 0, cells);
+        return;
+    }
+    let last = Last {
+        at: part - 1,
+        steps: plan.steps(cube.vars().at(part - 1)),
+        run,
+    };
+    if last.at == 0 {
+        roll_last(cube, plan, &last, cells, 0, 0);
+    } else {
+        roll_from(cube, plan, &last, cells, 0, 0, 0);
+    }
+}
+
+/// Makes each cell of a table the merge of the cube's cells that pass the plan's filters and lie in
+/// its place. The cells are empty before. It takes no memory.
+pub fn roll_into(cube: &Cube, plan: &Plan, cells: &mut [Cell])
+    requires shape { cube.now.shape ≡ plan.now.shape }
+    requires among { includes_all cube.now.vars (vars_of plan.now) ≡ true }
+    requires few { sum_by (λ c. c.count) cube.now.cells ≤ MOST_PERSONS }
+    requires long { length cells.old ≡ place_count plan.now }
+    requires empty { All (λ c. c ≡ empty_cell) cells.old }
+    // Over any schema and query of which this is the plan.
+    ensures rolled { (schema : SchemaValue) (query : QueryValue) → plan.now ≡ plan_of schema query
+        → cells.new ≡ rolled_up schema query cube.now.shape cube.now.vars cube.now.cells }
+    // So from a cube that holds some records come the cells counted from scratch.
+    ensures counted { (schema : SchemaValue) (query : QueryValue) (records : List Record)
+        → plan.now ≡ plan_of schema query → AllFit cube.now.shape records
+        → Holds cube.now records → cells.new ≡ cells_of schema query records }
+{
+    // Their clauses tell that the cube is whole, and that there is a place.
+    let _ = (cube.cells(), plan.cells());
+    roll(cube, plan, cells);
+    if plan.totals() {
+        plan.add_totals(cells);
+    }
+    know_cells(cells);
+}
