@@ -9,3 +9,4 @@ pub mod Pieces
 pub mod Answering
 pub mod Revising
 pub mod Leading
+pub mod Cubed

@@ -22,18 +22,20 @@ published old new batch number next leads none is base value stands =
     let goes : new.release ≡ release_after base (value.chain ++ batch_of old.release value.held ∷ []) =
     leads ∙ ap (after_batch old.release) theirs ∙ ap (λ r. after_batch r (batch_of old.release value.held)) stands.release
     ∙ sym (fold-append after_batch base value.chain (batch_of old.release value.held ∷ [])) in
-    let number_is : number ≡ old.release.number + 1 = is ∙ ap (λ r. r.number) next.release in
-    (record { chain = value.chain ++ batch_of old.release value.held ∷ []; held = [] },
-    inl (subst (λ (es : List Edit). CanFollow old.release es) stands.held next.can, ap published_line number_is, refl),
-    record { release = goes; held = none })
+    let number_is : number ≡ old.release.number + 1 = is ∙ ap (λ r. r.number) next.release in (
+      record { chain = value.chain ++ batch_of old.release value.held ∷ []; held = [] },
+      inl (subst (λ (es : List Edit). CanFollow old.release es) stands.held next.can, ap published_line number_is, refl),
+      record { release = goes; held = none },
+    )
 
 -- the edits were refused
 pub batch_refused : (old new : State) (kind : EditFaultKind) (edit : ℕ) → batch_refusal old.release old.held ≡ Some (kind, edit) → new.release ≡ old.release → new.held ≡ []
     → PublishLeads old (batch_refusal_line edit (fault_name kind)) new
-batch_refused old new kind edit why same none base value stands =
-    (record { chain = value.chain; held = [] },
-    inr (inl (kind, edit, subst (λ (es : List Edit). batch_refusal old.release es ≡ Some (kind, edit)) stands.held why, refl, refl)),
-    record { release = same ∙ stands.release; held = none })
+batch_refused old new kind edit why same none base value stands = (
+  record { chain = value.chain; held = [] },
+  inr (inl (kind, edit, subst (λ (es : List Edit). batch_refusal old.release es ≡ Some (kind, edit)) stands.held why, refl, refl)),
+  record { release = same ∙ stands.release; held = none },
+)
 
 -- there was no memory
 pub not_published : (state : State) → PublishLeads state memory_line state
