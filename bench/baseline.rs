@@ -5,8 +5,10 @@
 //!
 //! It reads whole files, CSV with quotes, finds codes in hash maps, keeps the persons in a set and
 //! the records in a list, and counts the table of any query by one scan of the list into a dense
-//! array: a record is put into its own place and, with totals, into each margin where it lies. It
-//! prints what the product prints. A file or a line at fault ends it with a message and status 1.
+//! array: a record is put into its own place and, with totals, into each margin where it lies. For
+//! edits it keeps a hash map from persons to places and one of all keys; a batch is made on a copy of
+//! the list and of the places, which then stand in place of the old ones. It prints what the product
+//! prints. A file, a query or an edit at fault ends it with a message and status 1.
 
 use std::borrow::Cow;
 use std::collections::{HashMap, HashSet};
@@ -143,7 +145,7 @@ fn number_up_to(text: &[u8], most: u32) -> Outcome<u32> {
 
 /// What a table may show by: a variable, each category of which is an entry of its own, or a recode
 /// of it, which has an entry for each group.
-#[derive(Default)]
+#[derive(Clone, Default)]
 struct Grouping {
     name: String,
     variable: usize,
@@ -252,7 +254,9 @@ fn read_ptable(bytes: &[u8]) -> Outcome<Vec<Option<i16>>> {
     Ok(pvalues)
 }
 
+#[derive(Clone)]
 struct Record {
+    person: u32,
     key: u8,
     categories: Vec<u16>,
 }
@@ -288,7 +292,7 @@ fn read_people(
         if records.len() == MOST_PERSONS {
             return Err("there are too many persons".into());
         }
-        records.push(Record { key, categories });
+        records.push(Record { person, key, categories });
     }
     Ok(records)
 }
@@ -437,16 +441,115 @@ fn print_field(out: &mut impl Write, text: &str) -> io::Result<()> {
     }
 }
 
+enum Edit {
+    Add(Record),
+    Amend(u32, Vec<(usize, u16)>),
+    Drop(u32),
+}
+
+impl Edit {
+    /// Reads `add PERSON KEY VAR=CODE ..`, `amend PERSON VAR=CODE ..` or `drop PERSON`.
+    fn read(line: &str, (variables, categories_of): &Variables) -> Outcome<Edit> {
+        let mut words = line.split_whitespace();
+        let kind = words.next().ok_or("a line is empty")?;
+        let person = number(words.next().ok_or("a person is missing")?.as_bytes())?;
+        let key = match kind {
+            "add" => number_up_to(words.next().ok_or("a key is missing")?.as_bytes(), 255)? as u8,
+            _ => 0,
+        };
+        let settings = words
+            .map(|word| {
+                let (name, code) = word.split_once('=').ok_or("a setting has no =")?;
+                let variable = place_of_name(variables, name).ok_or("a variable is unknown")?;
+                let category = categories_of[variable].get(code.as_bytes());
+                Ok((variable, *category.ok_or("a code is unknown")?))
+            })
+            .collect::<Outcome<Vec<(usize, u16)>>>()?;
+        match kind {
+            "add" if settings.len() == variables.len() => {
+                let mut categories = vec![0; variables.len()];
+                for (variable, category) in settings {
+                    categories[variable] = category;
+                }
+                Ok(Edit::Add(Record { person, key, categories }))
+            }
+            "amend" if !settings.is_empty() => Ok(Edit::Amend(person, settings)),
+            "drop" if settings.is_empty() => Ok(Edit::Drop(person)),
+            _ => Err("an edit is not understood".into()),
+        }
+    }
+}
+
+/// A release, with what edits need: where each person's record is, and the key of each person who
+/// ever had one. It is made when the first edit comes.
+struct Release {
+    number: u32,
+    records: Vec<Record>,
+    places: HashMap<u32, usize>,
+    keys: HashMap<u32, u8>,
+}
+
+impl Release {
+    fn first(records: Vec<Record>) -> Release {
+        Release { number: 0, records, places: HashMap::new(), keys: HashMap::new() }
+    }
+
+    fn index(&mut self) {
+        if self.places.is_empty() {
+            let places = self.records.iter().enumerate();
+            self.places = places.map(|(place, record)| (record.person, place)).collect();
+            self.keys = self.records.iter().map(|record| (record.person, record.key)).collect();
+        }
+    }
+
+    /// Makes the edits, all or none.
+    fn publish(&mut self, edits: Vec<Edit>) -> Outcome<()> {
+        self.index();
+        let (mut records, mut places) = (self.records.clone(), self.places.clone());
+        let mut keys = Vec::new();
+        for edit in edits {
+            match edit {
+                Edit::Add(record) => {
+                    let other_key = self.keys.get(&record.person).is_some_and(|key| *key != record.key);
+                    if other_key || places.insert(record.person, records.len()).is_some() {
+                        return Err("a person can't be added".into());
+                    }
+                    keys.push((record.person, record.key));
+                    records.push(record);
+                }
+                Edit::Amend(person, settings) => {
+                    let place = *places.get(&person).ok_or("a person has no record")?;
+                    for (variable, category) in settings {
+                        records[place].categories[variable] = category;
+                    }
+                }
+                Edit::Drop(person) => {
+                    let place = places.remove(&person).ok_or("a person has no record")?;
+                    records.swap_remove(place);
+                    if let Some(moved) = records.get(place) {
+                        places.insert(moved.person, place);
+                    }
+                }
+            }
+        }
+        (self.records, self.places) = (records, places);
+        self.keys.extend(keys);
+        self.number += 1;
+        Ok(())
+    }
+}
+
 fn print_table(
     out: &mut impl Write,
     query: &Query,
+    number: u32,
     records: &[Record],
     pvalues: &[Option<i16>],
     threshold: u32,
 ) -> io::Result<()> {
     let cells = count(query, records);
     let sizes = query.sizes();
-    writeln!(out, "release 0")?;
+    writeln!(out, "release {number}")?;
     for dimension in &query.dimensions {
         print_field(out, &dimension.name)?;
     }
@@ -484,13 +587,26 @@ fn main() -> Outcome<()> {
         path => read_recodes(&fs::read(path)?, &schema)?,
     };
     let pvalues = read_ptable(&fs::read(ptable)?)?;
-    let records = read_people(&fs::read(people)?, &schema)?;
-    let groupings: Vec<Grouping> = schema.0.into_iter().chain(recodes).collect();
+    let mut release = Release::first(read_people(&fs::read(people)?, &schema)?);
+    let groupings: Vec<Grouping> = schema.0.iter().cloned().chain(recodes).collect();
+    let mut held = Vec::new();
     let mut out = BufWriter::new(io::stdout().lock());
     for line in fs::read_to_string(script)?.lines() {
-        let query = line.strip_prefix("a ").ok_or("a line is not of lane a")?;
-        let query = Query::read(query, &groupings)?;
-        print_table(&mut out, &query, &records, &pvalues, threshold)?;
+        match line.split_once(' ').ok_or("a line has no lane")? {
+            ("custodian", "publish") => {
+                release.publish(std::mem::take(&mut held))?;
+                writeln!(out, "published {}", release.number)?;
+            }
+            ("custodian", edit) => {
+                held.push(Edit::read(edit, &schema)?);
+                writeln!(out, "held {}", held.len())?;
+            }
+            (_, query) => {
+                let query = Query::read(query, &groupings)?;
+                let (number, records) = (release.number, &release.records);
+                print_table(&mut out, &query, number, records, &pvalues, threshold)?;
+            }
+        }
     }
     Ok(out.flush()?)
 }

@@ -28,8 +28,11 @@ FILTERED = "AGE by TENURE where SEX in (1)"
 LARGEST = "AREA by AGE"
 RECODED = "AGE10 by TENURE with totals with labels"
 REFUSED = "NOSUCH"
+# How many edits a batch has, where a script has batches in place of queries.
+EDITS = {"a batch of 1 edit": 1, "a batch of 10,000 edits": 10_000}
+ONE_EDIT, MANY_EDITS = ((name,) for name in EDITS)
 ASCENDING, SHUFFLED = "ascending", "shuffled"
-# Persons, their order, the queries in turn, and how many lines: one, and for a further table many.
+# Persons, the queries in turn or the batch, and how many of them: one, and for a further one many.
 ONE = 1
 PAIRS = [
     (SMALL, ONE_DIMENSION, 1_000),
@@ -39,10 +42,13 @@ PAIRS = [
     (LARGE, (FILTERED,), 100),
     (LARGE, (LARGEST,), 100),
     (LARGE, (RECODED,), 100),
+    (LARGE, ONE_EDIT, 11),
+    (LARGE, MANY_EDITS, 11),
     (NONE, ("AGE",), 20_000),
     (NONE, (LARGEST,), 400),
     (NONE, (REFUSED,), 20_000),
 ]
+QUERIES = [queries for persons, queries, _ in PAIRS if persons == LARGE and queries[0] not in EDITS]
 RUNS = {True: 15, False: 5}
 PROGRAM, PLAIN = "program", "baseline"
 MIB = 1024 * 1024
@@ -81,10 +87,30 @@ def make_input(folder, persons, order):
     subprocess.run([sys.executable, f"{HERE}/generate.py", *words], check=True)
 
 
+def batch(number, edits):
+    """The lines of a batch: persons are amended, dropped and added in turn."""
+    for place in range(number * edits, (number + 1) * edits):
+        kinds = [
+            f"amend {place + 1} TENURE=1",
+            f"drop {place + 1}",
+            f"add {2 * LARGE + place} 7 AREA=a0 AGE=0 SEX=1 TENURE=1",
+        ]
+        yield f"custodian {kinds[place % len(kinds)]}\n"
+    yield "custodian publish\n"
+
+
+def script_lines(case):
+    for line in range(case.lines):
+        query = case.queries[line % len(case.queries)]
+        if query in EDITS:
+            yield from batch(line, EDITS[query])
+        else:
+            yield f"a table {query}\n"
+
+
 def make_script(path, case):
     with open(path, "w", encoding="ascii") as out:
-        for line in range(case.lines):
-            out.write(f"a table {case.queries[line % len(case.queries)]}\n")
+        out.writelines(script_lines(case))
 
 
 def words_of(program, folder, script):
@@ -159,7 +185,7 @@ class Further:
 
     def row(self, most):
         times = [f"{self.median(who) * 1e3:.2f} ms" for who in (PROGRAM, PLAIN)]
-        what = f"{self.of.persons:,} persons, each further table: {self.of.name()}"
+        what = f"{self.of.persons:,} persons, each further line or batch: {self.of.name()}"
         return (f"{what}, {' beside '.join(times)}", self.ratio(), most)
 
 
@@ -175,7 +201,8 @@ def targets(first, further, shuffled):
     """Each target with what was reached; `first` and `further` find a case of one line, and what
     each line after it took, by persons and queries."""
     one = first[LARGE, ONE_DIMENSION]
-    peak = max(case.peak[PROGRAM] for (persons, _), case in first.items() if persons == LARGE) / MIB
+    peak = max(first[LARGE, queries].peak[PROGRAM] for queries in QUERIES) / MIB
+    revised = max(further[LARGE, edits].of.peak[PROGRAM] for edits in (ONE_EDIT, MANY_EDITS)) / MIB
     growth = one.median(PROGRAM) / first[SMALL, ONE_DIMENSION].median(PROGRAM)
     yield (f"{LARGE:,} persons, one line: time beside the plain program", one.ratio(), 0.6)
     yield further[LARGE, ONE_DIMENSION].row(0.7)
@@ -185,7 +212,10 @@ def targets(first, further, shuffled):
     yield further[LARGE, (RECODED,)].row(0.35)
     yield further[LARGE, (FILTERED,)].row(0.55)
     yield further[LARGE, (LARGEST,)].row(0.55)
+    yield further[LARGE, ONE_EDIT].row(1.0)
+    yield further[LARGE, MANY_EDITS].row(1.0)
     yield ("peak memory of the process, MiB", peak, 60)
+    yield ("the same with batches, MiB", revised, 130)
     yield (f"time at {LARGE:,} beside {SMALL:,} persons", growth, 55)
     yield ("persons in another order: time beside the plain program", shuffled.ratio(), None)
     yield ("persons in another order: peak memory, MiB", shuffled.peak[PROGRAM] / MIB, None)
