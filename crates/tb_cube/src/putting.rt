@@ -1,4 +1,4 @@
-// Records put into the cells of their categories. Most cubes have one to four variables: for these
+// Records put into the cells of their categories. Most cubes have one to three variables: for these
 // the loops are written out, and the strides read before the loop.
 
 ghost use Rattle.std.specs.Prelude.{◌≡◌, ◌+◌, ◌<◌, ◌≤◌, ◌^◌, All, length};

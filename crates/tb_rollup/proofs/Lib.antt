@@ -3,3 +3,4 @@ pub mod Zipped
 pub mod Among
 pub mod Tables
 pub mod Added
+pub mod Own

@@ -169,7 +169,30 @@ fn cube_for(alloc: Global, shape: &Shape, vars: &VarSet, records: &[Record]) -> 
     Ok(cube)
 }
 
-// Whether the cells rolled up from a cube over these variables are as wanted.
+// Whether the cells rolled up from the cube of the plan's own variables are as wanted.
+fn is_rolled_from_own(
+    alloc: Global,
+    plan: &Plan,
+    shape: &Shape,
+    records: &[Record],
+    want: &[(u32, u8)],
+) -> Result<bool, Memory>
+    requires shape { plan.now.shape ≡ shape.now }
+    requires fit { AllFit shape.now records.now }
+    requires few { length records.now ≤ MOST_PERSONS }
+{
+    let Some(_) = plan.cube_cells() else {
+        return Ok(false);
+    };
+    let mut cube = Cube::zero(alloc, shape, plan.vars())?;
+    cube.add_all(records);
+    let _ = cube.cells();
+    let mut cells = empty_cells(alloc, plan)?;
+    roll_into(&cube, plan, &mut cells);
+    Ok(is_like(&cells, want))
+}
+
+// Whether those from a cube over these variables are.
 fn is_rolled(
     alloc: Global,
     plan: &Plan,
@@ -223,7 +246,7 @@ fn is_right(
     }
     let plan = plan_for(alloc, schema, line)?;
     Ok(
-        is_rolled(alloc, &plan, schema.shape(), plan.vars(), records, want)?
+        is_rolled_from_own(alloc, &plan, schema.shape(), records, want)?
             && is_rolled(alloc, &plan, schema.shape(), all, records, want)?
             && is_scanned(alloc, &plan, records, want)?,
     )
