@@ -1,11 +1,9 @@
 -- A cube of the records that are lent in pieces.
-use Rattle.std.proofs.Common.{◌≡◌, ◌∙◌, ap, sym, subst, refl, ℕ, ◌+◌, ◌<◌, ◌≤◌, List, [], ◌∷◌, ◌++◌, length, replicate, get_or, arith}
-use Rattle.std.specs.Prelude.{All}
-use Rattle.std.proofs.lemmas.List.{get_or-replicate, length-replicate}
+use Rattle.std.proofs.Common.{◌≡◌, ◌∙◌, ap, sym, subst, refl, ℕ, zero, suc, ◌+◌, ◌<◌, ◌≤◌, List, [], ◌∷◌, ◌++◌, length, length-append, sum_by, take, get_or, arith}
+use Rattle.std.specs.Prelude.{All, flat_map}
 use Rattle.tb_base.specs.declared.cells.Cell.{Cell}
 use Rattle.tb_base.specs.declared.people.TheConstants.{MOST_PERSONS}
 use Rattle.tb_base.specs.declared.records.Record.{Record}
-use Rattle.tb_base.specs.Cells.{empty_cell, merged_all}
 use Rattle.tb_base.specs.Records.{AllFit}
 use Rattle.tb_model.specs.Cubes.{cube_of}
 use Rattle.tb_model.proofs.CubeLemmas.{cube_of-append}
@@ -22,6 +20,14 @@ cube-more old new shape vars before piece was is =
 pub cube-room : (cube : CubeValue) (shape vars : List ℕ) (before : List Record) (more : ℕ) → cube ≡ cube_over shape vars before → length before + more ≤ MOST_PERSONS → All (λ (c : Cell). c.count + more ≤ MOST_PERSONS) cube.cells
 cube-room cube shape vars before more is few = room-held cube before more (subst (λ (c : CubeValue). Holds c before) (sym is) refl) few
 
--- the cells of no record are empty
-pub all-empty : (n : ℕ) → All (λ (c : Cell). c ≡ empty_cell) (replicate n empty_cell)
-all-empty n k d below = get_or-replicate n k empty_cell d (omega (arith, below, length-replicate n empty_cell))
+-- a piece and those before it are together no longer than all
+pub pieces-fit : (ps : List (List Record)) (i : ℕ) → i < length ps → length (flat_map (λ p. p) (take i ps)) + length (get_or ps i []) ≤ length (flat_map (λ p. p) ps)
+pieces-fit [] i h = absurd (omega arith)
+pieces-fit (p ∷ ps) zero h = omega (arith, length-append p (flat_map (λ q. q) ps))
+pieces-fit (p ∷ ps) (suc i) h =
+    omega (arith, pieces-fit ps i (omega arith), length-append p (flat_map (λ q. q) (take i ps)), length-append p (flat_map (λ q. q) ps))
+
+-- the counts of the cube of some records add up to their number
+pub cube-counts : (shape vars : List ℕ) (records : List Record) (cube : CubeValue) → cube ≡ cube_over shape vars records → All (λ v. v < length shape) vars → AllFit shape records → sum_by (λ c. c.count) cube.cells ≡ length records
+cube-counts shape vars records cube is there fit =
+    ap (λ (c : CubeValue). sum_by (λ (d : Cell). d.count) c.cells) is ∙ counts-held (cube_over shape vars records) records there fit refl

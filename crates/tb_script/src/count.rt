@@ -93,6 +93,27 @@ fn scan<L: Ledger>(
     Ok(cells)
 }
 
+// The cells of a plan's table over a release, whose records are lent once.
+fn count<L: Ledger>(
+    alloc: Global,
+    shape: &Shape,
+    plan: &Plan,
+    release: &Release,
+    steps: &mut Steps<L>,
+) -> Result<Vec<Cell>, Memory>
+    requires shape { plan.now.shape ≡ shape.now }
+    requires fit { AllFit shape.now release.now.records }
+    ensures price { steps.new ≤ steps.old + length release.now.records }
+    ensures cells { (schema : SchemaValue) (query : QueryValue) → plan.now ≡ plan_of schema query
+        → IfOk result (λ cells. cells.items ≡ cells_of schema query release.now.records) }
+{
+    if plan.cube_cells().is_some() {
+        roll_up(alloc, shape, plan, release, steps)
+    } else {
+        scan(alloc, plan, release, steps)
+    }
+}
+
 /// The text of a query's table over a release, whose records are lent once: it is rolled up from
 /// the cube of its variables, or, where that has too many cells, counted from the records. It takes
 /// memory for the plan, the cube, the cells and the text.
@@ -112,10 +133,6 @@ pub fn print_table<L: Ledger>(
 {
     release.soundness();
     let plan = Plan::of(alloc, &setup.schema, query)?;
-    let cells = if plan.cube_cells().is_some() {
-        roll_up(alloc, setup.schema.shape(), &plan, release, steps)?
-    } else {
-        scan(alloc, &plan, release, steps)?
-    };
+    let cells = count(alloc, setup.schema.shape(), &plan, release, steps)?;
     table_text(alloc, setup, query, release.number(), &cells)
 }
