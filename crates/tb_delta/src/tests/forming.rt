@@ -96,7 +96,10 @@ pub fn cube_for(
     ensures shape { IfOk result (λ cube. cube.shape ≡ shape.now) }
     ensures held { IfOk result (λ cube. Holds cube records.now) }
 {
-    if records.len() > MOST_PERSONS || !are_some_of(shape, numbers) {
+    if records.len() > MOST_PERSONS {
+        return Err(Memory);
+    }
+    if !are_some_of(shape, numbers) {
         return Err(Memory);
     }
     let vars = VarSet::of(alloc, numbers)?;
