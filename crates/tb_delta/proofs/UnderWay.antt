@@ -1,14 +1,13 @@
 -- A cube between two releases.
 use Rattle.std.proofs.Common.{◌≡◌, ℕ, ◌+◌, ◌<◌, List, [], ◌∷◌, length, drop, get_or, refl, sym, ap, subst, ◌∙◌}
 use Rattle.std.specs.Prelude.{All, fold}
-use Rattle.tb_base.specs.declared.records.Record.{Record}
 use Rattle.tb_model.specs.Releases.{ReleaseValue}
-use Rattle.tb_cube.specs.Cubes.{cube_over, CubeValue, Holds}
+use Rattle.tb_cube.specs.Cubes.{cube_over, CubeValue}
 use Rattle.tb_release.specs.declared.edits.Change.{Change}
 use Rattle.tb_release.specs.declared.edits.Edit.{Edit}
 use Rattle.tb_release.specs.Releases.{IsSound}
 use Rattle.tb_release.specs.Edits.{edited}
-use Rattle.tb_release.specs.Possible.{ArePossible, IsPossible}
+use Rattle.tb_release.specs.Possible.{ArePossible}
 use Rattle.tb_release.specs.Batches.{BatchValue, change_of, changes_of}
 use Rattle.tb_release.specs.Chains.{after_batch, changed}
 use Rattle.tb_release.specs.Results.{ChangeFits}
