@@ -49,7 +49,8 @@ PAIRS = [
     (NONE, (REFUSED,), 20_000),
 ]
 QUERIES = [queries for persons, queries, _ in PAIRS if persons == LARGE and queries[0] not in EDITS]
-RUNS = {True: 15, False: 5}
+# How often each case is run, and the one that shows how long loading takes.
+RUNS, LOADING_RUNS = 5, 15
 PROGRAM, PLAIN = "program", "baseline"
 MIB = 1024 * 1024
 
@@ -62,7 +63,8 @@ class Case:
         self.persons, self.order, self.queries, self.lines = persons, order, queries, lines
         # The plain program refuses no query.
         self.whos = [PROGRAM] if REFUSED in queries else [PROGRAM, PLAIN]
-        self.runs = RUNS[lines == ONE and persons == LARGE]
+        is_loading = lines == ONE and persons == LARGE and queries == ONE_DIMENSION
+        self.runs = LOADING_RUNS if is_loading else RUNS
         self.seconds = {who: [] for who in self.whos}
         self.peak = {who: 0 for who in self.whos}
 
