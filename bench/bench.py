@@ -46,7 +46,7 @@ PAIRS = [
     (LARGE, MANY_EDITS, 11),
     (NONE, ("AGE",), 20_000),
     (NONE, (LARGEST,), 400),
-    (NONE, (REFUSED,), 20_000),
+    (NONE, (REFUSED,), 400_000),
 ]
 QUERIES = [queries for persons, queries, _ in PAIRS if persons == LARGE and queries[0] not in EDITS]
 # How often each case is run, and the one that shows how long loading takes.
