@@ -2,16 +2,17 @@
 use Rattle.std.proofs.Common.{◌≡◌, refl, ap, ℕ, ◌+◌, ◌≤◌, List, [], ◌∷◌, ◌++◌, Option, Some, inl, inr, arith}
 use Rattle.std.specs.Prelude.{codes}
 use Rattle.std.proofs.lemmas.Grind.{common_steps}
+use Rattle.tb_core.specs.Desks.{DeskValue, current_of}
 use Rattle.tb_model.specs.Queries.{QueryValue}
-use Rattle.tb_model.specs.Releases.{ReleaseValue}
 use Rattle.tb_model.specs.Setups.{SetupValue}
 use Rattle.tb_model.specs.Texts.{table_text}
 use Rattle.tb_query.specs.Faults.{Reads, IsRefused}
 use Rattle.tb_query.specs.FaultNames.{fault_name, fault_position}
 use Rattle.tb_query.specs.declared.fault.QueryFault.{QueryFault}
 use Rattle.tb_rows.specs.FaultNames.{FaultNameValue}
-use Rattle.tb_script.specs.Replies.{IsAnswer, table_price}
+use Rattle.tb_script.specs.Replies.{table_price}
 use Rattle.tb_script.specs.ReplyLines.{memory_line, refusal_line}
+use Rattle.tb_script.specs.States.{Answers}
 
 -- the pieces of the lines for refusals, one after another
 pub refusal-parts : (a b w v p q : List ℕ) → a ≡ b → w ≡ v → p ≡ q → codes "refused " ++ (a ++ 32 ∷ (w ++ 32 ∷ (p ++ 10 ∷ []))) ≡ codes "refused " ++ ((((b ++ 32 ∷ []) ++ v) ++ 32 ∷ q) ++ 10 ∷ [])
@@ -20,19 +21,15 @@ refusal-parts a b w v p q h k l = rw (h, k, l) (ap (λ t. codes "refused " ++ t)
 pub batch-parts : (a b c d w v : List ℕ) → a ≡ b → c ≡ d → w ≡ v → codes "refused batch " ++ (a ++ 32 ∷ (c ++ 32 ∷ (w ++ 10 ∷ []))) ≡ codes "refused batch " ++ (((((b ++ 32 ∷ []) ++ d) ++ 32 ∷ []) ++ v) ++ 10 ∷ [])
 batch-parts a b c d w v h k l = rw (h, k, l) (ap (λ t. codes "refused batch " ++ t) (grind (arith, common_steps)))
 
-module _ (setup : SetupValue) (release : ReleaseValue) (line : List ℕ) (p q : ℕ) where
-  -- the line's answer may have this text, at no more than its price
-  abbrev pub Answers : List ℕ → Type 0
-  Answers text = (price : ℕ) × IsAnswer setup release line (record { text = text; price = price }) × (q ≤ p + price)
+module _ (setup : SetupValue) (desk : DeskValue) (line : List ℕ) (p q : ℕ) where
+  pub by-table : (query : QueryValue) (text : List ℕ) → Reads setup.schema line query → text ≡ table_text setup (current_of desk) query → q ≤ p + table_price setup (current_of desk) query → Answers setup desk line text p q
+  by-table query text reads same cost = (table_price setup (current_of desk) query, inl (query, reads, inl (ap (λ t. record { text = t; price = table_price setup (current_of desk) query }) same)), cost)
 
-  pub by-table : (query : QueryValue) (text : List ℕ) → Reads setup.schema line query → text ≡ table_text setup release query → q ≤ p + table_price setup release query → Answers text
-  by-table query text reads same cost = (table_price setup release query, inl (query, reads, inl (ap (λ t. record { text = t; price = table_price setup release query }) same)), cost)
+  pub by-memory : (query : QueryValue) → Reads setup.schema line query → q ≤ p + table_price setup (current_of desk) query → Answers setup desk line memory_line p q
+  by-memory query reads cost = (table_price setup (current_of desk) query, inl (query, reads, inr refl), cost)
 
-  pub by-memory : (query : QueryValue) → Reads setup.schema line query → q ≤ p + table_price setup release query → Answers memory_line
-  by-memory query reads cost = (table_price setup release query, inl (query, reads, inr refl), cost)
-
-  pub by-refusal : (fault : QueryFault) (name : FaultNameValue) (at : Option ℕ) → IsRefused setup.schema line fault → fault_name fault ≡ Some name → at ≡ fault_position fault → q ≡ p → Answers (refusal_line name at)
+  pub by-refusal : (fault : QueryFault) (name : FaultNameValue) (at : Option ℕ) → IsRefused setup.schema line fault → fault_name fault ≡ Some name → at ≡ fault_position fault → q ≡ p → Answers setup desk line (refusal_line name at) p q
   by-refusal fault name at refused named is_at free = (0, inr (refl, inl (fault, name, refused, named, ap (refusal_line name) is_at)), omega (arith, free))
 
-  pub by-nothing : q ≡ p → Answers memory_line
+  pub by-nothing : q ≡ p → Answers setup desk line memory_line p q
   by-nothing free = (0, inr (refl, inr refl), omega (arith, free))

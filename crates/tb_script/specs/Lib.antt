@@ -8,4 +8,5 @@ pub mod ReplyLines
 pub mod Replies
 pub mod ReplyTexts
 pub mod States
+pub mod Counting
 pub mod Setups

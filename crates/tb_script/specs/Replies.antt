@@ -1,10 +1,12 @@
 -- The replies to the lines of a script.
-use Rattle.std.specs.Prelude.{◌≡◌, ◌⊎◌, ◌<◌, ◌+◌, ◌++◌, ◌∷◌, ℕ, List, [], length, max}
+use Rattle.std.specs.Prelude.{◌≡◌, ◌⊎◌, ◌<◌, ◌≤◌, ◌+◌, ◌++◌, ◌∷◌, ℕ, List, [], length, max}
 use Rattle.std.specs.Prelude.{Some, if◌then◌else◌, is_none}
 use Rattle.tb_model.specs.Releases.{ReleaseValue}
 use Rattle.tb_model.specs.Setups.{SetupValue}
 use Rattle.tb_model.specs.Queries.{QueryValue}
 use Rattle.tb_model.specs.Texts.{table_text}
+use Rattle.tb_cache.specs.declared.TheConstants.{MOST_ENTRIES}
+use Rattle.tb_core.specs.declared.desk.Stats.{Stats}
 use Rattle.tb_plan.specs.Plans.{plan_of, cube_cells_of}
 use Rattle.tb_query.specs.Faults as queries
 use Rattle.tb_query.specs.FaultNames as query_names
@@ -23,6 +25,7 @@ use Rattle.tb_script.specs.Asks.{asks_of}
 use Rattle.tb_script.specs.Outputs.{ReplyValue}
 use Rattle.tb_script.specs.ReplyLines.{memory_line, refusal_line, held_line, edit_refusal_line}
 use Rattle.tb_script.specs.ReplyLines.{too_many, published_line, batch_refusal_line}
+use Rattle.tb_script.specs.ReplyLines.{stats_line, cleared_line, capacity_line}
 use Rattle.tb_script.specs.Scripts.{ScriptLine}
 use Rattle.tb_script.specs.declared.asks.Asks.{Asks}
 use Rattle.tb_script.specs.declared.asks.Asks.TheVariants as asks
@@ -130,6 +133,22 @@ IsPublishReply release state text next =
     IsPublished release state text next
     ⊎ (IsBatchRefusal release state text next ⊎ (text ≡ memory_line) × (next ≡ state))
 
+-- the desk's numbers: the release is that after the chain, and the others are within their bounds
+pub record AreStats (chain : List BatchValue) (stats : Stats) : Type 0 where
+  pub release : stats.release ≡ length chain
+  pub hits : stats.hits ≤ stats.looks
+  pub entries : stats.entries ≤ stats.capacity
+  pub some : 0 < stats.capacity
+  pub few : stats.capacity ≤ MOST_ENTRIES
+
+-- the reply to `stats`
+abbrev pub IsStatsReply : List BatchValue → List ℕ → Type 0
+IsStatsReply chain text = (stats : Stats) × AreStats chain stats × (text ≡ stats_line stats)
+
+-- the reply to `cache K`: the capacity is K from then on, but where memory was refused
+abbrev pub IsCapacityReply : ℕ → List ℕ → Type 0
+IsCapacityReply capacity text = (text ≡ capacity_line capacity) ⊎ (text ≡ memory_line)
+
 -- the reply to a line that asks for this, over the current release; only an edit and `publish`
 -- change what comes after
 abbrev pub IsReplyTo : Asks → SetupValue → ReleaseValue → StateValue → List ℕ → ReplyValue
@@ -143,6 +162,12 @@ IsReplyTo asks.Edit setup release state line reply next =
     × IsEditReply setup line state.held reply.text next.held
 IsReplyTo asks.Publish setup release state line reply next =
     (reply.price ≡ 0) × IsPublishReply release state reply.text next
+IsReplyTo asks.Stats setup release state line reply next =
+    (reply.price ≡ 0) × IsStatsReply state.chain reply.text × (next ≡ state)
+IsReplyTo asks.Clear setup release state line reply next =
+    (reply ≡ free_reply cleared_line) × (next ≡ state)
+IsReplyTo (asks.Cache capacity) setup release state line reply next =
+    (reply.price ≡ 0) × IsCapacityReply capacity reply.text × (next ≡ state)
 
 -- the reply to a lane's line, over the release to which the chain has led from release 0
 abbrev pub IsReply : SetupValue → ReleaseValue → StateValue → ScriptLine → ReplyValue → StateValue

@@ -1,7 +1,8 @@
 -- The text of a reply as the program keeps it.
 use Rattle.std.specs.Prelude.{ℕ, List, []}
 use Rattle.tb_script.specs.ReplyLines.{memory_line, refusal_line, held_line, edit_refusal_line}
-use Rattle.tb_script.specs.ReplyLines.{published_line, batch_refusal_line}
+use Rattle.tb_script.specs.ReplyLines.{published_line, batch_refusal_line, stats_line}
+use Rattle.tb_script.specs.ReplyLines.{cleared_line, capacity_line}
 use Rattle.tb_script.specs.declared.reply.Reply.{Reply}
 use Rattle.tb_script.specs.declared.reply.Reply.TheVariants as replies
 
@@ -13,4 +14,7 @@ reply_text (replies.Held count) = held_line count
 reply_text (replies.EditRefused fault) = edit_refusal_line fault
 reply_text (replies.Published number) = published_line number
 reply_text (replies.BatchRefused edit fault) = batch_refusal_line edit fault
+reply_text (replies.Stats stats) = stats_line stats
+reply_text replies.Cleared = cleared_line
+reply_text (replies.Capacity capacity) = capacity_line capacity
 reply_text replies.Memory = memory_line

@@ -4,10 +4,12 @@ ghost use Rattle.std.specs.Prelude.{◌≡◌, ◌≤◌, ◌++◌, codes, decim
 ghost use Rattle.tb_io.specs.Faults.{HasRisen};
 ghost use Rattle.tb_io.specs.Taken.{Took, TookPart};
 ghost use Rattle.tb_io.specs.declared.answers.Wrote.TheVariants as wrote;
-ghost use Rattle.tb_script.specs.ReplyLines.{batch_refusal_line, refusal_line};
+ghost use Rattle.tb_script.specs.ReplyLines.{batch_refusal_line, refusal_line, stats_line};
 ghost use Rattle.tb_script.specs.ReplyTexts.{reply_text};
 
+use itoa::Buffer;
 use tb_base::print_number;
+use tb_core::Stats;
 use tb_io::{Sink, Wrote, write_all};
 use tb_rows::FaultName;
 
@@ -28,6 +30,12 @@ pub(crate) enum Reply {
     Published(u32),
     /// The held edits are refused at the edit of this number.
     BatchRefused(u32, FaultName),
+    /// The desk's numbers.
+    Stats(Stats),
+    /// The cubes are forgotten.
+    Cleared,
+    /// So many cubes may be kept.
+    Capacity(u32),
     /// The memory for it is refused.
     Memory,
 }
@@ -105,6 +113,43 @@ fn write_batch_refusal<O: Sink>(out: &mut O, edit: u32, fault: &FaultName) -> Wr
     )
 }
 
+// Writes the line of the desk's numbers.
+fn write_stats<O: Sink>(out: &mut O, stats: &Stats) -> Wrote
+    ensures count { O.faults out.old ≤ O.faults out.new }
+    ensures failed { result ≡ wrote.Failed → HasRisen (O.faults out.old) (O.faults out.new) }
+    ensures all { result ≡ wrote.All
+        → Took (O.taken out.old) (O.taken out.new) (stats_line stats.now) }
+    ensures part { result ≡ wrote.Failed
+        → TookPart (O.taken out.old) (O.taken out.new) (stats_line stats.now) }
+{
+    let mut first = Buffer::new();
+    let mut second = Buffer::new();
+    let mut third = Buffer::new();
+    let mut fourth = Buffer::new();
+    let mut fifth = Buffer::new();
+    let release = first.format(stats.release).as_bytes();
+    let looks = second.format(stats.looks).as_bytes();
+    let hits = third.format(stats.hits).as_bytes();
+    let entries = fourth.format(stats.entries).as_bytes();
+    let capacity = fifth.format(stats.capacity).as_bytes();
+    write_all(
+        out,
+        &[
+            b"stats release ",
+            release,
+            b" looks ",
+            looks,
+            b" hits ",
+            hits,
+            b" entries ",
+            entries,
+            b" capacity ",
+            capacity,
+            b"\n",
+        ],
+    )
+}
+
 impl Reply {
     /// Writes the reply's text. It takes no memory.
     pub(crate) fn write<O: Sink>(&self, out: &mut O) -> Wrote
@@ -123,6 +168,9 @@ impl Reply {
             Reply::EditRefused(fault) => write_fault(out, b"refused edit ", fault),
             Reply::Published(number) => write_number(out, b"published ", *number),
             Reply::BatchRefused(edit, fault) => write_batch_refusal(out, *edit, fault),
+            Reply::Stats(stats) => write_stats(out, stats),
+            Reply::Cleared => out.write(b"cleared\n"),
+            Reply::Capacity(capacity) => write_number(out, b"cache ", *capacity),
             Reply::Memory => out.write(b"memory\n"),
         }
     }

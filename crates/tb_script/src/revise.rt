@@ -1,27 +1,27 @@
 // The custodian's lines that change what comes after them.
 
-ghost use Rattle.std.specs.Prelude.{◌≡◌, ◌≤◌, All, List, length};
-ghost use Rattle.tb_base.specs.Records.{AllFit};
+ghost use Rattle.std.specs.Prelude.{◌≡◌, ◌≤◌, All, length};
 ghost use Rattle.tb_model.specs.Schemas.{shape_of};
-ghost use Rattle.tb_release.specs.Batches.{BatchValue};
 ghost use Rattle.tb_release.specs.Laws.{EditFits};
 ghost use Rattle.tb_script.specs.Replies.{IsEditReply};
 ghost use Rattle.tb_script.specs.ReplyLines.{too_many};
 ghost use Rattle.tb_script.specs.ReplyTexts.{reply_text};
 ghost use Rattle.tb_script.specs.Setups.{setup_value};
-ghost use Rattle.tb_script.specs.States.{PublishLeads, StateFits};
+ghost use Rattle.tb_script.specs.States.{LeadsOn, PublishLeads};
 
 use crate::reply::Reply;
 use std::alloc::Global;
-use tb_release::{EditFault, Edits, Pushed, Release, next};
+use std::sync::Arc;
+use tb_core::Desk;
+use tb_release::{EditFault, Edits, Pushed, next};
 use tb_revise::read_edit;
 use tb_rows::FaultName;
 use tb_text::Setup;
 
-/// What the lines of a script have led to: the current release, and the edits that are held.
+/// What the lines of a script have led to: the desk, and the edits that are held.
 #[derive(Drop)]
 pub(crate) struct State {
-    pub release: Release,
+    pub desk: Desk,
     pub held: Edits,
 }
 
@@ -57,18 +57,30 @@ pub(crate) fn hold(alloc: Global, setup: &Setup, held: &mut Edits, line: &[u8]) 
     }
 }
 
+// Makes edits on the current release: then the next one is current, whose number is returned.
+fn lead_on(alloc: Global, desk: &mut Desk, edits: &Edits) -> Result<u32, EditFault>
+    requires { All (EditFits desk.old.shape) edits.now }
+    ensures { LeadsOn desk.old edits.now result desk.new }
+{
+    let taken = desk.take(None)?;
+    let (release, batch) = next(alloc, desk.shape(), &taken.release, edits)?;
+    let number = release.number();
+    let release = Arc::new(alloc, release)?;
+    desk.adopt(release, Arc::new(alloc, batch)?)?;
+    Ok(number)
+}
+
 /// Makes the held edits on the current release: then the next one is current. Where they are made,
 /// or refused, none is held any more; where the memory is refused, all stays as it is.
-pub(crate) fn publish(alloc: Global, setup: &Setup, state: &mut State) -> Reply
-    requires { StateFits (shape_of setup.now.schema) state.old }
-    ensures reply { PublishLeads state.old (reply_text result) state.new }
-    ensures fit { StateFits (shape_of setup.now.schema) state.new }
+pub(crate) fn publish(alloc: Global, state: &mut State) -> Reply
+    requires { All (EditFits state.old.desk.shape) state.old.held }
+    ensures leads { PublishLeads state.old (reply_text result) state.new }
+    ensures shape { state.new.desk.shape ≡ state.old.desk.shape }
 {
-    match next(alloc, setup.schema.shape(), &state.release, &state.held) {
-        Ok((release, _)) => {
-            state.release = release;
+    match lead_on(alloc, &mut state.desk, &state.held) {
+        Ok(number) => {
             state.held.clear();
-            Reply::Published(state.release.number())
+            Reply::Published(number)
         }
         Err(EditFault::Refused { kind, edit }) => {
             state.held.clear();

@@ -10,5 +10,5 @@ abbrev pub invariant-loop-i : goal.invariant-loop-i
 invariant-loop-i g l = record {
   count : g.O.Sink.faults l.initial.out ≤ g.O.Sink.faults l.out;
   fit : StateFits (shape_of l.setup.schema) l.state;
-  taken : AreTaken (setup_value l.setup) l.initial.state.release (g.O.Sink.taken l.initial.out) (g.O.Sink.taken l.out) l.initial.steps l.steps (take l.i l.script.lines) l.state;
+  taken : AreTaken (setup_value l.setup) l.initial.state.desk.base (g.O.Sink.taken l.initial.out) (g.O.Sink.taken l.out) l.initial.steps l.steps (take l.i l.script.lines) l.state;
 }
