@@ -62,4 +62,4 @@ pub record Loads {A B : Type 0} (saw : Reading) (command : CommandValue) (place 
 -- what is asked for, as the definitions see it
 abbrev pub asked_value : Asked → AskedValue
 asked_value a =
-    record { setup = setup_value a.setup; records = a.release.records; script = a.script }
+    record { setup = setup_value a.setup; records = a.desk.base.records; script = a.script }

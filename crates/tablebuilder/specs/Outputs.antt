@@ -5,7 +5,7 @@ use Rattle.tb_script.specs.Outputs.{AreReplies, ReplyValue, text_of}
 use Rattle.tb_script.specs.Replies.{IsReply, start}
 use Rattle.tablebuilder.specs.Asking.{AskedValue}
 
--- these are replies to the script's lines, over the setup and release 0 of the microdata
+-- these are replies to the script's lines, from release 0 of the microdata on
 abbrev pub AreAnswers : AskedValue → List ReplyValue → Type 0
 AreAnswers asked replies =
     AreReplies (IsReply asked.setup (first_release asked.setup asked.records)) start

@@ -1,6 +1,7 @@
 // The files of a run, read in their order.
 
-ghost use Rattle.std.specs.Prelude.{◌≡◌, ◌≤◌, ℕ, suc, List, Option, length, IfOk, option_map};
+ghost use Rattle.std.specs.Prelude.{◌≡◌, ◌≤◌, [], ℕ, suc, List, Option, length, IfOk, option_map};
+ghost use Rattle.tb_base.specs.declared.people.TheConstants.{MOST_PERSONS};
 ghost use Rattle.tb_base.specs.Records.{AllFit};
 ghost use Rattle.tb_model.specs.Releases.{first_release};
 ghost use Rattle.tb_model.specs.Schemas.{shape_of};
@@ -14,7 +15,9 @@ ghost use Rattle.tb_script.specs.Setups.{setup_value};
 use crate::command::Command;
 use crate::endings::{End, Input};
 use std::alloc::Global;
-use tb_base::Memory;
+use std::sync::Arc;
+use tb_base::{Memory, People, Shape};
+use tb_core::Desk;
 use tb_io::{FileRead, Files};
 use tb_ptable::PTable;
 use tb_records::read_people;
@@ -26,11 +29,14 @@ use tb_text::Setup;
 /// The most bytes that a file may have, the script apart: 256 MiB.
 pub const MOST_BYTES: u64 = 268_435_456;
 
-/// What a run is asked for: the setup, release 0 of the microdata, and the script.
+/// How many cubes the desk may keep at the start.
+pub const FIRST_CAPACITY: u32 = 64;
+
+/// What a run is asked for: the setup, the desk at the microdata's release 0, and the script.
 #[derive(Drop)]
 pub struct Asked {
     pub setup: Setup,
-    pub release: Release,
+    pub desk: Desk,
     pub script: Script,
 }
 
@@ -133,29 +139,43 @@ fn load_ptable<F: Files>(alloc: Global, files: &mut F, command: &Command<'_>) ->
     }
 }
 
-// The microdata's release 0.
+// The desk at release 0 of some persons, which keeps no cube yet.
+fn desk_of(alloc: Global, shape: &Shape, people: People) -> Result<Desk, Memory>
+    requires few { length people ≤ MOST_PERSONS }
+    requires fit { AllFit shape.now people }
+    ensures shape { IfOk result (λ desk. desk.shape ≡ shape.now) }
+    ensures base { (setup : SetupValue) → IfOk result
+        (λ desk. desk.base ≡ first_release setup people) }
+    ensures chain { IfOk result (λ desk. desk.chain ≡ []) }
+{
+    let release = Arc::new(alloc, Release::first(alloc, people)?)?;
+    Desk::new(alloc, shape, release, FIRST_CAPACITY)
+}
+
+// The desk at the microdata's release 0.
 fn load_people<F: Files>(
     alloc: Global,
     files: &mut F,
     command: &Command<'_>,
     schema: &Schema,
-) -> Result<Release, End>
-    ensures fit { IfOk result (λ release. AllFit (shape_of schema.now) release.records) }
+) -> Result<Desk, End>
+    ensures shape { IfOk result (λ desk. desk.shape ≡ shape_of schema.now) }
     ensures first { (setup : SetupValue) → IfOk result
-        (λ release. release ≡ first_release setup release.records) }
+        (λ desk. desk.base ≡ first_release setup desk.base.records) }
+    ensures chain { IfOk result (λ desk. desk.chain ≡ []) }
     ensures loads { Loads
         (reading F.content F.faults F.readings files.old files.new)
         command.now
         3
         (suc (class_readings command.now))
         (suc (suc (class_readings command.now)))
-        (λ release. release.records)
+        (λ desk. desk.base.records)
         (people_in schema.now) result }
 {
     let bytes = read_bytes(alloc, files, command, Input::People, command.people)?;
     match read_people(alloc, schema, &bytes) {
-        Ok(people) => match Release::first(alloc, people) {
-            Ok(release) => Ok(release),
+        Ok(people) => match desk_of(alloc, schema.shape(), people) {
+            Ok(desk) => Ok(desk),
             Err(Memory) => Err(End::Memory),
         },
         Err(fault) => Err(End::of(Input::People, fault)),
@@ -184,10 +204,10 @@ fn load_script<F: Files>(alloc: Global, files: &mut F, command: &Command<'_>) ->
 /// PEOPLE and SCRIPT, each checked before the next is read. It takes memory for each file while it
 /// is read, and for what it says.
 pub fn load<F: Files>(alloc: Global, files: &mut F, command: &Command<'_>) -> Result<Asked, End>
-    ensures fit { IfOk result
-        (λ asked. AllFit (shape_of asked.setup.schema) asked.release.records) }
-    ensures first { IfOk result
-        (λ asked. asked.release ≡ first_release (setup_value asked.setup) asked.release.records) }
+    ensures shape { IfOk result (λ asked. asked.desk.shape ≡ shape_of asked.setup.schema) }
+    ensures first { IfOk result (λ asked. asked.desk.base
+        ≡ first_release (setup_value asked.setup) asked.desk.base.records) }
+    ensures chain { IfOk result (λ asked. asked.desk.chain ≡ []) }
     ensures loads { Loads
         (reading F.content F.faults F.readings files.old files.new)
         command.now
@@ -199,7 +219,7 @@ pub fn load<F: Files>(alloc: Global, files: &mut F, command: &Command<'_>) -> Re
 {
     let schema = load_schema(alloc, files, command)?;
     let ptable = load_ptable(alloc, files, command)?;
-    let release = load_people(alloc, files, command, &schema)?;
+    let desk = load_people(alloc, files, command, &schema)?;
     let script = load_script(alloc, files, command)?;
     let threshold = command.threshold;
     Ok(Asked {
@@ -208,7 +228,7 @@ pub fn load<F: Files>(alloc: Global, files: &mut F, command: &Command<'_>) -> Re
             ptable,
             threshold,
         },
-        release,
+        desk,
         script,
     })
 }

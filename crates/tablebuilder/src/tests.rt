@@ -9,6 +9,7 @@ use std::sync::ledger::{Blank, Ledger};
 use tb_base::{Memory, Status, Steps};
 use tb_io::{MemFiles, MemSink, SureFiles, SureSink};
 
+mod cubes;
 mod cuts;
 mod large;
 mod limits;

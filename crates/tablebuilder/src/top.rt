@@ -1,7 +1,6 @@
 // The top call.
 
-ghost use Rattle.std.specs.Prelude.{◌≡◌, ◌⊎◌, ◌+◌, ◌≤◌, List, map, string_bytes};
-ghost use Rattle.tb_base.specs.Records.{AllFit};
+ghost use Rattle.std.specs.Prelude.{◌≡◌, ◌⊎◌, ◌+◌, ◌≤◌, [], List, map, string_bytes};
 ghost use Rattle.tb_base.specs.declared.status.Status.TheVariants as status;
 ghost use Rattle.tb_io.specs.Faults.{HasRisen};
 ghost use Rattle.tb_io.specs.Taken.{Took, TookPart};
@@ -45,9 +44,10 @@ fn answer<O: Sink, L: Ledger>(
     out: &mut O,
     steps: &mut Steps<L>,
 ) -> Status
-    requires fit { AllFit (shape_of asked.setup.schema) asked.release.records }
-    requires first { asked.release
-        ≡ first_release (setup_value asked.setup) asked.release.records }
+    requires shape { asked.desk.shape ≡ shape_of asked.setup.schema }
+    requires first { asked.desk.base
+        ≡ first_release (setup_value asked.setup) asked.desk.base.records }
+    requires chain { asked.desk.chain ≡ [] }
     ensures { ((result ≡ status.Done) × ((replies : List ReplyValue)
         × AreAnswers (asked_value asked) replies
         × Took (O.taken out.old) (O.taken out.new) (text_of replies)
@@ -61,10 +61,10 @@ fn answer<O: Sink, L: Ledger>(
 {
     let Asked {
         setup,
-        release,
+        desk,
         script,
     } = asked;
-    match run_script(alloc, &setup, release, &script, out, steps) {
+    match run_script(alloc, &setup, desk, &script, out, steps) {
         RunEnd::Done => Status::Done,
         RunEnd::WriteFault => Status::WriteFault,
         RunEnd::Memory => end_by(&End::Memory, out),
@@ -78,10 +78,11 @@ fn answer<O: Sink, L: Ledger>(
 /// The arguments are `script CLASSES RECODES PTABLE PEOPLE THRESHOLD SCRIPT`; others are refused. A
 /// printed table is the perturbed table counted from scratch over the release of its number, to
 /// which the custodian's lines before it led, and a query is refused for the first fault of its
-/// text. A line that finds no memory gets the reply `memory`, and the next line is answered. The
-/// counter rises by how many records are lent: once for each table. It takes memory for the files,
-/// for what they say, for one table at a time, for the edits that are held, and for the next release
-/// while it is made.
+/// text, whatever cubes are kept. A line that finds no memory gets the reply `memory`, and the next
+/// line is answered. The counter rises by how many records and changes are lent: for a table the
+/// release's records at most once, or, where a cube is kept, the changes that it is behind. It takes
+/// memory for the files, for what they say, for one table at a time, for at most 64 cubes or as many
+/// as `cache K` says, for the edits that are held, and for the next release while it is made.
 pub fn tablebuilder<F: Files, O: Sink, L: Ledger>(
     alloc: Global,
     words: &[String],

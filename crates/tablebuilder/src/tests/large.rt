@@ -17,13 +17,14 @@ type Large = (
 );
 
 static LARGE: [Large; 2] = [
-    // No cube over the four variables fits, and the table is answered all the same.
+    // No cube over the four variables fits: none is looked for, and the table is answered all the
+    // same.
     (
         &[("AREA", 2000), ("AGE", 101), ("SEX", 2), ("TENURE", 5)],
         b"person,record_key,AREA,AGE,SEX,TENURE\n",
-        b"a table AREA by AGE by SEX where TENURE in (c1)\n",
-        404_003,
-        b"c1999,c100,c1,0\n.\n",
+        b"a table AREA by AGE by SEX where TENURE in (c1)\ncustodian stats\n",
+        404_004,
+        b"c1999,c100,c1,0\n.\nstats release 0 looks 0 hits 0 entries 0 capacity 64\n",
     ),
     // The most places, and too many.
     (

@@ -69,10 +69,9 @@ static REVISIONS: [Revision; 12] = [
     ),
     (
         "what_is_no_command_is_a_query",
-        b"custodian publish x\ncustodian Publish\ncustodian adds 1\ncustodian stats\n\
-        custodian clear\ncustodian cache 1\ncustodian publish\n",
-        b"refused 2 Syntax 1\nrefused 2 Syntax 1\nrefused 2 Syntax 1\nrefused 2 Syntax 1\n\
-        refused 2 Syntax 1\nrefused 2 Syntax 1\nrefused batch 0 5 Nothing\n",
+        b"custodian publish x\ncustodian Publish\ncustodian adds 1\ncustodian publish\n",
+        b"refused 2 Syntax 1\nrefused 2 Syntax 1\nrefused 2 Syntax 1\n\
+        refused batch 0 5 Nothing\n",
     ),
     (
         "another_lanes_edit_is_a_query",
