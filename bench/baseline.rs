@@ -5,9 +5,10 @@
 //!
 //! It reads whole files, CSV with quotes, finds codes in hash maps, keeps the persons in a set and
 //! the records in a list, and counts the table of any query by one scan of the list into a dense
-//! array: a record is put into its own place and, with totals, into each margin where it lies. For
-//! edits it keeps a hash map from persons to places and one of all keys; a batch is made on a copy of
-//! the list and of the places, which then stand in place of the old ones. It prints what the product
+//! array: a record is put into its own place and, with totals, into each margin where it lies. It
+//! keeps the array of each query until a batch is published or the custodian clears them. For edits
+//! it keeps a hash map from persons to places and one of all keys; a batch is made on a copy of the
+//! list and of the places, which then stand in place of the old ones. It prints what the product
 //! prints. A file, a query or an edit at fault ends it with a message and status 1.
 
 use std::borrow::Cow;
@@ -543,11 +544,10 @@ fn print_table(
     out: &mut impl Write,
     query: &Query,
     number: u32,
-    records: &[Record],
+    cells: &[Cell],
     pvalues: &[Option<i16>],
     threshold: u32,
 ) -> io::Result<()> {
-    let cells = count(query, records);
     let sizes = query.sizes();
     writeln!(out, "release {number}")?;
     for dimension in &query.dimensions {
@@ -555,7 +555,7 @@ fn print_table(
     }
     writeln!(out, "count")?;
     let places = cells.len();
-    for (place, cell) in cells.into_iter().enumerate() {
+    for (place, cell) in cells.iter().enumerate() {
         let (mut block, mut rest) = (places, place);
         for (dimension, size) in query.dimensions.iter().zip(&sizes) {
             block /= size;
@@ -563,7 +563,7 @@ fn print_table(
             print_field(out, texts.get(rest / block).map_or("Total", String::as_str))?;
             rest %= block;
         }
-        match shown(pvalues, threshold, cell) {
+        match shown(pvalues, threshold, *cell) {
             Some(value) => writeln!(out, "{value}")?,
             None => writeln!(out, "c")?,
         }
@@ -590,21 +590,29 @@ fn main() -> Outcome<()> {
     let mut release = Release::first(read_people(&fs::read(people)?, &schema)?);
     let groupings: Vec<Grouping> = schema.0.iter().cloned().chain(recodes).collect();
     let mut held = Vec::new();
+    let mut kept = HashMap::<String, Vec<Cell>>::new();
     let mut out = BufWriter::new(io::stdout().lock());
     for line in fs::read_to_string(script)?.lines() {
         match line.split_once(' ').ok_or("a line has no lane")? {
             ("custodian", "publish") => {
                 release.publish(std::mem::take(&mut held))?;
+                kept.clear();
                 writeln!(out, "published {}", release.number)?;
+            }
+            ("custodian", "clear") => {
+                kept.clear();
+                writeln!(out, "cleared")?;
             }
             ("custodian", edit) => {
                 held.push(Edit::read(edit, &schema)?);
                 writeln!(out, "held {}", held.len())?;
             }
-            (_, query) => {
-                let query = Query::read(query, &groupings)?;
-                let (number, records) = (release.number, &release.records);
-                print_table(&mut out, &query, number, records, &pvalues, threshold)?;
+            (_, line) => {
+                let query = Query::read(line, &groupings)?;
+                if !kept.contains_key(line) {
+                    kept.insert(line.to_string(), count(&query, &release.records));
+                }
+                print_table(&mut out, &query, release.number, &kept[line], &pvalues, threshold)?;
             }
         }
     }

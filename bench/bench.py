@@ -5,10 +5,13 @@
 
 Both run over the same generated input, in turn, and their outputs must be equal byte by byte. A
 ratio is the median of the ratios of runs that followed each other, so that what slows the machine
-for a while slows both sides of it. What a further table takes is what a script of many lines takes
-beyond a script of one. Nothing here fails because of a time: a target that is missed is printed.
+for a while slows both sides of it. What a further table takes is what a script of many tables takes
+beyond a script of one. A table is cold where the custodian clears what is kept before it; else the
+program may find its cube, and the plain one its array, at hand. Nothing here fails because of a
+time: a target that is missed is printed.
 """
 import filecmp
+import itertools
 import os
 import platform
 import statistics
@@ -16,6 +19,7 @@ import subprocess
 import sys
 import tempfile
 import time
+import typing
 
 HERE = os.path.dirname(os.path.abspath(__file__))
 START = 1
@@ -23,48 +27,79 @@ THRESHOLD = 10
 NONE, SMALL, LARGE = 0, 20_000, 1_000_000
 ONE_DIMENSION = ("AREA", "AGE", "SEX", "TENURE")
 TWO_DIMENSIONS = ("AREA by SEX", "AGE by TENURE", "AREA by AGE")
-MARGINS = "AREA by SEX with totals"
-FILTERED = "AGE by TENURE where SEX in (1)"
-LARGEST = "AREA by AGE"
-RECODED = "AGE10 by TENURE with totals with labels"
-REFUSED = "NOSUCH"
-# How many edits a batch has, where a script has batches in place of queries.
-EDITS = {"a batch of 1 edit": 1, "a batch of 10,000 edits": 10_000}
-ONE_EDIT, MANY_EDITS = ((name,) for name in EDITS)
+MARGINS = ("AREA by SEX with totals",)
+FILTERED = ("AGE by TENURE where SEX in (1)",)
+LARGEST = ("AREA by AGE",)
+RECODED = ("AGE10 by TENURE with totals with labels",)
+REFUSED = ("NOSUCH",)
+# A table of few places from the cube of all four variables.
+OF_FOUR = ("AREA by SEX where AGE in (20) and TENURE in (1)",)
+# A table for each set of the variables.
+NAMES = {"AREA": "a0", "AGE": "0", "SEX": "1", "TENURE": "1"}
+SETS = [names for n in range(1, 5) for names in itertools.combinations(NAMES, n)]
+
+
+def query_over(names):
+    filters = " and ".join(f"{name} in ({NAMES[name]})" for name in names[1:])
+    return names[0] + (f" where {filters}" if filters else "")
+
+
+ALL_SETS = tuple(query_over(names) for names in SETS)
+
+
+class Batch(typing.NamedTuple):
+    """Before each table, if there is one, a batch of so many edits."""
+
+    edits: int
+    mixed: bool
+
+
+# Persons are amended, dropped and added in turn; or they are amended alone.
+MIXED_ONE, MIXED_MANY = Batch(1, True), Batch(10_000, True)
+ONE_CHANGE, HUNDRED, MANY_CHANGES = Batch(1, False), Batch(100, False), Batch(10_000, False)
+COLD, KEPT = "cold", "kept"
 ASCENDING, SHUFFLED = "ascending", "shuffled"
-# Persons, the queries in turn or the batch, and how many of them: one, and for a further one many.
+# Persons, the queries in turn, what comes before each, and how many there are: one, and for a
+# further one many.
 ONE = 1
 PAIRS = [
-    (SMALL, ONE_DIMENSION, 1_000),
-    (LARGE, ONE_DIMENSION, 1_000),
-    (LARGE, TWO_DIMENSIONS, 400),
-    (LARGE, (MARGINS,), 100),
-    (LARGE, (FILTERED,), 100),
-    (LARGE, (LARGEST,), 100),
-    (LARGE, (RECODED,), 100),
-    (LARGE, ONE_EDIT, 11),
-    (LARGE, MANY_EDITS, 11),
-    (NONE, ("AGE",), 20_000),
-    (NONE, (LARGEST,), 400),
-    (NONE, (REFUSED,), 400_000),
+    (SMALL, ONE_DIMENSION, COLD, 1_000),
+    (LARGE, ONE_DIMENSION, COLD, 1_000),
+    (LARGE, TWO_DIMENSIONS, COLD, 400),
+    (LARGE, MARGINS, COLD, 100),
+    (LARGE, FILTERED, COLD, 100),
+    (LARGE, LARGEST, COLD, 100),
+    (LARGE, RECODED, COLD, 100),
+    (LARGE, MARGINS, KEPT, 10_000),
+    (LARGE, LARGEST, KEPT, 10_000),
+    (LARGE, OF_FOUR, KEPT, 10_000),
+    (LARGE, ALL_SETS, KEPT, len(ALL_SETS)),
+    (LARGE, (), MIXED_ONE, 11),
+    (LARGE, (), MIXED_MANY, 11),
+    *((SMALL, queries, batch, 60) for batch in (ONE_CHANGE, HUNDRED, MANY_CHANGES)
+      for queries in ((), OF_FOUR)),
+    (NONE, ("AGE",), KEPT, 20_000),
+    (NONE, LARGEST, KEPT, 400),
+    (NONE, REFUSED, KEPT, 400_000),
 ]
-QUERIES = [queries for persons, queries, _ in PAIRS if persons == LARGE and queries[0] not in EDITS]
 # How often each case is run, and the one that shows how long loading takes.
-RUNS, LOADING_RUNS = 5, 15
+RUNS, LOADING_RUNS, LONG_RUNS = 5, 15, 3
 PROGRAM, PLAIN = "program", "baseline"
 MIB = 1024 * 1024
 
 
 class Case:
-    """An input and a script of so many lines: what each program took over it, run by run, and held
-    at its peak."""
+    """An input and a script of so many tables or batches: what each program took over it, run by
+    run, and held at its peak."""
 
-    def __init__(self, persons, order, queries, lines):
-        self.persons, self.order, self.queries, self.lines = persons, order, queries, lines
+    def __init__(self, persons, order, queries, before, count):
+        self.persons, self.order, self.queries = persons, order, queries
+        self.before, self.count = before, count
         # The plain program refuses no query.
-        self.whos = [PROGRAM] if REFUSED in queries else [PROGRAM, PLAIN]
-        is_loading = lines == ONE and persons == LARGE and queries == ONE_DIMENSION
-        self.runs = LOADING_RUNS if is_loading else RUNS
+        self.whos = [PROGRAM] if queries == REFUSED else [PROGRAM, PLAIN]
+        is_loading = count == ONE and persons == LARGE and queries == ONE_DIMENSION
+        is_long = queries == LARGEST and before == KEPT and persons == LARGE and count > ONE
+        self.runs = LOADING_RUNS if is_loading else LONG_RUNS if is_long else RUNS
         self.seconds = {who: [] for who in self.whos}
         self.peak = {who: 0 for who in self.whos}
 
@@ -75,9 +110,15 @@ class Case:
         return median_ratio(self.seconds[PROGRAM], self.seconds[PLAIN])
 
     def name(self):
-        return {ONE_DIMENSION: "one dimension", TWO_DIMENSIONS: "two dimensions"}.get(
-            self.queries, self.queries[0]
-        )
+        groups = {ONE_DIMENSION: "one dimension", TWO_DIMENSIONS: "two dimensions"}
+        groups |= {ALL_SETS: "each set of variables"}
+        query = groups.get(self.queries, "".join(self.queries[:1]))
+        if isinstance(self.before, Batch):
+            kind = "edit" if self.before.mixed else "amend"
+            plural = "s" * (self.before.edits > 1)
+            batch = f"a batch of {self.before.edits:,} {kind}{plural}"
+            return f"{batch}, then {query}" if query else batch
+        return f"{query}, {self.before}"
 
 
 def median_ratio(ours, plain):
@@ -89,25 +130,31 @@ def make_input(folder, persons, order):
     subprocess.run([sys.executable, f"{HERE}/generate.py", *words], check=True)
 
 
-def batch(number, edits):
-    """The lines of a batch: persons are amended, dropped and added in turn."""
-    for place in range(number * edits, (number + 1) * edits):
-        kinds = [
-            f"amend {place + 1} TENURE=1",
-            f"drop {place + 1}",
-            f"add {2 * LARGE + place} 7 AREA=a0 AGE=0 SEX=1 TENURE=1",
-        ]
-        yield f"custodian {kinds[place % len(kinds)]}\n"
-    yield "custodian publish\n"
+def edit(batch, place):
+    if not batch.mixed:
+        return f"amend {place % SMALL + 1} TENURE={place % 5 + 1}"
+    kinds = [
+        f"amend {place + 1} TENURE=1",
+        f"drop {place + 1}",
+        f"add {2 * LARGE + place} 7 AREA=a0 AGE=0 SEX=1 TENURE=1",
+    ]
+    return kinds[place % len(kinds)]
+
+
+def lines_before(before, number):
+    if isinstance(before, Batch):
+        for place in range(number * before.edits, (number + 1) * before.edits):
+            yield f"custodian {edit(before, place)}\n"
+        yield "custodian publish\n"
+    elif before == COLD:
+        yield "custodian clear\n"
 
 
 def script_lines(case):
-    for line in range(case.lines):
-        query = case.queries[line % len(case.queries)]
-        if query in EDITS:
-            yield from batch(line, EDITS[query])
-        else:
-            yield f"a table {query}\n"
+    for number in range(case.count):
+        yield from lines_before(case.before, number)
+        if case.queries:
+            yield f"a table {case.queries[number % len(case.queries)]}\n"
 
 
 def make_script(path, case):
@@ -158,7 +205,7 @@ def spread(seconds):
 
 
 def print_runs(cases):
-    print("| Persons | Order | Queries | Lines | Runs | Program, ms | Plain, ms | Ratio | Program, MiB | Plain, MiB |")
+    print("| Persons | Order | Queries | How many | Runs | Program, ms | Plain, ms | Ratio | Program, MiB | Plain, MiB |")
     print("|---|---|---|---|---|---|---|---|---|---|")
     for case in cases:
         both = PLAIN in case.whos
@@ -166,16 +213,16 @@ def print_runs(cases):
         ratio = f"{case.ratio():.2f}" if both else ""
         held = f"{case.peak[PLAIN] / MIB:.0f}" if both else ""
         ours = f"{spread(case.seconds[PROGRAM])} | {plain} | {ratio} | {case.peak[PROGRAM] / MIB:.0f}"
-        print(f"| {case.persons:,} | {case.order} | {case.name()} | {case.lines:,} | {case.runs} | {ours} | {held} |")
+        print(f"| {case.persons:,} | {case.order} | {case.name()} | {case.count:,} | {case.runs} | {ours} | {held} |")
 
 
 class Further:
-    """What each line after the first took, in seconds, run by run."""
+    """What each table or batch after the first took, in seconds, run by run."""
 
     def __init__(self, one, many):
         self.of = many
         self.each = {
-            who: [(t - one.median(who)) / (many.lines - ONE) for t in many.seconds[who]]
+            who: [(t - one.median(who)) / (many.count - ONE) for t in many.seconds[who]]
             for who in many.whos
         }
 
@@ -186,8 +233,8 @@ class Further:
         return median_ratio(self.each[PROGRAM], self.each[PLAIN])
 
     def row(self, most):
-        times = [f"{self.median(who) * 1e3:.2f} ms" for who in (PROGRAM, PLAIN)]
-        what = f"{self.of.persons:,} persons, each further line or batch: {self.of.name()}"
+        times = [f"{self.median(who) * 1e3:.3f} ms" for who in (PROGRAM, PLAIN)]
+        what = f"{self.of.persons:,} persons, each further one: {self.of.name()}"
         return (f"{what}, {' beside '.join(times)}", self.ratio(), most)
 
 
@@ -200,22 +247,26 @@ def print_rows(rows):
 
 
 def targets(first, further, shuffled):
-    """Each target with what was reached; `first` and `further` find a case of one line, and what
-    each line after it took, by persons and queries."""
-    one = first[LARGE, ONE_DIMENSION]
-    peak = max(first[LARGE, queries].peak[PROGRAM] for queries in QUERIES) / MIB
-    revised = max(further[LARGE, edits].of.peak[PROGRAM] for edits in (ONE_EDIT, MANY_EDITS)) / MIB
-    growth = one.median(PROGRAM) / first[SMALL, ONE_DIMENSION].median(PROGRAM)
-    yield (f"{LARGE:,} persons, one line: time beside the plain program", one.ratio(), 0.6)
-    yield further[LARGE, ONE_DIMENSION].row(0.7)
-    yield further[SMALL, ONE_DIMENSION].row(None)
-    yield further[LARGE, TWO_DIMENSIONS].row(0.9)
-    yield further[LARGE, (MARGINS,)].row(0.35)
-    yield further[LARGE, (RECODED,)].row(0.35)
-    yield further[LARGE, (FILTERED,)].row(0.55)
-    yield further[LARGE, (LARGEST,)].row(0.55)
-    yield further[LARGE, ONE_EDIT].row(1.0)
-    yield further[LARGE, MANY_EDITS].row(1.0)
+    """Each target with what was reached; `first` and `further` find a case of one table or batch,
+    and what each after it took, by persons, queries and what comes before them."""
+    one = first[LARGE, ONE_DIMENSION, COLD]
+    cold = [case for (persons, _, before), case in first.items() if (persons, before) == (LARGE, COLD)]
+    peak = max(case.peak[PROGRAM] for case in cold) / MIB
+    batches = [further[LARGE, (), batch] for batch in (MIXED_ONE, MIXED_MANY)]
+    revised = max(batch.of.peak[PROGRAM] for batch in batches) / MIB
+    growth = one.median(PROGRAM) / first[SMALL, ONE_DIMENSION, COLD].median(PROGRAM)
+    yield (f"{LARGE:,} persons, one table: time beside the plain program", one.ratio(), 0.6)
+    yield further[LARGE, ONE_DIMENSION, COLD].row(0.7)
+    yield further[SMALL, ONE_DIMENSION, COLD].row(None)
+    yield further[LARGE, TWO_DIMENSIONS, COLD].row(0.9)
+    yield further[LARGE, MARGINS, COLD].row(0.35)
+    yield further[LARGE, RECODED, COLD].row(0.35)
+    yield further[LARGE, FILTERED, COLD].row(0.55)
+    yield further[LARGE, LARGEST, COLD].row(0.55)
+    yield further[LARGE, MARGINS, KEPT].row(0.8)
+    yield further[LARGE, LARGEST, KEPT].row(0.8)
+    for batch in batches:
+        yield batch.row(1.0)
     yield ("peak memory of the process, MiB", peak, 60)
     yield ("the same with batches, MiB", revised, 130)
     yield (f"time at {LARGE:,} beside {SMALL:,} persons", growth, 55)
@@ -223,15 +274,33 @@ def targets(first, further, shuffled):
     yield ("persons in another order: peak memory, MiB", shuffled.peak[PROGRAM] / MIB, None)
 
 
+def kept(further):
+    """What tables from cubes that are at hand take, and what the cubes take."""
+    margins, of_four = further[LARGE, MARGINS, KEPT], further[LARGE, OF_FOUR, KEPT]
+    yield ("tables a second of AREA by SEX with totals", 1 / margins.median(PROGRAM), None)
+    yield ("a table with filters, from the cube of four variables, ms", of_four.median(PROGRAM) * 1e3, 0.3)
+    behind = {
+        batch: further[SMALL, OF_FOUR, batch].median(PROGRAM) - further[SMALL, (), batch].median(PROGRAM)
+        for batch in (ONE_CHANGE, HUNDRED, MANY_CHANGES)
+    }
+    for batch, seconds in behind.items():
+        yield (f"the same, where the cube is {batch.edits:,} changes behind, ms", seconds * 1e3, None)
+    advance = behind[MANY_CHANGES] - behind[ONE_CHANGE]
+    yield ("to advance the cube by 10,000 changes, ms", advance * 1e3, 0.5)
+    sets = further[LARGE, ALL_SETS, KEPT].of.peak[PROGRAM]
+    loaded = further[LARGE, MARGINS, KEPT].of.peak[PROGRAM]
+    yield ("the cubes of all 15 sets of variables, MiB above one cube of 200 cells", (sets - loaded) / MIB, 4)
+
+
 def texts(further):
     """What a line of text takes where there are no records, so all but the loop over them."""
-    csv, fields = further[NONE, ("AGE",)], further[NONE, (LARGEST,)]
+    csv, fields = further[NONE, ("AGE",), KEPT], further[NONE, LARGEST, KEPT]
     by_csv = csv.median(PROGRAM) / 102 * 1e9
     by_fields = fields.median(PROGRAM) / 10_101 * 1e9
     yield ("a line of a table of one dimension, 101 places, written by `csv`, ns", by_csv, None)
     yield ("a line of a table of two dimensions, 10,100 places, ns", by_fields, None)
     yield ("the one beside the other", by_fields / by_csv, 0.5)
-    yield ("a refused line, microseconds", further[NONE, (REFUSED,)].median(PROGRAM) * 1e6, 5)
+    yield ("a refused line, microseconds", further[NONE, REFUSED, KEPT].median(PROGRAM) * 1e6, 5)
 
 
 def machine():
@@ -244,11 +313,11 @@ def machine():
 def main(program, baseline):
     programs = {PROGRAM: os.path.abspath(program), PLAIN: os.path.abspath(baseline)}
     first, further = {}, {}
-    shuffled = Case(LARGE, SHUFFLED, ONE_DIMENSION, ONE)
+    shuffled = Case(LARGE, SHUFFLED, ONE_DIMENSION, COLD, ONE)
     cases = [shuffled]
-    for persons, queries, lines in PAIRS:
-        one, many = (Case(persons, ASCENDING, queries, n) for n in (ONE, lines))
-        first[persons, queries] = one
+    for persons, queries, before, count in PAIRS:
+        one, many = (Case(persons, ASCENDING, queries, before, n) for n in (ONE, count))
+        first[persons, queries, before] = one
         cases += [one, many]
     with tempfile.TemporaryDirectory(prefix="tablebuilder-bench-") as top:
         for case in cases:
@@ -258,11 +327,13 @@ def main(program, baseline):
                 make_input(folder, case.persons, case.order)
             measure(case, programs, folder)
     for one, many in zip(cases[1::2], cases[2::2]):
-        further[one.persons, one.queries] = Further(one, many)
+        further[one.persons, one.queries, one.before] = Further(one, many)
     print(f"{machine()}; median (least to most); outputs equal byte by byte\n")
     print_runs(cases)
     print()
     print_rows(targets(first, further, shuffled))
+    print()
+    print_rows(kept(further))
     print()
     print_rows(texts(further))
 
