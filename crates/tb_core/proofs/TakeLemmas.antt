@@ -1,5 +1,5 @@
 -- What is taken from a desk, and the cube to which it leads.
-use Rattle.std.proofs.Common.{◌≡◌, ℕ, ◌≤◌, List, take, drop, length, Option, Some, None, refl, sym, ap, ◌∙◌, subst, arith}
+use Rattle.std.proofs.Common.{◌≡◌, ℕ, zero, suc, ◌≤◌, List, [], ◌∷◌, take, drop, length, Option, Some, None, refl, sym, ap, ◌∙◌, subst, arith}
 use Rattle.std.specs.Prelude.{option_map}
 use Rattle.std.specs.Arc.{arc_value}
 use Rattle.std.proofs.lemmas.List.{take_all}
@@ -12,7 +12,7 @@ use Rattle.tb_release.specs.Batches.{BatchValue}
 use Rattle.tb_release.specs.Chains.{change_count, release_after}
 use Rattle.tb_core.specs.Advancing.{CanAdvanceAlong}
 use Rattle.tb_core.specs.Desks.{DeskValue, IsSound, current_of, release_at}
-use Rattle.tb_core.specs.Takes.{IsHit, IsTaken, number_of, release_in}
+use Rattle.tb_core.specs.Takes.{IsHit, IsTaken, cost_by, cost_of, number_of, release_in}
 use Rattle.tb_core.specs.Turns.{HitValue, hit_at, hit_for}
 use Rattle.tb_core.specs.Views.{hit_of}
 use Rattle.tb_core.specs.declared.desk.Hit.{Hit}
@@ -48,6 +48,12 @@ pub current_fits : (desk : DeskValue) (release : ReleaseValue) → IsSound desk 
 current_fits desk release s is = subst (λ (r : ReleaseValue). AllFit desk.shape r.records) (sym is) (after_all desk.shape desk.base desk.chain s.revised).fit
 
 -- ---- of a chain
+nothing_after : {A : Type 0} (n : ℕ) (xs : List A) → drop n (take n xs) ≡ []
+nothing_after zero [] = refl
+nothing_after zero (x ∷ xs) = refl
+nothing_after (suc n) [] = refl
+nothing_after (suc n) (x ∷ xs) = nothing_after n xs
+
 module _ (shape : List ℕ) (base : ReleaseValue) (chain : List BatchValue) (vars : List ℕ) (taken : Taken) (t : IsTaken shape base chain vars taken) where
   pub release_fits : AllFit shape (release_in taken).records
   release_fits =
@@ -93,3 +99,17 @@ module _ (shape : List ℕ) (base : ReleaseValue) (chain : List BatchValue) (var
       let few : change_count hit.pending ≤ (release_at base chain (number_of taken)).changes =
       subst (λ (p : List BatchValue). change_count p ≤ (release_at base chain (number_of taken)).changes) (sym f.pending) (few_changes shape base chain hit.number (number_of taken) t.revised f.low) in
       subst (λ (r : ReleaseValue). change_count hit.pending ≤ r.changes) (sym t.release_is) few
+
+  -- what the cube costs that was found
+  pub cost_found : (hit : Hit) → taken.hit ≡ Some hit → cost_of taken ≡ change_count hit.pending
+  cost_found hit is = ap (λ (o : Option Hit). cost_by (release_in taken) (option_map hit_of o)) is
+
+  -- nothing where it is the release's own
+  pub cost_own : (hit : Hit) → taken.hit ≡ Some hit → hit.number ≡ number_of taken → cost_of taken ≡ 0
+  cost_own hit is same =
+      cost_found hit is
+      ∙ ap change_count ((is_found hit is).pending ∙ ap (λ m. drop m (take (number_of taken) chain)) same ∙ nothing_after (number_of taken) chain)
+
+  -- and the records where none was
+  pub cost_anew : taken.hit ≡ None → cost_of taken ≡ length (release_in taken).records
+  cost_anew is = ap (λ (o : Option Hit). cost_by (release_in taken) (option_map hit_of o)) is

@@ -9,6 +9,7 @@ use Rattle.tb_core.specs.declared.desk.Taken.{Taken}
 use Rattle.tb_cube.specs.Cubes.{cube_over}
 use Rattle.tb_model.specs.Releases.{ReleaseValue}
 use Rattle.tb_release.specs.Batches.{BatchValue}
+use Rattle.tb_release.specs.Chains.{change_count}
 
 -- the release that was taken
 abbrev pub release_in : Taken → ReleaseValue
@@ -44,6 +45,15 @@ pub record IsTaken (shape : List ℕ) (base : ReleaseValue) (chain : List BatchV
   pub there : number_of taken ≤ length chain
   pub release_is : release_in taken ≡ release_at base chain (number_of taken)
   pub hit : IsHit shape base chain vars (number_of taken) (option_map hit_of taken.hit)
+
+-- what a cube of what was taken costs: as many changes as the one that was found is behind, which is
+-- none where it is of the release itself; or the release's records where none was found
+abbrev pub cost_by : ReleaseValue → Option HitValue → ℕ
+cost_by release None = length release.records
+cost_by release (Some hit) = change_count hit.pending
+
+abbrev pub cost_of : Taken → ℕ
+cost_of taken = cost_by (release_in taken) (option_map hit_of taken.hit)
 
 -- how many records a cube of what was taken may cost: the release's, or as many changes as led to
 -- it, if these are more

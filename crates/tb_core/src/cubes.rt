@@ -6,7 +6,7 @@ ghost use Rattle.std.specs.Arc.{arc_value};
 ghost use Rattle.tb_base.specs.Records.{AllFit};
 ghost use Rattle.tb_core.specs.Advancing.{CanAdvanceAlong};
 ghost use Rattle.tb_core.specs.Desks.{HasCube};
-ghost use Rattle.tb_core.specs.Takes.{cube_price, found_in, number_of, release_in, IsTaken};
+ghost use Rattle.tb_core.specs.Takes.{cost_of, cube_price, found_in, number_of, release_in, IsTaken};
 ghost use Rattle.tb_cube.specs.Cubes.{cube_over};
 ghost use Rattle.tb_model.specs.Releases.{ReleaseValue};
 ghost use Rattle.tb_release.specs.Batches.{BatchValue};
@@ -33,6 +33,7 @@ pub fn build<L: Ledger>(
     requires has { HasCube shape.now vars.now }
     requires fit { AllFit shape.now release.now.records }
     ensures price { steps.new ≤ steps.old + length release.now.records }
+    ensures cost { IfOk result (λ cube. steps.new ≡ steps.old + length release.now.records) }
     ensures cube { IfOk result (λ cube. cube ≡ cube_over shape.now vars.now release.now.records) }
 {
     release.soundness();
@@ -46,8 +47,8 @@ pub fn build<L: Ledger>(
 
 /// The cube over some variables of the release that was taken, and whether it was made anew: the
 /// cube that was found, where it is of that release; a copy of it, advanced by the batches that are
-/// missing; or, where none was found, one that is counted from the release's records. It takes
-/// memory for a cube that is made.
+/// missing; or, where none was found, one that is counted from the release's records. So a cube that
+/// was found costs as many changes as it is behind. It takes memory for a cube that is made.
 pub fn cube_for<L: Ledger>(
     alloc: Global,
     shape: &Shape,
@@ -59,6 +60,7 @@ pub fn cube_for<L: Ledger>(
     requires taken { (base : ReleaseValue) × (chain : List BatchValue)
         × IsTaken shape.now base chain vars.now taken.now }
     ensures price { steps.new ≤ steps.old + cube_price (release_in taken.now) }
+    ensures cost { IfOk result (λ made. steps.new ≡ steps.old + cost_of taken.now) }
     ensures cube { IfOk result (λ made. arc_value made.0
         ≡ cube_over shape.now vars.now (release_in taken.now).records) }
     ensures anew { IfOk result (λ made. made.1
