@@ -1,0 +1,4 @@
+pub mod Holders
+pub mod Chain
+pub mod Seats
+pub mod Steps
