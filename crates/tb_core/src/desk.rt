@@ -126,8 +126,8 @@ fn no_older(kept: Option<u32>, number: u32) -> Option<u32>
 }
 
 impl Desk {
-    /// A desk at release 0, which keeps no cube yet. It takes memory for a copy of the shape and for
-    /// the cache.
+    /// A desk at release 0, which keeps no cube yet. It takes memory for a copy of the shape and
+    /// for the cache.
     pub fn new(
         alloc: Global,
         shape: &Shape,
