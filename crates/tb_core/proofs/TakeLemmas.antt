@@ -11,7 +11,7 @@ use Rattle.tb_model.specs.Releases.{ReleaseValue}
 use Rattle.tb_release.specs.Batches.{BatchValue}
 use Rattle.tb_release.specs.Chains.{change_count, release_after}
 use Rattle.tb_core.specs.Advancing.{CanAdvanceAlong}
-use Rattle.tb_core.specs.Desks.{DeskValue, IsSound, current_of, release_at}
+use Rattle.tb_core.specs.Desks.{DeskValue, IsCubeAt, IsSound, current_of, release_at}
 use Rattle.tb_core.specs.Takes.{IsHit, IsTaken, cost_by, cost_of, number_of, release_in}
 use Rattle.tb_core.specs.Turns.{HitValue, hit_at, hit_for}
 use Rattle.tb_core.specs.Views.{hit_of}
@@ -113,3 +113,7 @@ module _ (shape : List ℕ) (base : ReleaseValue) (chain : List BatchValue) (var
   -- and the records where none was
   pub cost_anew : taken.hit ≡ None → cost_of taken ≡ length (release_in taken).records
   cost_anew is = ap (λ (o : Option Hit). cost_by (release_in taken) (option_map hit_of o)) is
+
+  -- the release's cube is one of the chain
+  pub cube_taken : (cube : CubeValue) → cube ≡ cube_over shape vars (release_in taken).records → IsCubeAt shape base chain vars (number_of taken) cube
+  cube_taken cube is = record { there = t.there; counted = is ∙ ap (λ (r : ReleaseValue). cube_over shape vars r.records) t.release_is }
