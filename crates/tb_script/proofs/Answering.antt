@@ -21,6 +21,11 @@ refusal-parts a b w v p q h k l = rw (h, k, l) (ap (λ t. codes "refused " ++ t)
 pub batch-parts : (a b c d w v : List ℕ) → a ≡ b → c ≡ d → w ≡ v → codes "refused batch " ++ (a ++ 32 ∷ (c ++ 32 ∷ (w ++ 10 ∷ []))) ≡ codes "refused batch " ++ (((((b ++ 32 ∷ []) ++ d) ++ 32 ∷ []) ++ v) ++ 10 ∷ [])
 batch-parts a b c d w v h k l = rw (h, k, l) (ap (λ t. codes "refused batch " ++ t) (grind (arith, common_steps)))
 
+pub stats-parts : (r l h e c r' l' h' e' c' : List ℕ) → r ≡ r' → l ≡ l' → h ≡ h' → e ≡ e' → c ≡ c'
+    → codes "stats release " ++ (r ++ (codes " looks " ++ (l ++ (codes " hits " ++ (h ++ (codes " entries " ++ (e ++ (codes " capacity " ++ (c ++ codes "\n")))))))))
+    ≡ codes "stats release " ++ r' ++ codes " looks " ++ l' ++ codes " hits " ++ h' ++ codes " entries " ++ e' ++ codes " capacity " ++ c' ++ codes "\n"
+stats-parts r l h e c r' l' h' e' c' p q s t u = rw (p, q, s, t, u) (ap (λ x. codes "stats release " ++ x) (grind (arith, common_steps)))
+
 module _ (setup : SetupValue) (desk : DeskValue) (line : List ℕ) (p q : ℕ) where
   pub by-table : (query : QueryValue) (text : List ℕ) → Reads setup.schema line query → text ≡ table_text setup (current_of desk) query → q ≤ p + table_price setup (current_of desk) query → Answers setup desk line text p q
   by-table query text reads same cost = (table_price setup (current_of desk) query, inl (query, reads, inl (ap (λ t. record { text = t; price = table_price setup (current_of desk) query }) same)), cost)

@@ -88,12 +88,12 @@ module _ (setup : SetupValue) (base : ReleaseValue) where
 
   module _ (a b c : Option (List ℕ)) (p q r : ℕ) (lines : List ScriptLine) (i : ℕ) (one : ScriptLine) (old new : State) (text : List ℕ) (below : i < length lines) (here : get_or lines i one ≡ one)
       (step : ReplyLeads setup old one text q r new) (before : AreTaken a b p q (take i lines) old) where
-    reply_here : ReplyValue
+    abbrev reply_here : ReplyValue
     reply_here = record { text = text; price = step.price }
 
     -- the reply is one over this release 0
     is_reply : IsReply setup base (value_of old) one reply_here (value_of new)
-    is_reply = subst (λ (b : ReleaseValue). IsReply setup b (value_of old) one reply_here (value_of new)) before.1.1.0 step.reply
+    is_reply = subst (λ (b : ReleaseValue). IsReply setup b (value_of old) one reply_here (value_of new)) before.2 step.reply
 
     -- the reply to one more line was taken
     pub reply-taken : Took b c text → AreTaken a c p r (take (i + 1) lines) new

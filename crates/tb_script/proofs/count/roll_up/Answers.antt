@@ -16,8 +16,8 @@ pub roll_into-requires-clause-few : goal.roll_into-requires-clause-few
 roll_into-requires-clause-few c =
     omega (arith, cube-counts c.args.plan.now.shape (vars_of c.args.plan.now) c.args.release.now.records c.args.cube.now c.requires.cube (there-own c.args.plan.now) c.requires.fit, c.soundness.ensures.few)
 
-pub returns-clause-cells : goal.returns-clause-cells
-returns-clause-cells c = λ schema query e.
+pub returns : goal.returns
+returns c = λ schema query e.
     let records = c.args.release.now.records in
     let fit : AllFit c.args.cube.now.shape records = subst (λ (v : CubeValue). AllFit v.shape records) (sym c.requires.cube) c.requires.fit in
     let held : Holds c.args.cube.now records = subst (λ (v : CubeValue). Holds v records) (sym c.requires.cube) refl in
