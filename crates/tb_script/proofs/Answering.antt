@@ -1,5 +1,5 @@
 -- The replies to a query's line.
-use Rattle.std.proofs.Common.{◌≡◌, refl, ap, ℕ, ◌+◌, ◌≤◌, List, [], ◌∷◌, ◌++◌, Option, Some, inl, inr, arith}
+use Rattle.std.proofs.Common.{◌≡◌, ◌∙◌, refl, sym, ap, append_assoc, ℕ, ◌+◌, ◌≤◌, List, [], ◌∷◌, ◌++◌, Option, Some, inl, inr, arith}
 use Rattle.std.specs.Prelude.{codes}
 use Rattle.std.proofs.lemmas.Grind.{common_steps}
 use Rattle.tb_core.specs.Desks.{DeskValue, current_of}
@@ -21,10 +21,23 @@ refusal-parts a b w v p q h k l = rw (h, k, l) (ap (λ t. codes "refused " ++ t)
 pub batch-parts : (a b c d w v : List ℕ) → a ≡ b → c ≡ d → w ≡ v → codes "refused batch " ++ (a ++ 32 ∷ (c ++ 32 ∷ (w ++ 10 ∷ []))) ≡ codes "refused batch " ++ (((((b ++ 32 ∷ []) ++ d) ++ 32 ∷ []) ++ v) ++ 10 ∷ [])
 batch-parts a b c d w v h k l = rw (h, k, l) (ap (λ t. codes "refused batch " ++ t) (grind (arith, common_steps)))
 
+-- ten pieces, one after another
+ten-pieces : (a b c d e f g h i j : List ℕ) → a ++ (b ++ (c ++ (d ++ (e ++ (f ++ (g ++ (h ++ (i ++ j)))))))) ≡ ((((((((a ++ b) ++ c) ++ d) ++ e) ++ f) ++ g) ++ h) ++ i) ++ j
+ten-pieces a b c d e f g h i j =
+    sym (append_assoc a b (c ++ (d ++ (e ++ (f ++ (g ++ (h ++ (i ++ j))))))))
+    ∙ sym (append_assoc (a ++ b) c (d ++ (e ++ (f ++ (g ++ (h ++ (i ++ j)))))))
+    ∙ sym (append_assoc ((a ++ b) ++ c) d (e ++ (f ++ (g ++ (h ++ (i ++ j))))))
+    ∙ sym (append_assoc (((a ++ b) ++ c) ++ d) e (f ++ (g ++ (h ++ (i ++ j)))))
+    ∙ sym (append_assoc ((((a ++ b) ++ c) ++ d) ++ e) f (g ++ (h ++ (i ++ j))))
+    ∙ sym (append_assoc (((((a ++ b) ++ c) ++ d) ++ e) ++ f) g (h ++ (i ++ j)))
+    ∙ sym (append_assoc ((((((a ++ b) ++ c) ++ d) ++ e) ++ f) ++ g) h (i ++ j))
+    ∙ sym (append_assoc (((((((a ++ b) ++ c) ++ d) ++ e) ++ f) ++ g) ++ h) i (j))
+
 pub stats-parts : (r l h e c r' l' h' e' c' : List ℕ) → r ≡ r' → l ≡ l' → h ≡ h' → e ≡ e' → c ≡ c'
     → codes "stats release " ++ (r ++ (codes " looks " ++ (l ++ (codes " hits " ++ (h ++ (codes " entries " ++ (e ++ (codes " capacity " ++ (c ++ codes "\n")))))))))
     ≡ codes "stats release " ++ r' ++ codes " looks " ++ l' ++ codes " hits " ++ h' ++ codes " entries " ++ e' ++ codes " capacity " ++ c' ++ codes "\n"
-stats-parts r l h e c r' l' h' e' c' p q s t u = rw (p, q, s, t, u) (ap (λ x. codes "stats release " ++ x) (grind (arith, common_steps)))
+stats-parts r l h e c r' l' h' e' c' p q s t u =
+    rw (p, q, s, t, u) (ap (λ x. codes "stats release " ++ x) (ten-pieces r' (codes " looks ") l' (codes " hits ") h' (codes " entries ") e' (codes " capacity ") c' (codes "\n")))
 
 module _ (setup : SetupValue) (desk : DeskValue) (line : List ℕ) (p q : ℕ) where
   pub by-table : (query : QueryValue) (text : List ℕ) → Reads setup.schema line query → text ≡ table_text setup (current_of desk) query → q ≤ p + table_price setup (current_of desk) query → Answers setup desk line text p q

@@ -17,9 +17,11 @@ roll_into-requires-clause-few c =
     omega (arith, cube-counts c.args.plan.now.shape (vars_of c.args.plan.now) c.args.release.now.records c.args.cube.now c.requires.cube (there-own c.args.plan.now) c.requires.fit, c.soundness.ensures.few)
 
 pub returns : goal.returns
-returns c = λ schema query e.
-    let records = c.args.release.now.records in
-    let fit : AllFit c.args.cube.now.shape records = subst (λ (v : CubeValue). AllFit v.shape records) (sym c.requires.cube) c.requires.fit in
-    let held : Holds c.args.cube.now records = subst (λ (v : CubeValue). Holds v records) (sym c.requires.cube) refl in
-    take_at c.roll_into.new.cells _ c.in_ok-cells.cells.len (omega (arith, c.roll_into.auto.cells, c.deref_mut.ensures.len, c.in_ok-cells.cells.ok))
-    ∙ c.roll_into.ensures.counted schema query records e fit held
+returns c = record {
+  cells = λ schema query e.
+      let records = c.args.release.now.records in
+      let fit : AllFit c.args.cube.now.shape records = subst (λ (v : CubeValue). AllFit v.shape records) (sym c.requires.cube) c.requires.fit in
+      let held : Holds c.args.cube.now records = subst (λ (v : CubeValue). Holds v records) (sym c.requires.cube) refl in
+      take_at c.roll_into.new.cells _ c.in_ok-cells.cells.len (omega (arith, c.roll_into.auto.cells, c.deref_mut.ensures.len, c.in_ok-cells.cells.ok))
+      ∙ c.roll_into.ensures.counted schema query records e fit held;
+}
