@@ -1,15 +1,13 @@
 -- Where a line leads, by what it asks for.
-use Rattle.std.proofs.Common.{◌≡◌, ◌∙◌, refl, sym, ap, subst, ℕ, ◌+◌, ◌≤◌, List, [], arith}
-use Rattle.tb_core.specs.Desks.{DeskValue, current_of}
+use Rattle.std.proofs.Common.{◌≡◌, refl, sym, ap, subst, ℕ, ◌+◌, ◌≤◌, List, [], arith}
+use Rattle.tb_core.specs.Desks.{current_of}
 use Rattle.tb_model.specs.Setups.{SetupValue}
-use Rattle.tb_release.specs.Batches.{BatchValue}
 use Rattle.tb_release.specs.Chains.{release_after}
 use Rattle.tb_script.specs.Asks.{asks_of}
 use Rattle.tb_script.specs.declared.asks.Asks.{Asks}
 use Rattle.tb_script.specs.declared.asks.Asks.TheVariants as asks
 use Rattle.tb_script.specs.declared.revise.State.{State}
-use Rattle.tb_script.specs.Outputs.{ReplyValue}
-use Rattle.tb_script.specs.Replies.{StateValue, IsCapacityReply, IsEditReply, IsReplyTo, IsStatsReply}
+use Rattle.tb_script.specs.Replies.{IsCapacityReply, IsEditReply, IsReplyTo, IsStatsReply}
 use Rattle.tb_script.specs.ReplyLines.{cleared_line}
 use Rattle.tb_script.specs.Scripts.{ScriptLine}
 use Rattle.tb_script.specs.States.{Answers, KeepsChain, PublishLeads, ReplyLeads, value_of}

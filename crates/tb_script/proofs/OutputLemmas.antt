@@ -1,7 +1,5 @@
 -- Outputs of a script, line by line.
-use Rattle.std.proofs.Common.{◌≡◌, ◌∙◌, sym, ap, subst, refl, ℕ, Bool, ◌+◌, ◌<◌, ◌≤◌, List, [], ◌∷◌, ◌++◌, length, map, sum_by, take, drop, get_or, Option, inl, inr, arith, append_assoc, append-nil, true, false}
-use Rattle.std.specs.List.{concat}
-use Rattle.std.proofs.lemmas.Bool.{cases_Bool}
+use Rattle.std.proofs.Common.{◌≡◌, ◌∙◌, sym, ap, subst, refl, ℕ, ◌+◌, ◌<◌, ◌≤◌, List, [], ◌∷◌, ◌++◌, length, take, drop, get_or, Option, inr, arith, append_assoc, append-nil}
 use Rattle.std.proofs.lemmas.List.{take-append-drop, take_all, take_more}
 use Rattle.std.proofs.lemmas.List.Sums.{sum_by-append}
 use Rattle.tb_io.specs.Taken.{Took, TookPart}

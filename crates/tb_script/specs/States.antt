@@ -8,7 +8,6 @@ use Rattle.tb_release.specs.Laws.{EditFits}
 use Rattle.tb_release.specs.declared.edits.Edit.{Edit}
 use Rattle.tb_release.specs.declared.fault.EditFault.{EditFault}
 use Rattle.tb_release.specs.declared.fault.EditFault.TheVariants as fault
-use Rattle.tb_script.specs.Outputs.{ReplyValue}
 use Rattle.tb_script.specs.Replies.{StateValue, IsAnswer, IsPublishReply, IsReply, batch_of}
 use Rattle.tb_script.specs.Scripts.{ScriptLine}
 use Rattle.tb_script.specs.declared.revise.State.{State}

@@ -31,12 +31,7 @@ use tb_scan::{empty_cells, put_all, put_totals};
 use tb_text::{Setup, table_text};
 
 // The cells of a plan's table over a release, rolled up from the cube of the plan's variables.
-fn roll_up(
-    alloc: Global,
-    cube: &Cube,
-    plan: &Plan,
-    release: &Release,
-) -> Result<Vec<Cell>, Memory>
+fn roll_up(alloc: Global, cube: &Cube, plan: &Plan, release: &Release) -> Result<Vec<Cell>, Memory>
     requires cube { cube.now ≡ cube_over plan.now.shape (vars_of plan.now) release.now.records }
     requires fit { AllFit plan.now.shape release.now.records }
     ensures cells { (schema : SchemaValue) (query : QueryValue) → plan.now ≡ plan_of schema query

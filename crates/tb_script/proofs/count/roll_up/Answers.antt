@@ -1,4 +1,4 @@
-use Rattle.std.proofs.Common.{◌≡◌, ◌∙◌, ◌≤◌, refl, sym, subst, true, arith}
+use Rattle.std.proofs.Common.{◌≡◌, ◌∙◌, refl, sym, subst, true, arith}
 use Rattle.tb_base.specs.Records.{AllFit}
 use Rattle.tb_base.specs.Sets.{includes_all}
 use Rattle.tb_cube.specs.Cubes.{CubeValue, Holds}
