@@ -1,9 +1,10 @@
 -- A desk: release 0, the chain of batches, and the cubes that are kept.
-use Rattle.std.specs.Prelude.{◌≡◌, ◌<◌, ◌≤◌, ℕ, All, List, take, length, slice_index, bytes_eq, refl}
+use Rattle.std.specs.Prelude.{◌≡◌, ◌<◌, ◌≤◌, ℕ, All, List, take, length, bytes_eq, refl}
 use Rattle.std.specs.List.{AllByRecursion, IsDistinct}
 use Rattle.std.specs.Map.{keys_of}
 use Rattle.std.specs.Coded.{Coded, code_by, coded×, coded_list, coded_ℕ}
 use Rattle.tb_base.specs.Records.{AllFit}
+use Rattle.tb_cache.specs.Recency.{CacheValue, numbers_of}
 use Rattle.tb_cache.specs.declared.TheConstants.{MOST_ENTRIES}
 use Rattle.tb_cube.specs.Cubes.{CubeValue, cell_count, cube_over}
 use Rattle.tb_grid.specs.declared.products.TheConstants.{MOST_CELLS}
@@ -13,9 +14,9 @@ use Rattle.tb_release.specs.Chains.{IsChain, release_after}
 use Rattle.tb_release.specs.Releases.{IsSound as IsSoundRelease}
 use Rattle.tb_release.specs.Results.{ChangeFits}
 
--- the shape, release 0 and the chain; the sets of variables of which a cube is kept, the most recent
--- first, each with the number of the cube's release, and how many there may be; how often a cube was
--- looked for and found
+-- the shape, release 0 and the chain; the sets of variables of which a cube is kept, the most
+-- recent first, each with the number of the cube's release, and how many there may be; how often a
+-- cube was looked for and found
 pub record DeskValue : Type 0 where
   pub shape : List ℕ
   pub base : ReleaseValue
@@ -56,12 +57,27 @@ pub record IsRevised (shape : List ℕ) (base : ReleaseValue) (chain : List Batc
 -- chain, no set is there twice, each has a cube, and there are no more than there may be
 pub record IsSound (desk : DeskValue) : Type 0 where
   pub revised : IsRevised desk.shape desk.base desk.chain
-  pub numbers : AllByRecursion (λ e. (e.1 ≤ length desk.chain) × HasCube desk.shape e.0) desk.entries
+  pub numbers : AllByRecursion
+      (λ e. (e.1 ≤ length desk.chain) × HasCube desk.shape e.0) desk.entries
   pub distinct : IsDistinct bytes_eq (keys_of desk.entries)
   pub fits : length desk.entries ≤ desk.capacity
   pub some : 0 < desk.capacity
   pub few : desk.capacity ≤ MOST_ENTRIES
   pub hits_few : desk.hits ≤ desk.looks
+
+-- a desk as it is seen: of what its cache holds, the sets and the numbers of the cubes' releases
+abbrev pub desk_view : {A : Type 0} → List ℕ → ReleaseValue → List BatchValue → CacheValue A
+    → ℕ → ℕ → DeskValue
+desk_view shape base chain cache looks hits =
+    record {
+      shape = shape;
+      base = base;
+      chain = chain;
+      entries = numbers_of cache.entries;
+      capacity = cache.capacity;
+      looks = looks;
+      hits = hits;
+    }
 
 -- what a desk holds beside what it is seen as, the current release and each entry's cube, which
 -- `cube_in` shows: they are what the chain says

@@ -4,11 +4,13 @@ ghost use Rattle.std.specs.Prelude.{◌≡◌, ◌==◌, ◌+◌, ◌≤◌, Lis
 ghost use Rattle.std.specs.Option.{option_map_or};
 ghost use Rattle.std.specs.Arc.{arc_value};
 ghost use Rattle.tb_base.specs.Records.{AllFit};
+ghost use Rattle.tb_core.specs.Advancing.{CanAdvanceAlong};
 ghost use Rattle.tb_core.specs.Desks.{HasCube};
 ghost use Rattle.tb_core.specs.Takes.{cube_price, found_in, number_of, release_in, IsTaken};
 ghost use Rattle.tb_cube.specs.Cubes.{cube_over};
 ghost use Rattle.tb_model.specs.Releases.{ReleaseValue};
 ghost use Rattle.tb_release.specs.Batches.{BatchValue};
+ghost use Rattle.tb_release.specs.Chains.{change_count, release_after};
 
 use crate::desk::Taken;
 use std::alloc::Global;
@@ -62,5 +64,27 @@ pub fn cube_for<L: Ledger>(
     ensures anew { IfOk result (λ made. made.1
         ≡ option_map_or (λ m. not (m == number_of taken.now)) (found_in taken.now) true) }
 {
-    todo!()
+    let Some(hit) = &taken.hit else {
+        let cube = build(alloc, shape, vars, &taken.release, steps)?;
+        return Ok((Arc::new(alloc, cube)?, true));
+    };
+    if hit.number == taken.release.number() {
+        return Ok((Arc::try_clone(&hit.cube)?, false));
+    }
+    let mut cube = hit.cube.copy()?;
+    advance_along(&mut cube, &hit.pending, steps);
+    Ok((Arc::new(alloc, cube)?, true))
+}
+
+// Advances a cube by one batch after another.
+fn advance_along<L: Ledger>(cube: &mut Cube, pending: &Batches, steps: &mut Steps<L>)
+    requires { (release : ReleaseValue) × CanAdvanceAlong cube.old pending.now release }
+    ensures cube { (release : ReleaseValue) → CanAdvanceAlong cube.old pending.now release
+        → cube.new ≡ cube_over cube.old.shape cube.old.vars
+        (release_after release pending.now).records }
+    ensures charge { steps.new ≡ steps.old + change_count pending.now }
+{
+    for i in 0..pending.len() {
+        advance(cube, pending.at(i), steps);
+    }
 }

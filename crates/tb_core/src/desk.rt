@@ -2,12 +2,13 @@
 
 ghost use Rattle.std.specs.Prelude.{◌≡◌, ◌<◌, ◌≤◌, [], All, drop, if◌then◌else◌};
 ghost use Rattle.std.specs.Prelude.{Some, option_map, IfOk, OnOk, OnErr};
-ghost use Rattle.std.specs.Option.{option_copied};
+ghost use Rattle.std.specs.Option.{ForSome, option_copied};
 ghost use Rattle.std.specs.Arc.{arc_value};
 ghost use Rattle.tb_base.specs.Records.{AllFit};
 ghost use Rattle.tb_cache.specs.Recency.{found};
 ghost use Rattle.tb_cache.specs.declared.TheConstants.{MOST_ENTRIES};
 ghost use Rattle.tb_core.specs.Desks.{current_of, IsCubeAt, IsSound};
+ghost use Rattle.tb_core.specs.Takes.{IsTaken};
 ghost use Rattle.tb_core.specs.Turns.{after_adoption, after_clear, after_look, after_resize};
 ghost use Rattle.tb_core.specs.Turns.{counted, hit_at, hit_for, no_older as is_no_older};
 ghost use Rattle.tb_core.specs.Turns.{stats_of, IsOffered};
@@ -23,6 +24,9 @@ use tb_base::{Memory, Shape, VarSet};
 use tb_cache::CubeCache;
 use tb_cube::Cube;
 use tb_release::{Batch, Batches, Release};
+
+#[cfg(test)]
+mod tests;
 
 /// A cube that was found: that of the numbered release, and the batches from there to the release
 /// that was taken.
@@ -84,17 +88,16 @@ pub struct Desk {
 
 impl Model for Desk {
     ghost use Rattle.std.specs.Arc.{arc_value};
-    ghost use Rattle.tb_cache.specs.Recency.{numbers_of};
-    ghost use Rattle.tb_core.specs.Desks.{DeskValue, IsDesk, desk_code};
+    ghost use Rattle.tb_core.specs.Desks.{DeskValue, IsDesk, desk_code, desk_view};
 
     ghost Value = { DeskValue };
 
     ghost coded = { desk_code };
 
-    ghost view = { λ d. record { shape = d.shape; base = arc_value d.base; chain = d.chain; entries = numbers_of d.cache.entries; capacity = d.cache.capacity; looks = d.looks; hits = d.hits } };
+    ghost view = { λ d. desk_view d.shape (arc_value d.base) d.chain d.cache d.looks d.hits };
 
     ghost invariant = { λ d. IsDesk arc_value
-        (record { shape = d.shape; base = arc_value d.base; chain = d.chain; entries = numbers_of d.cache.entries; capacity = d.cache.capacity; looks = d.looks; hits = d.hits })
+        (desk_view d.shape (arc_value d.base) d.chain d.cache d.looks d.hits)
         (arc_value d.current) d.cache.entries };
 }
 
@@ -134,7 +137,15 @@ impl Desk {
         requires fit { AllFit shape.now (arc_value base).records }
         requires some { 0 < capacity }
         requires few { capacity ≤ MOST_ENTRIES }
-        ensures { IfOk result (λ desk. desk ≡ record { shape = shape.now; base = arc_value base; chain = []; entries = []; capacity = capacity; looks = 0; hits = 0 }) }
+        ensures { IfOk result (λ desk. desk ≡ record {
+          shape = shape.now;
+          base = arc_value base;
+          chain = [];
+          entries = [];
+          capacity = capacity;
+          looks = 0;
+          hits = 0;
+        }) }
     {
         base.soundness();
         let current = Arc::try_clone(&base)?;
@@ -165,14 +176,20 @@ impl Desk {
     }
 
     /// The current release. For a set it also looks for its cube, brings it to the front and counts
-    /// that; what is found comes with the batches that are missing. After want of memory the desk is
-    /// as before.
+    /// the look; what is found comes with the batches that are missing, in a list that takes
+    /// memory. After want of memory the desk is as before.
     pub fn take(&mut self, vars: Option<&VarSet>) -> Result<Taken, Memory>
         ensures release { IfOk result (λ taken. arc_value taken.release ≡ current_of self.old) }
-        ensures hit { IfOk result (λ taken. option_map hit_of taken.hit ≡ hit_for (option_copied vars.entry) self.old) }
+        ensures hit { IfOk result (λ taken. option_map hit_of taken.hit
+            ≡ hit_for (option_copied vars.entry) self.old) }
         ensures ok { OnOk result (self.new ≡ after_look (option_copied vars.entry) self.old) }
         ensures err { OnErr result (self.new ≡ self.old) }
         ensures sound { IsSound self.old }
+        // What is taken for a set is of the chain, and leads to the release's cube over it.
+        ensures taken { IfOk result (λ taken. ForSome (option_copied vars.entry)
+            (λ set. IsTaken self.old.shape self.old.base self.old.chain set taken)) }
+        ensures fit { IfOk result
+            (λ taken. AllFit self.old.shape (arc_value taken.release).records) }
     {
         self.soundness();
         let release = Arc::try_clone(&self.current)?;
@@ -186,7 +203,8 @@ impl Desk {
 
     // What is found for a set.
     fn hit(&self, vars: &VarSet) -> Result<Option<Hit>, Memory>
-        ensures { IfOk result (λ hit. option_map hit_of hit ≡ option_map (hit_at self.now vars.now) (found vars.now self.now.entries)) }
+        ensures { IfOk result (λ hit. option_map hit_of hit
+            ≡ option_map (hit_at self.now vars.now) (found vars.now self.now.entries)) }
     {
         let Some((number, cube)) = self.cache.find(vars) else {
             return Ok(None);
@@ -214,6 +232,8 @@ impl Desk {
         ensures { IsOffered self.old offer.vars offer.number result self.new }
     {
         let Offer { vars, number, cube } = offer;
+        // Its clause tells that the variables are the shape's, and the cells not too many.
+        let _ = cube.cells();
         if let Some(kept) = no_older(self.peek(&vars), number) {
             return Offered::Older(kept);
         }
