@@ -23,7 +23,7 @@ use Rattle.tb_core.proofs.LawLemmas.{bare-run}
 use Rattle.tb_core.proofs.SystemLemmas.{map-replicate}
 
 -- ---- an element of a list that was changed at a place, or has one more
-get-set : {X : Type 0} (xs : List X) (i j : ℕ) (y z : X) → slice_get (set xs i y) j ≡ Some z → ((j ≡ i) × (y ≡ z)) ⊎ ((j ≡ i → ⊥) × (slice_get xs j ≡ Some z))
+pub get-set : {X : Type 0} (xs : List X) (i j : ℕ) (y z : X) → slice_get (set xs i y) j ≡ Some z → ((j ≡ i) × (y ≡ z)) ⊎ ((j ≡ i → ⊥) × (slice_get xs j ≡ Some z))
 get-set [] i j y z at = cc
 get-set (x ∷ xs) zero zero y z at = inl (refl, cc)
 get-set (x ∷ xs) zero (suc j) y z at = inr (λ e. omega (arith, e), at)
@@ -34,7 +34,7 @@ get-set (x ∷ xs) (suc i) (suc j) y z at =
       | inr h ↦ inr (λ e. h.0 (omega (arith, e)), h.1)
     ]
 
-get-push : {X : Type 0} (xs : List X) (i : ℕ) (x y : X) → slice_get (xs ++ x ∷ []) i ≡ Some y → (slice_get xs i ≡ Some y) ⊎ ((i ≡ length xs) × (x ≡ y))
+pub get-push : {X : Type 0} (xs : List X) (i : ℕ) (x y : X) → slice_get (xs ++ x ∷ []) i ≡ Some y → (slice_get xs i ≡ Some y) ⊎ ((i ≡ length xs) × (x ≡ y))
 get-push [] zero x y at = inr (refl, cc)
 get-push [] (suc i) x y at = cc
 get-push (z ∷ xs) zero x y at = inl at
@@ -44,7 +44,7 @@ get-push (z ∷ xs) (suc i) x y at =
       | inr h ↦ inr (ap suc h.0, h.1)
     ]
 
-get-replicate : {X : Type 0} (n i : ℕ) (x y : X) → slice_get (replicate n x) i ≡ Some y → x ≡ y
+pub get-replicate : {X : Type 0} (n i : ℕ) (x y : X) → slice_get (replicate n x) i ≡ Some y → x ≡ y
 get-replicate zero i x y at = cc
 get-replicate (suc n) zero x y at = cc
 get-replicate (suc n) (suc i) x y at = get-replicate n i x y at
