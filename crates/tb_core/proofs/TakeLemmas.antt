@@ -90,4 +90,6 @@ module _ (shape : List ℕ) (base : ReleaseValue) (chain : List BatchValue) (var
   pub few_pending : (hit : Hit) → taken.hit ≡ Some hit → change_count hit.pending ≤ (release_in taken).changes
   few_pending hit is =
       let f = is_found hit is in
-      rw (f.pending, t.release_is) (few_changes shape base chain hit.number (number_of taken) t.revised f.low)
+      let few : change_count hit.pending ≤ (release_at base chain (number_of taken)).changes =
+      subst (λ (p : List BatchValue). change_count p ≤ (release_at base chain (number_of taken)).changes) (sym f.pending) (few_changes shape base chain hit.number (number_of taken) t.revised f.low) in
+      subst (λ (r : ReleaseValue). change_count hit.pending ≤ r.changes) (sym t.release_is) few

@@ -100,7 +100,12 @@ desk_code =
     (coded× coded_ℕ (coded× coded_ℕ coded_ℕ))))))
     (λ d. (d.shape, (d.base, (d.chain, (d.entries, (d.capacity, (d.looks, d.hits)))))))
     (λ p. record {
-      shape = p.0; base = p.1.0; chain = p.1.1.0; entries = p.1.1.1.0;
-      capacity = p.1.1.1.1.0; looks = p.1.1.1.1.1.0; hits = p.1.1.1.1.1.1;
+      shape = p.0;
+      base = p.1.0;
+      chain = p.1.1.0;
+      entries = p.1.1.1.0;
+      capacity = p.1.1.1.1.0;
+      looks = p.1.1.1.1.1.0;
+      hits = p.1.1.1.1.1.1;
     })
     (λ _. refl)

@@ -207,12 +207,7 @@ fn is_like(cube: &Cube, want: &[(u32, u8)]) -> bool {
             && cell.key == *key)
 }
 
-fn offer(
-    desk: &mut Desk,
-    vars: &VarSet,
-    number: u32,
-    cube: Arc<Cube>,
-) -> Result<Offered, Memory>
+fn offer(desk: &mut Desk, vars: &VarSet, number: u32, cube: Arc<Cube>) -> Result<Offered, Memory>
     requires { IsCubeAt desk.old.shape desk.old.base desk.old.chain
         vars.now number (arc_value cube) }
 {

@@ -1,8 +1,6 @@
-use Rattle.std.proofs.Common.{◌≡◌, ◌+◌, take, length, sym, ap, subst, ◌∙◌, arith}
+use Rattle.std.proofs.Common.{take, arith}
 use Rattle.std.specs.Arc.{arc_value}
-use Rattle.std.proofs.lemmas.List.{take_all}
-use Rattle.tb_release.specs.Batches.{BatchValue}
-use Rattle.tb_release.specs.Chains.{change_count, release_after}
+use Rattle.tb_release.specs.Chains.{release_after}
 use Rattle.tb_core.proofs.LeadLemmas.{advanced, can_advance, changes_fit, one_more_count, start_is}
 use Rattle.tb_core.proofs.cubes.advance_along.Goals as goal
 

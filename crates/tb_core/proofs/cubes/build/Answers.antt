@@ -1,4 +1,4 @@
-use Rattle.std.proofs.Common.{◌≡◌, ◌+◌, ◌≤◌, ap, length, take, get_or, [], List, arith}
+use Rattle.std.proofs.Common.{◌+◌, ◌≤◌, ap, length, take, List, arith}
 use Rattle.std.specs.Prelude.{flat_map}
 use Rattle.tb_base.specs.declared.people.TheConstants.{MOST_PERSONS}
 use Rattle.tb_base.specs.declared.records.Record.{Record}
