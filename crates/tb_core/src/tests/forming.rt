@@ -1,7 +1,8 @@
-// Release 0 of rows that fit a shape, and events.
+// Release 0 of the small microdata, edits and events.
 
-ghost use Rattle.std.specs.Prelude.{◌≡◌, ℕ, true, IfOk, OnOk};
+ghost use Rattle.std.specs.Prelude.{◌≡◌, ℕ, true, List, All, IfOk, OnOk};
 ghost use Rattle.tb_base.specs.Records.{AllFit, Fits};
+ghost use Rattle.tb_release.specs.Laws.{EditFits};
 
 use crate::Event;
 use crate::fitting::they_fit;
@@ -10,7 +11,18 @@ use tb_base::{Codes, MOST_PERSONS, Memory, People, Record, Shape, VarSet};
 use tb_release::{Edit, Edits, Release};
 
 // A person, the record key, and the categories of SEX, AGE and AREA.
-pub type Row = (u32, u8, [u16; 3]);
+type Row = (u32, u8, [u16; 3]);
+
+static FOUR: [Row; 4] = [
+    (101, 200, [0, 0, 0]),
+    (102, 100, [0, 1, 0]),
+    (103, 20, [0, 2, 1]),
+    (104, 7, [1, 1, 1]),
+];
+
+fn four() -> &'static [Row] {
+    &FOUR
+}
 
 // What callers and the custodian do. A caller takes AREA, and the custodian drops a person.
 #[derive(Clone, Copy)]
@@ -55,23 +67,23 @@ fn add(people: &mut People, shape: &Shape, one: Record) -> Result<(), Memory>
     }
 }
 
-fn people_of(alloc: Global, shape: &Shape, rows: &[Row]) -> Result<People, Memory>
+fn people_of(alloc: Global, shape: &Shape) -> Result<People, Memory>
     ensures { IfOk result (AllFit shape.now) }
 {
     let mut people = People::new(alloc);
-    for row in rows {
+    for row in four() {
         let one = record_of(alloc, shape, *row)?;
         add(&mut people, shape, one)?;
     }
     Ok(people)
 }
 
-// Release 0 of some rows.
-pub fn release_of(alloc: Global, shape: &Shape, rows: &[Row]) -> Result<Release, Memory>
+// Release 0 of the four.
+pub fn release_of(alloc: Global, shape: &Shape) -> Result<Release, Memory>
     ensures first { IfOk result (λ release. release.number ≡ 0) }
     ensures fit { IfOk result (λ release. AllFit shape.now release.records) }
 {
-    let people = people_of(alloc, shape, rows)?;
+    let people = people_of(alloc, shape)?;
     if people.len() > MOST_PERSONS {
         return Err(Memory);
     }
@@ -83,7 +95,10 @@ pub fn area(alloc: Global) -> Result<VarSet, Memory> {
     VarSet::of(alloc, &[2])
 }
 
-fn drop_of(alloc: Global, person: u32) -> Result<Edits, Memory> {
+// The edit by which a person leaves, which fits every shape.
+pub fn drop_of(alloc: Global, person: u32) -> Result<Edits, Memory>
+    ensures { IfOk result (λ edits. (shape : List ℕ) → All (EditFits shape) edits) }
+{
     let mut edits = Edits::new(alloc);
     match edits.push(Edit::Drop { person }) {
         Ok(()) => Ok(edits),
