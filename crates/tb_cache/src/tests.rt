@@ -14,27 +14,27 @@ enum Ask {
     Clear,
 }
 
-// An ask, and the numbers that stand then at the sets of variable 0, 1 and 2.
-type Step = (Ask, [Option<u32>; 3]);
+// An ask, and the numbers that stand then at the sets of variable 0, 1 and 2, or 0 for none.
+type Step = (Ask, [u32; 3]);
 
 // From an empty cache of two entries on. Beside each step are the sets in their order.
 static STEPS: [Step; 16] = [
-    (Ask::Put(0, 1), [Some(1), None, None]), // 0
-    (Ask::Put(1, 2), [Some(1), Some(2), None]), // 1 0
-    (Ask::Look(0), [Some(1), Some(2), None]), // 0 1
-    (Ask::Put(2, 3), [Some(1), None, Some(3)]), // 2 0
-    (Ask::Put(0, 4), [Some(4), None, Some(3)]), // 0 2
-    (Ask::Put(1, 5), [Some(4), Some(5), None]), // 1 0
-    (Ask::Resize(1), [None, Some(5), None]), // 1
-    (Ask::Put(2, 6), [None, None, Some(6)]), // 2
-    (Ask::Put(2, 7), [None, None, Some(7)]), // 2
-    (Ask::Look(0), [None, None, Some(7)]), // 2
-    (Ask::Resize(3), [None, None, Some(7)]), // 2
-    (Ask::Put(0, 8), [Some(8), None, Some(7)]), // 0 2
-    (Ask::Put(1, 9), [Some(8), Some(9), Some(7)]), // 1 0 2
-    (Ask::Look(2), [Some(8), Some(9), Some(7)]), // 2 1 0
-    (Ask::Resize(2), [None, Some(9), Some(7)]), // 2 1
-    (Ask::Clear, [None, None, None]),
+    (Ask::Put(0, 1), [1, 0, 0]), // 0
+    (Ask::Put(1, 2), [1, 2, 0]), // 1 0
+    (Ask::Look(0), [1, 2, 0]), // 0 1
+    (Ask::Put(2, 3), [1, 0, 3]), // 2 0
+    (Ask::Put(0, 4), [4, 0, 3]), // 0 2
+    (Ask::Put(1, 5), [4, 5, 0]), // 1 0
+    (Ask::Resize(1), [0, 5, 0]), // 1
+    (Ask::Put(2, 6), [0, 0, 6]), // 2
+    (Ask::Put(2, 7), [0, 0, 7]), // 2
+    (Ask::Look(0), [0, 0, 7]), // 2
+    (Ask::Resize(3), [0, 0, 7]), // 2
+    (Ask::Put(0, 8), [8, 0, 7]), // 0 2
+    (Ask::Put(1, 9), [8, 9, 7]), // 1 0 2
+    (Ask::Look(2), [8, 9, 7]), // 2 1 0
+    (Ask::Resize(2), [0, 9, 7]), // 2 1
+    (Ask::Clear, [0, 0, 0]),
 ];
 
 fn steps() -> &'static [Step] {
@@ -68,21 +68,17 @@ fn make(alloc: Global, cache: &mut CubeCache<u32>, ask: Ask) -> Result<(), Memor
     }
 }
 
-// The number at a set, where the value that is found is that number.
-fn number_at(alloc: Global, cache: &CubeCache<u32>, variable: u16) -> Result<Option<u32>, Memory> {
+// The number at a set, or 0 for none, where the value that is found is that number.
+fn number_at(alloc: Global, cache: &CubeCache<u32>, variable: u16) -> Result<u32, Memory> {
     let set = set_of(alloc, variable)?;
-    let number = cache.peek(&set);
+    let number = cache.peek(&set).unwrap_or(0);
     match cache.find(&set) {
-        Some((_, value)) if Some(*value) != number => Err(Memory),
+        Some((_, value)) if *value != number => Err(Memory),
         _ => Ok(number),
     }
 }
 
-fn is_right(
-    alloc: Global,
-    cache: &CubeCache<u32>,
-    want: &[Option<u32>; 3],
-) -> Result<bool, Memory> {
+fn is_right(alloc: Global, cache: &CubeCache<u32>, want: &[u32; 3]) -> Result<bool, Memory> {
     let [first, second, third] = want;
     Ok(
         number_at(alloc, cache, 0)? == *first

@@ -11,7 +11,7 @@ use Rattle.tb_model.specs.Releases.{ReleaseValue}
 use Rattle.tb_release.specs.Batches.{BatchValue}
 use Rattle.tb_release.specs.Chains.{change_count, release_after}
 use Rattle.tb_core.specs.Advancing.{CanAdvanceAlong}
-use Rattle.tb_core.specs.Desks.{DeskValue, IsSound, current_of, release_at}
+use Rattle.tb_core.specs.Desks.{DeskValue, IsCubeAt, IsSound, current_of, release_at}
 use Rattle.tb_core.specs.Takes.{IsHit, IsTaken, number_of, release_in}
 use Rattle.tb_core.specs.Turns.{HitValue, hit_at, hit_for}
 use Rattle.tb_core.specs.Views.{hit_of}
@@ -93,3 +93,7 @@ module _ (shape : List ℕ) (base : ReleaseValue) (chain : List BatchValue) (var
       let few : change_count hit.pending ≤ (release_at base chain (number_of taken)).changes =
       subst (λ (p : List BatchValue). change_count p ≤ (release_at base chain (number_of taken)).changes) (sym f.pending) (few_changes shape base chain hit.number (number_of taken) t.revised f.low) in
       subst (λ (r : ReleaseValue). change_count hit.pending ≤ r.changes) (sym t.release_is) few
+
+  -- the release's cube is one of the chain
+  pub cube_taken : (cube : CubeValue) → cube ≡ cube_over shape vars (release_in taken).records → IsCubeAt shape base chain vars (number_of taken) cube
+  cube_taken cube is = record { there = t.there; counted = is ∙ ap (λ (r : ReleaseValue). cube_over shape vars r.records) t.release_is }

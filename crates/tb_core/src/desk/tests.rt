@@ -108,6 +108,17 @@ fn is_like(cube: &Cube, want: &[(u32, u8)]) -> bool {
             && cell.key == *key)
 }
 
+// Whether what was taken, and the cube that came of it, are as wanted.
+fn is_wanted(taken: &Taken, cube: &Cube, anew: bool, want: &Want) -> bool {
+    if found_in(taken) != want.found || !is_like(cube, want.cells) {
+        return false;
+    }
+    match want.found {
+        Some((_, 0)) => !anew,
+        _ => anew,
+    }
+}
+
 fn offer(desk: &mut Desk, vars: &VarSet, number: u32, cube: Arc<Cube>) -> Result<Offered, Memory>
     requires { IsCubeAt desk.old.shape desk.old.base desk.old.chain
         vars.now number (arc_value cube) }
@@ -128,9 +139,7 @@ fn ask<L: Ledger>(
 {
     let taken = desk.take(Some(vars))?;
     let (cube, anew) = cube_for(alloc, desk.shape(), vars, &taken, steps)?;
-    let right = found_in(&taken) == want.found
-        && anew != matches!(want.found, Some((_, 0)))
-        && is_like(&cube, want.cells);
+    let right = is_wanted(&taken, &cube, anew, want);
     let offered = offer(desk, vars, taken.release.number(), cube)?;
     Ok(right && offered == want.offered)
 }
