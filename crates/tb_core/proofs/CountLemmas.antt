@@ -1,12 +1,12 @@
 -- Each reply's cells are counted from scratch, over a release of the chain whose records fit.
 use Rattle.std.proofs.Common.{◌≡◌, ℕ, ◌≤◌, Bool, true, false, List, [], ◌∷◌, ◌++◌, length, length-append, take, Option, Some, None, inl, inr, refl, sym, ap, ◌∙◌, subst, arith}
-use Rattle.std.specs.Prelude.{◌&&◌, All, fold, if◌then◌else◌, not, slice_get}
+use Rattle.std.specs.Prelude.{◌&&◌, fold, if◌then◌else◌, not, slice_get}
 use Rattle.std.proofs.lemmas.Bool.{and_parts}
 use Rattle.std.proofs.lemmas.List.{take-append-le}
 use Rattle.tb_base.specs.declared.cells.Cell.{Cell}
 use Rattle.tb_model.specs.Cubes.{cube_of}
 use Rattle.tb_model.specs.Releases.{ReleaseValue}
-use Rattle.tb_release.specs.Batches.{BatchValue, Follows, changes_of, next_release}
+use Rattle.tb_release.specs.Batches.{BatchValue, changes_of, next_release}
 use Rattle.tb_release.specs.Chains.{release_after}
 use Rattle.tb_release.specs.Results.{IsNext}
 use Rattle.tb_release.specs.declared.edits.Edit.{Edit}

@@ -1,5 +1,5 @@
 -- The numbers that a caller gets never fall: each is at most that of the release that it took since.
-use Rattle.std.proofs.Common.{◌≡◌, ℕ, zero, suc, ◌<◌, ◌≤◌, ◌⊎◌, Bool, true, false, List, [], ◌∷◌, ◌++◌, map, length, length-append, set, Option, Some, None, inl, inr, refl, sym, ap, ◌∙◌, subst, arith}
+use Rattle.std.proofs.Common.{◌≡◌, ℕ, zero, suc, ◌≤◌, ◌⊎◌, Bool, true, false, List, [], ◌∷◌, ◌++◌, length, length-append, set, Option, Some, None, inl, inr, refl, sym, ap, ◌∙◌, subst, arith}
 use Rattle.std.specs.Prelude.{◌&&◌, fold, if◌then◌else◌, not, replicate, slice_get}
 use Rattle.std.proofs.lemmas.Option.{slice_get_within}
 use Rattle.tb_base.specs.declared.cells.Cell.{Cell}

@@ -1,4 +1,4 @@
-use Rattle.std.proofs.Common.{◌≡◌, true, sym, ap, ◌∙◌}
+use Rattle.std.proofs.Common.{sym, ap, ◌∙◌}
 use Rattle.std.specs.Prelude.{◌&&◌, nat_le}
 use Rattle.tb_cube.specs.Cubes.{cell_count}
 use Rattle.tb_grid.specs.declared.products.TheConstants.{MOST_CELLS}
