@@ -126,7 +126,8 @@ fn no_older(kept: Option<u32>, number: u32) -> Option<u32>
 }
 
 impl Desk {
-    /// A desk at release 0, which keeps no cube yet.
+    /// A desk at release 0, which keeps no cube yet. It takes memory for a copy of the shape and
+    /// for the cache.
     pub fn new(
         alloc: Global,
         shape: &Shape,
@@ -225,7 +226,8 @@ impl Desk {
         self.looks = one_more(self.looks);
     }
 
-    /// Offers a cube to be kept. It is kept where no cube of its set is there that is as new.
+    /// Offers a cube to be kept. It is kept where no cube of its set is there that is as new. A set
+    /// that isn't there takes memory; after want of it the desk is as before.
     pub fn offer(&mut self, offer: Offer) -> Offered
         requires { IsCubeAt self.old.shape self.old.base self.old.chain
             offer.vars offer.number (arc_value offer.cube) }
@@ -243,7 +245,8 @@ impl Desk {
         }
     }
 
-    /// Goes on by a batch to the release that it leads to. The cubes stay.
+    /// Goes on by a batch to the release that it leads to. The cubes stay. The chain takes memory;
+    /// after want of it the desk is as before.
     pub fn adopt(&mut self, release: Arc<Release>, batch: Arc<Batch>) -> Result<(), Memory>
         requires follows { Follows (current_of self.old) (arc_value batch) }
         requires leads { arc_value release ≡ after_batch (current_of self.old) (arc_value batch) }
