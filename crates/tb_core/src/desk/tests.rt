@@ -1,39 +1,24 @@
 // What no clause says: that ample memory is enough. The numbers are worked out by hand.
 
-ghost use Rattle.std.specs.Prelude.{◌≡◌, ◌<◌, ℕ, true, List, All, IfOk};
+ghost use Rattle.std.specs.Prelude.{◌≡◌, ◌<◌, All};
 ghost use Rattle.std.specs.Arc.{arc_value};
-ghost use Rattle.tb_base.specs.Records.{AllFit, Fits};
 ghost use Rattle.tb_core.specs.Desks.{HasCube, IsCubeAt, current_of};
 ghost use Rattle.tb_release.specs.Batches.{Follows};
 ghost use Rattle.tb_release.specs.Chains.{after_batch};
-ghost use Rattle.tb_release.specs.Laws.{EditFits};
 ghost use Rattle.tb_release.specs.Results.{ChangeFits};
 
+use crate::fitting::fits_a_cube;
+use crate::tests::forming::{drop_of, release_of};
 use crate::{Desk, Offer, Offered, Stats, Taken, cube_for};
 use std::alloc::Global;
 use std::marker::Brand;
 use std::sync::Arc;
 use std::sync::ledger::{Blank, Ledger};
 use std::test::Fail;
-use tb_base::{Codes, MOST_PERSONS, Memory, People, Record, Shape, Steps, VarSet};
+use tb_base::{Memory, Shape, Steps, VarSet};
 use tb_cache::MOST_ENTRIES;
 use tb_cube::Cube;
-use tb_grid::{MOST_CELLS, cells_over};
-use tb_release::{Batch, Edit, EditFault, Edits, Release, next};
-
-// A person, the record key, and the categories of SEX, AGE and AREA.
-type Row = (u32, u8, [u16; 3]);
-
-static ROWS: [Row; 4] = [
-    (101, 200, [0, 0, 0]),
-    (102, 100, [0, 1, 0]),
-    (103, 20, [0, 2, 1]),
-    (104, 7, [1, 1, 1]),
-];
-
-fn rows() -> &'static [Row] {
-    &ROWS
-}
+use tb_release::{Batch, EditFault, Release, next};
 
 // What is done at a desk: the cube over a variable is asked for and then offered; a person leaves
 // with the next release; the capacity changes.
@@ -104,94 +89,10 @@ fn steps() -> &'static [Step] {
     &STEPS
 }
 
-fn record_of(alloc: Global, row: Row) -> Result<Record, Memory> {
-    let (person, key, categories) = row;
-    let codes = Codes::of(alloc, &categories)?;
-    Ok(Record { person, key, codes })
-}
-
-fn people_of(alloc: Global) -> Result<People, Memory> {
-    let mut people = People::new(alloc);
-    for row in rows() {
-        if people.add(record_of(alloc, *row)?).is_err() {
-            return Err(Memory);
-        }
-    }
-    Ok(people)
-}
-
-// Whether there is one category of each variable, and each is in range.
-fn codes_fit(shape: &Shape, key: u8, codes: &Codes) -> bool
-    ensures { result ≡ true → (person : ℕ)
-        → Fits shape.now (record { person = person; key = key; codes = codes.now }) }
-{
-    if codes.len() != shape.len() {
-        return false;
-    }
-    for v in 0..codes.len() {
-        if codes.at(v) >= shape.at(v) {
-            return false;
-        }
-    }
-    true
-}
-
-fn record_fits(shape: &Shape, one: &Record) -> bool
-    ensures { result ≡ true → Fits shape.now one.now }
-{
-    codes_fit(shape, one.key, &one.codes)
-}
-
-fn all_fit(shape: &Shape, records: &[Record]) -> bool
-    ensures { result ≡ true → AllFit shape.now records.now }
-{
-    for one in records {
-        if !record_fits(shape, one) {
-            return false;
-        }
-    }
-    true
-}
-
-// Release 0 of people who fit a shape.
-fn first(alloc: Global, shape: &Shape, people: People) -> Result<Release, Memory>
-    requires { AllFit shape.now people }
-    ensures fit { IfOk result (λ release. AllFit shape.now release.records) }
-    ensures number { IfOk result (λ release. release.number ≡ 0) }
-{
-    if people.len() > MOST_PERSONS {
-        return Err(Memory);
-    }
-    Release::first(alloc, people)
-}
-
-fn base_of(alloc: Global, shape: &Shape) -> Result<Release, Memory>
-    ensures fit { IfOk result (λ release. AllFit shape.now release.records) }
-    ensures number { IfOk result (λ release. release.number ≡ 0) }
-{
-    let people = people_of(alloc)?;
-    if !all_fit(shape, people.all()) {
-        return Err(Memory);
-    }
-    first(alloc, shape, people)
-}
-
 fn desk_of(alloc: Global) -> Result<Desk, Memory> {
     let shape = Shape::of(alloc, &[2, 3, 2])?;
-    let base = Arc::new(alloc, base_of(alloc, &shape)?)?;
+    let base = Arc::new(alloc, release_of(alloc, &shape)?)?;
     Desk::new(alloc, &shape, base, 4)
-}
-
-// Whether there is a cube over some variables.
-fn has_cube(shape: &Shape, vars: &VarSet) -> bool
-    ensures { result ≡ true → HasCube shape.now vars.now }
-{
-    for i in 0..vars.len() {
-        if vars.at(i) as usize >= shape.len() {
-            return false;
-        }
-    }
-    cells_over(shape, vars, 0) <= MOST_CELLS
 }
 
 fn found_in(taken: &Taken) -> Option<(u32, usize)> {
@@ -251,21 +152,10 @@ fn ask_for<L: Ledger>(
     steps: &mut Steps<L>,
 ) -> Result<bool, Memory> {
     let vars = VarSet::of(alloc, &[variable])?;
-    if !has_cube(desk.shape(), &vars) {
+    if !fits_a_cube(desk.shape(), &vars) {
         return Ok(false);
     }
     ask(alloc, desk, &vars, want, steps)
-}
-
-// The edit by which a person leaves.
-fn edits_of(alloc: Global, person: u32) -> Result<Edits, Memory>
-    ensures { IfOk result (λ edits. (shape : List ℕ) → All (EditFits shape) edits) }
-{
-    let mut edits = Edits::new(alloc);
-    match edits.push(Edit::Drop { person }) {
-        Ok(()) => Ok(edits),
-        Err(_) => Err(Memory),
-    }
 }
 
 fn adopt(alloc: Global, desk: &mut Desk, release: Release, batch: Batch) -> Result<(), Memory>
@@ -280,7 +170,7 @@ fn adopt(alloc: Global, desk: &mut Desk, release: Release, batch: Batch) -> Resu
 
 fn leave(alloc: Global, desk: &mut Desk, person: u32) -> Result<(), EditFault> {
     let taken = desk.take(None)?;
-    let edits = edits_of(alloc, person)?;
+    let edits = drop_of(alloc, person)?;
     let (release, batch) = next(alloc, desk.shape(), &taken.release, &edits)?;
     adopt(alloc, desk, release, batch)?;
     Ok(())
