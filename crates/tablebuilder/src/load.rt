@@ -148,8 +148,10 @@ fn desk_of(alloc: Global, shape: &Shape, people: People) -> Result<Desk, Memory>
         (λ desk. desk.base ≡ first_release setup people) }
     ensures chain { IfOk result (λ desk. desk.chain ≡ []) }
 {
-    let release = Arc::new(alloc, Release::first(alloc, people)?)?;
-    Desk::new(alloc, shape, release, FIRST_CAPACITY)
+    let release = Release::first(alloc, people)?;
+    let release = Arc::new(alloc, release)?;
+    let desk = Desk::new(alloc, shape, release, FIRST_CAPACITY)?;
+    Ok(desk)
 }
 
 // The desk at the microdata's release 0.

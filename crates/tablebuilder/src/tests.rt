@@ -139,3 +139,16 @@ pub fn is_so(
     };
     Ok(status.number() == number && out.taken() == part)
 }
+
+// What a run shows, the script, and the text.
+pub type Shown = (&'static str, &'static [u8], &'static [u8]);
+
+// What the first run shows whose script over the small setup writes another text, if there is one.
+pub fn first_other(alloc: Global, rows: &[Shown]) -> Result<Option<&'static str>, Memory> {
+    for (name, script, want) in rows {
+        if !is_so(alloc, WITH_RECODES, &[("script", *script)], &[], 700, want)? {
+            return Ok(Some(*name));
+        }
+    }
+    Ok(None)
+}
