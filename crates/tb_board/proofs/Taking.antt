@@ -4,7 +4,7 @@ use Rattle.std.specs.Prelude.{option_map, IfOk, Result, Ok, Err}
 use Rattle.std.proofs.lemmas.List.{take_all}
 use Rattle.tb_base.specs.declared.memory.Memory.{Memory}
 use Rattle.tb_core.specs.Desks.{DeskValue, IsSound, IsCubeAt, current_of, release_at}
-use Rattle.tb_core.specs.Takes.{number_of, release_in}
+use Rattle.tb_core.specs.Takes.{number_of, release_in, IsTaken}
 use Rattle.tb_core.specs.Turns.{hit_for}
 use Rattle.tb_core.specs.Views.{hit_of}
 use Rattle.tb_core.specs.declared.desk.Taken.{Taken}
@@ -53,3 +53,7 @@ pub if_taken : (pass : Seen) (name : Name) (desk : DeskValue) (vars : Option (Li
     → IfOk result (λ taken. release_in taken ≡ current_of desk) → IfOk result (λ taken. option_map hit_of taken.hit ≡ hit_for vars desk) → IfOk result (IsTakenAt pass vars)
 if_taken pass name desk vars (Ok taken) is sound release hit = taken_at pass name desk vars taken is sound release hit
 if_taken pass name desk vars (Err error) is sound release hit = tt
+
+-- what was taken for a set, over the shape that the start has
+pub taken_for : (seen : Seen) (vars shape : List ℕ) (taken : Taken) → IsTakenAt seen (Some vars) taken → seen.start.shape ≡ shape → IsTaken shape seen.start.base seen.list vars taken
+taken_for seen vars shape taken t is = subst (λ s. IsTaken s seen.start.base seen.list vars taken) is t.hit

@@ -25,5 +25,5 @@ pub use named::Named;
 pub use opening::Opening;
 pub use step::{Start, Step};
 
-// #[cfg(test)]
-// mod tests;
+#[cfg(test)]
+mod tests;

@@ -71,12 +71,7 @@ impl Custodian {
 }
 
 // The writer adds a batch, and tells the keeper of it, and the keeper the custodian's pass.
-fn hand_on(
-    front: &Front<Step>,
-    keeper: &mut Keeper<Step>,
-    custodian: &mut Custodian,
-    step: &Step,
-)
+fn hand_on(front: &Front<Step>, keeper: &mut Keeper<Step>, custodian: &mut Custodian, step: &Step)
     requires front { keeper.old.name ≡ front.now }
     requires met { custodian.old.writer ≡ keeper.old }
     requires whole { custodian.old.pass ≡ keeper.old }

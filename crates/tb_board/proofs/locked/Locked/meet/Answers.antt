@@ -10,8 +10,7 @@ returns-clause-same g c =
     let o = c.custodian.inside in
     let writer : o.writer ≡ c.args.custodian.now.writer = ap (λ (v : CustodianValue). v.writer) c.custodian.view_is in
     let pass : o.pass ≡ o.writer = ap (λ (v : CustodianValue). v.pass) c.custodian.view_is ∙ c.requires.whole.same ∙ sym writer in
-    let caught = all_meet o.pass o.writer c.catch_up.new.self pass c.catch_up.ensures.own c.confirm.ensures.behind in
-    (
+    let caught = all_meet o.pass o.writer c.catch_up.new.self pass c.catch_up.ensures.own c.confirm.ensures.behind in (
       c.self.view_is,
       (λ i. record { writer = c.confirm.ensures.same.0 i; pass = (c.confirm.ensures.same.1 ∙ caught ∙ sym pass) i; release = arc_value o.release }) ∙ c.custodian.view_is,
     )
