@@ -1,5 +1,5 @@
 -- A custodian whose pass has caught up with the keeper, and was confirmed by its writer.
-use Rattle.std.proofs.Common.{◌≡◌, sym, subst}
+use Rattle.std.proofs.Common.{◌≡◌, subst}
 use Rattle.tb_front.specs.Holders.{IsLater}
 use Rattle.tb_front.proofs.Holding.{later_both}
 use Rattle.tb_board.specs.Seen.{Seen}

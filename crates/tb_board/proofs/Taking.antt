@@ -1,5 +1,5 @@
 -- What is taken in a turn, and the cube of it that may be offered.
-use Rattle.std.proofs.Common.{◌≡◌, ℕ, ◌≤◌, List, take, length, Option, Some, None, refl, sym, ap, ◌∙◌, subst, arith}
+use Rattle.std.proofs.Common.{◌≡◌, ℕ, ◌≤◌, List, length, Option, Some, None, sym, ap, ◌∙◌, subst, arith}
 use Rattle.std.specs.Prelude.{option_map, IfOk, Result, Ok, Err}
 use Rattle.std.proofs.lemmas.List.{take_all}
 use Rattle.tb_base.specs.declared.memory.Memory.{Memory}
@@ -13,7 +13,7 @@ use Rattle.tb_cube.specs.Cubes.{CubeValue, cube_over}
 use Rattle.tb_front.specs.Holders.{Name}
 use Rattle.tb_model.specs.Releases.{ReleaseValue}
 use Rattle.tb_release.specs.Chains.{release_after}
-use Rattle.tb_board.specs.Seen.{Seen, holder_at, release_seen}
+use Rattle.tb_board.specs.Seen.{Seen, holder_at}
 use Rattle.tb_board.specs.Turns.{IsHitFor, IsTakenAt}
 use Rattle.tb_board.proofs.Chains.{number_seen}
 

@@ -1,16 +1,14 @@
 -- What a publication makes of a custodian.
-use Rattle.std.proofs.Common.{◌≡◌, ℕ, ◌+◌, ◌<◌, List, [], ◌∷◌, ◌++◌, length, refl, sym, ap, ◌∙◌, subst, arith}
+use Rattle.std.proofs.Common.{◌≡◌, ℕ, ◌+◌, ◌<◌, List, [], ◌∷◌, length, sym, ap, ◌∙◌, subst, arith}
 use Rattle.std.specs.Prelude.{All}
 use Rattle.tb_base.specs.Records.{AllFit}
-use Rattle.tb_core.specs.Desks.{DeskValue, IsSound}
 use Rattle.tb_core.proofs.ChainLemmas.{after-append}
-use Rattle.tb_front.specs.Holders.{Name}
 use Rattle.tb_front.specs.declared.front.TheConstants.{LONGEST_CHAIN}
 use Rattle.tb_model.specs.Releases.{ReleaseValue}
 use Rattle.tb_release.specs.Batches.{BatchValue, Follows}
 use Rattle.tb_release.specs.Chains.{after_batch}
 use Rattle.tb_release.specs.Results.{ChangeFits}
-use Rattle.tb_board.specs.Seen.{Seen, holder_at, release_seen, with_batch, IsChainSeen}
+use Rattle.tb_board.specs.Seen.{Seen, release_seen, with_batch, IsChainSeen}
 use Rattle.tb_board.specs.Custodians.{CustodianValue, PublicationValue, CanPublish, IsWhole, with_publication}
 use Rattle.tb_board.proofs.Chains.{number_seen}
 
