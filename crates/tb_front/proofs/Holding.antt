@@ -1,8 +1,7 @@
 -- Holders of one front.
-use Rattle.std.proofs.Common.{◌≡◌, ℕ, List, length, refl, sym, ap, ◌∙◌, arith}
-use mathlib.Core.List.{IsPrefix}
-use Rattle.tb_front.specs.Holders.{Holder, IsLater, holder, longer}
-use Rattle.tb_front.proofs.Prefixes.{prefix_self, prefix_trans, prefix_length, prefix_whole, longer_whole}
+use Rattle.std.proofs.Common.{◌≡◌, refl, sym, ◌∙◌}
+use Rattle.tb_front.specs.Holders.{Holder, IsLater}
+use Rattle.tb_front.proofs.Prefixes.{prefix_self, prefix_trans, prefix_length, prefix_whole}
 
 pub later_self : {E S : Type 0} (h : Holder E S) → IsLater h h
 later_self h = record { front = refl; base = refl; begins = prefix_self h.list }
@@ -16,7 +15,3 @@ pub later_both : {E S : Type 0} (h k : Holder E S) → IsLater h k → IsLater k
 later_both h k p q =
     let same : h.list ≡ k.list = prefix_whole h.list k.list p.begins (prefix_length k.list h.list q.begins) in
     λ i. record { name = sym p.front i; start = sym p.base i; list = same i }
-
--- who takes in what a later one has seen is like it
-pub later_taken : {E S : Type 0} (h k : Holder E S) → IsLater h k → holder h.name h.start (longer h.list k.list) ≡ k
-later_taken h k p = λ i. record { name = sym p.front i; start = sym p.base i; list = longer_whole h.list k.list p.begins i }

@@ -11,7 +11,7 @@ use Rattle.tb_front.specs.declared.view.Role.{Role}
 use Rattle.tb_front.specs.declared.view.Role.TheVariants.{Opener, Writer, Keeper, Draft, Pass, Spent}
 use Rattle.tb_front.specs.declared.view.View.{View}
 use Rattle.tb_front.specs.declared.front.TheConstants.{LONGEST_CHAIN}
-use Rattle.tb_front.specs.Chain.{view, opener, spent, HasPlace, HasBase, HasSources, Fits, OneChain}
+use Rattle.tb_front.specs.Chain.{view, opener, spent, HasPlace, HasBase, Fits, OneChain}
 use Rattle.tb_front.specs.Holders.{longer}
 use Rattle.tb_front.specs.Steps.{in_role, lengthened, confirmed, IsAppended, IsLoaded}
 use Rattle.tb_front.proofs.Prefixes.{prefix_self, prefix_trans, prefix_longer, prefix_more}

@@ -1,5 +1,5 @@
 -- Beginnings of one list.
-use Rattle.std.proofs.Common.{◌≡◌, ℕ, ◌+◌, ◌≤◌, ◌<◌, Bool, true, false, List, [], ◌∷◌, ◌++◌, length, nat_lt, if◌then◌else◌, refl, ap, sym, ◌∙◌, arith, append_assoc, length-append}
+use Rattle.std.proofs.Common.{◌≡◌, ◌≤◌, ◌<◌, Bool, true, false, List, [], ◌∷◌, ◌++◌, length, nat_lt, if◌then◌else◌, refl, ap, sym, ◌∙◌, arith, append_assoc, length-append}
 use Rattle.std.proofs.lemmas.Bool.{ltb-true, ltb-false}
 use Rattle.std.proofs.lemmas.List.{append-nil}
 use mathlib.Core.List.{IsPrefix}
@@ -45,11 +45,3 @@ longer_by xs ys zs p q false is = let le : length ys ≤ length xs = ltb-false _
 -- the longer of two beginnings is one, and both begin it
 pub prefix_longer : {A : Type 0} (xs ys zs : List A) → IsPrefix xs zs → IsPrefix ys zs → IsPrefix xs (longer xs ys) × IsPrefix ys (longer xs ys) × IsPrefix (longer xs ys) zs
 prefix_longer xs ys zs p q = longer_by xs ys zs p q (nat_lt (length xs) (length ys)) refl
-
--- the longer of a list and a beginning of it is the list
-longer_whole_by : {A : Type 0} (xs ys : List A) → IsPrefix xs ys → (b : Bool) → nat_lt (length xs) (length ys) ≡ b → (if b then ys else xs) ≡ ys
-longer_whole_by xs ys p true is = refl
-longer_whole_by xs ys p false is = prefix_whole xs ys p (ltb-false _ _ is)
-
-pub longer_whole : {A : Type 0} (xs ys : List A) → IsPrefix xs ys → longer xs ys ≡ ys
-longer_whole xs ys p = longer_whole_by xs ys p (nat_lt (length xs) (length ys)) refl

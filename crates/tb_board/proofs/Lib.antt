@@ -1,0 +1,4 @@
+pub mod Chains
+pub mod Taking
+pub mod Meeting
+pub mod Whole

@@ -1,0 +1,32 @@
+-- What the turns of a board return.
+use Rattle.std.specs.Prelude.{◌≡◌, ◌<◌, ◌≤◌, ℕ, List, length, Option, Some, None, option_map}
+use Rattle.tb_base.specs.Records.{AllFit}
+use Rattle.tb_cache.specs.declared.TheConstants.{MOST_ENTRIES}
+use Rattle.tb_core.specs.declared.desk.Stats.{Stats}
+use Rattle.tb_core.specs.declared.desk.Taken.{Taken}
+use Rattle.tb_core.specs.Takes.{number_of, release_in, IsTaken}
+use Rattle.tb_core.specs.Views.{hit_of}
+use Rattle.tb_board.specs.Seen.{Seen, release_seen, IsChainSeen}
+
+-- a cube that was found is that of its number, and comes with the batches that lead from there to
+-- the release that was taken; with no set none is looked for
+abbrev pub IsHitFor : Seen → Option (List ℕ) → Taken → Type 0
+IsHitFor seen None taken = option_map hit_of taken.hit ≡ None
+IsHitFor seen (Some vars) taken = IsTaken seen.start.shape seen.start.base seen.list vars taken
+
+-- what was taken in a turn whose chain was seen: the release to which that leads, whose number is
+-- the number of batches, and whose records fit the shape
+pub record IsTakenAt (seen : Seen) (vars : Option (List ℕ)) (taken : Taken) : Type 0 where
+  pub chain : IsChainSeen seen
+  pub release : release_in taken ≡ release_seen seen
+  pub number : number_of taken ≡ length seen.list
+  pub fit : AllFit seen.start.shape (release_in taken).records
+  pub hit : IsHitFor seen vars taken
+
+-- the numbers of a desk with so many batches
+pub record AreStats (batches : ℕ) (stats : Stats) : Type 0 where
+  pub release : stats.release ≡ batches
+  pub hits : stats.hits ≤ stats.looks
+  pub entries : stats.entries ≤ stats.capacity
+  pub some : 0 < stats.capacity
+  pub few : stats.capacity ≤ MOST_ENTRIES

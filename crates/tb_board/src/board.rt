@@ -1,0 +1,194 @@
+ghost use Rattle.std.specs.Prelude.{◌≡◌, ◌<◌, ◌≤◌, All, IfOk, IfErr, OnOk, OnErr, length};
+ghost use Rattle.std.specs.Option.{option_copied};
+ghost use Rattle.std.specs.Arc.{arc_value};
+ghost use mathlib.Core.List.{IsPrefix};
+ghost use Rattle.tb_cache.specs.declared.TheConstants.{MOST_ENTRIES};
+ghost use Rattle.tb_core.specs.Desks.{IsCubeAt};
+ghost use Rattle.tb_front.specs.Holders.{holder, longer, IsLater};
+ghost use Rattle.tb_release.specs.Batches.{CanFollow, batch_refusal};
+ghost use Rattle.tb_release.specs.Laws.{EditFits};
+ghost use Rattle.tb_release.specs.Results.{IsWhy};
+ghost use Rattle.tb_board.specs.Custodians.{first_custodian, published, IsWhole};
+ghost use Rattle.tb_board.specs.Seen.{release_seen, IsChainSeen};
+ghost use Rattle.tb_board.specs.Turns.{AreStats, IsTakenAt};
+
+use crate::custodian::Custodian;
+use crate::locked::Locked;
+use crate::named::Named;
+use crate::opening::Opening;
+use crate::step::Step;
+use std::alloc::Global;
+use std::sync::{Mutex, Wait};
+use tb_base::{Memory, VarSet};
+use tb_core::{Offer, Stats, Taken};
+use tb_front::{Front, Note, Pass};
+use tb_release::{EditFault, Edits};
+
+/// A desk behind a lock, beside the front of its chain, for any number of threads. Each call that
+/// takes `rt` waits for the lock and is one turn of it; the others take no lock. A pass and a
+/// custodian belong to one board.
+#[derive(Drop)]
+pub struct Board<B: Named> {
+    front: Front<Step>,
+    locked: Mutex<Locked<B>>,
+    ghost named: { front ≡ B.name },
+}
+
+impl<B: Named> Board<B> {
+    /// A board with its one custodian, which is at release 0. It takes no memory.
+    pub fn new(opening: Opening) -> (Board<B>, Custodian)
+        requires { opening.name ≡ B.name }
+        ensures custodian { result.1 ≡ first_custodian opening }
+        ensures name { result.1.writer.name ≡ B.name }
+        ensures whole { IsWhole result.1 }
+    {
+        let Opening {
+            front,
+            keeper,
+            desk,
+            custodian,
+        } = opening;
+        let locked = Mutex::new(Locked::of(desk, keeper));
+        (Board { front, locked }, custodian)
+    }
+
+    /// A pass that has seen the chain of this turn.
+    pub fn pass(&self, rt: &impl Wait) -> Pass<Step>
+        ensures name { result.name ≡ B.name }
+        ensures chain { IsChainSeen result }
+    {
+        let mut guard = self.locked.lock(rt);
+        guard.pass(&self.front)
+    }
+
+    /// Takes the current release, and for a set the cube of it that is kept, if there is one, with
+    /// the batches that are missing in it. The pass sees the chain of this turn. It takes memory;
+    /// where that is refused, the desk is as before.
+    pub fn take(
+        &self,
+        rt: &impl Wait,
+        pass: &mut Pass<Step>,
+        vars: Option<&VarSet>,
+    ) -> Result<Taken, Memory>
+        requires { pass.old.name ≡ B.name }
+        ensures later { IsLater pass.old pass.new }
+        ensures taken { IfOk result (IsTakenAt pass.new (option_copied vars.entry)) }
+    {
+        let mut guard = self.locked.lock(rt);
+        guard.take(&self.front, pass, vars)
+    }
+
+    /// Offers the cube of a release that the pass has seen, to be kept. What becomes of it isn't
+    /// told: no reply depends on it. The pass stays.
+    pub fn offer(&self, rt: &impl Wait, pass: &mut Pass<Step>, offer: Offer)
+        requires name { pass.old.name ≡ B.name }
+        requires cube { IsCubeAt pass.old.start.shape pass.old.start.base pass.old.list
+            offer.vars offer.number (arc_value offer.cube) }
+        ensures { pass.new ≡ pass.old }
+    {
+        let mut guard = self.locked.lock(rt);
+        let _ = guard.offer(&self.front, pass, offer);
+    }
+
+    /// Publishes the batch of some edits, and returns the number of the release to which it leads.
+    /// The refusals are those of `tb_release::next` on the release of the custodian; after one, and
+    /// where the call is out of memory, all is as before. The next release is made before the turn.
+    pub fn publish(
+        &self,
+        rt: &impl Wait,
+        alloc: Global,
+        custodian: &mut Custodian,
+        edits: &Edits,
+    ) -> Result<u32, EditFault>
+        requires name { custodian.old.writer.name ≡ B.name }
+        requires whole { IsWhole custodian.old }
+        requires fit { All (EditFits custodian.old.writer.start.shape) edits.now }
+        ensures whole { IsWhole custodian.new }
+        // The writer and the pass have seen one batch more, that of the edits.
+        ensures ok { OnOk result (custodian.new ≡ published edits.now custodian.old) }
+        ensures number { IfOk result (λ n. n ≡ length custodian.new.pass.list) }
+        ensures err { OnErr result (custodian.new ≡ custodian.old) }
+        // It is refused exactly where the edits can't follow the release.
+        ensures can { OnOk result (CanFollow custodian.old.release edits.now) }
+        ensures why { IfErr result
+            (λ fault. IsWhy (batch_refusal custodian.old.release edits.now) fault) }
+    {
+        let publication = custodian.prepare(alloc, edits)?;
+        let mut guard = self.locked.lock(rt);
+        Ok(guard.publish(&self.front, custodian, publication)?)
+    }
+
+    /// The numbers of the desk in this turn: its release is how many batches the custodian's pass
+    /// has seen.
+    pub fn stats(&self, rt: &impl Wait, custodian: &mut Custodian) -> Stats
+        requires name { custodian.old.writer.name ≡ B.name }
+        requires whole { IsWhole custodian.old }
+        ensures same { custodian.new ≡ custodian.old }
+        ensures stats { AreStats (length custodian.new.pass.list) result }
+    {
+        let mut guard = self.locked.lock(rt);
+        guard.stats(&self.front, custodian)
+    }
+
+    /// Forgets the cubes.
+    pub fn clear(&self, rt: &impl Wait) {
+        let mut guard = self.locked.lock(rt);
+        guard.clear();
+    }
+
+    /// Lets at most so many cubes be kept, from 1 to `MOST_ENTRIES`. It takes memory; where that is
+    /// refused, the number is as before.
+    pub fn resize(&self, rt: &impl Wait, capacity: u32) -> Result<(), Memory>
+        requires some { 0 < capacity }
+        requires few { capacity ≤ MOST_ENTRIES }
+    {
+        let mut guard = self.locked.lock(rt);
+        guard.resize(capacity)
+    }
+
+    /// A note of what the pass has seen, for another pass.
+    pub fn note(&self, pass: &mut Pass<Step>) -> Note<Step>
+        requires { pass.old.name ≡ B.name }
+        ensures same { pass.new ≡ pass.old }
+        ensures note { result ≡ pass.old }
+    {
+        pass.note(&self.front)
+    }
+
+    /// Makes the pass's list the longer of its own and the note's. Tells that both have one start.
+    pub fn learn(&self, pass: &mut Pass<Step>, note: Note<Step>)
+        requires pass { pass.old.name ≡ B.name }
+        requires note { note.name ≡ B.name }
+        ensures list { pass.new
+            ≡ holder pass.old.name pass.old.start (longer pass.old.list note.list) }
+        ensures own { IsLater pass.old pass.new }
+        ensures note { IsLater note pass.new }
+    {
+        pass.learn(&self.front, note);
+    }
+
+    /// Tells that the pass has the custodian's start, and has seen a beginning of what the
+    /// custodian's writer wrote. It changes nothing.
+    pub fn confirm(&self, custodian: &mut Custodian, pass: &mut Pass<Step>)
+        requires custodian { custodian.old.writer.name ≡ B.name }
+        requires pass { pass.old.name ≡ B.name }
+        ensures same { (custodian.new ≡ custodian.old) × (pass.new ≡ pass.old) }
+        ensures behind { IsLater pass.old custodian.old.writer }
+    {
+        custodian.writer.confirm(&self.front, pass);
+    }
+
+    /// Confirms the custodian's own pass after it was lent to turns, which tells that the custodian
+    /// is whole again. It changes nothing.
+    #[tactic(auto, using(tb_front::proofs::Holding::later_both))]
+    pub fn settle(&self, custodian: &mut Custodian)
+        requires writer { custodian.old.writer.name ≡ B.name }
+        requires pass { custodian.old.pass.name ≡ B.name }
+        requires current { custodian.old.release ≡ release_seen custodian.old.writer }
+        requires seen { IsPrefix custodian.old.writer.list custodian.old.pass.list }
+        ensures same { custodian.new ≡ custodian.old }
+        ensures whole { IsWhole custodian.new }
+    {
+        custodian.writer.confirm(&self.front, &mut custodian.pass);
+    }
+}

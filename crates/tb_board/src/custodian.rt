@@ -1,0 +1,55 @@
+ghost use Rattle.std.specs.Prelude.{◌≡◌};
+ghost use Rattle.std.specs.Borrow.{sem};
+ghost use Rattle.tb_board.specs.Lends.{LendsPass};
+
+use crate::step::Step;
+use std::marker::Model;
+use std::sync::Arc;
+use tb_base::Shape;
+use tb_front::{Pass, Writer};
+use tb_release::Release;
+
+/// Who publishes on a board, of which there is one: the writer of its front, the current release,
+/// and a pass for its own turns. It is whole where its pass has seen what its writer wrote, and its
+/// release is where that leads.
+#[derive(Drop)]
+pub struct Custodian {
+    pub(crate) writer: Writer<Step>,
+    pub(crate) pass: Pass<Step>,
+    pub(crate) shape: Shape,
+    pub(crate) release: Arc<Release>,
+}
+
+impl Model for Custodian {
+    ghost use Rattle.std.specs.Prelude.{◌≡◌};
+    ghost use Rattle.std.specs.Arc.{arc_value};
+    ghost use Rattle.tb_base.specs.Records.{AllFit};
+    ghost use Rattle.tb_board.specs.Custodians.{CustodianValue, custodian_code};
+
+    ghost Value = { CustodianValue };
+
+    ghost coded = { custodian_code };
+
+    ghost view = { λ c.
+        record { writer = c.writer; pass = c.pass; release = arc_value c.release } };
+
+    ghost invariant = { λ c. (c.shape ≡ c.writer.start.shape)
+        × AllFit c.shape (arc_value c.release).records };
+}
+
+impl Custodian {
+    /// The number of its release.
+    pub fn number(&self) -> u32
+        ensures { result ≡ self.now.release.number }
+    {
+        self.release.number()
+    }
+
+    /// Its pass, for turns of the board. Whoever lends it to one calls `Board::settle` afterwards.
+    pub fn pass(&mut self) -> &mut Pass<Step>
+        ensures* writes_back { sem 𝓛 (LendsPass self.entry result) }
+        ensures pass { result.now ≡ self.old.pass }
+    {
+        &mut self.pass
+    }
+}
