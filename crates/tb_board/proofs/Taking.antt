@@ -13,7 +13,7 @@ use Rattle.tb_cube.specs.Cubes.{CubeValue, cube_over}
 use Rattle.tb_front.specs.Holders.{Name}
 use Rattle.tb_model.specs.Releases.{ReleaseValue}
 use Rattle.tb_release.specs.Chains.{release_after}
-use Rattle.tb_board.specs.Seen.{Seen, holder_at}
+use Rattle.tb_board.specs.Holders.{HolderValue, holder_at}
 use Rattle.tb_board.specs.Turns.{IsHitFor, IsTakenAt}
 use Rattle.tb_board.proofs.Chains.{number_seen}
 
@@ -33,12 +33,12 @@ taken_of name desk vars taken sound release hit = record {
 }
 
 -- by a pass that has seen the desk's chain
-taken_at : (pass : Seen) (name : Name) (desk : DeskValue) (vars : Option (List ℕ)) (taken : Taken) → pass ≡ holder_at name desk → IsSound desk → release_in taken ≡ current_of desk
+taken_at : (pass : HolderValue) (name : Name) (desk : DeskValue) (vars : Option (List ℕ)) (taken : Taken) → pass ≡ holder_at name desk → IsSound desk → release_in taken ≡ current_of desk
     → option_map hit_of taken.hit ≡ hit_for vars desk → IsTakenAt pass vars taken
-taken_at pass name desk vars taken is sound release hit = subst (λ (h : Seen). IsTakenAt h vars taken) (sym is) (taken_of name desk vars taken sound release hit)
+taken_at pass name desk vars taken is sound release hit = subst (λ (h : HolderValue). IsTakenAt h vars taken) (sym is) (taken_of name desk vars taken sound release hit)
 
 -- the cube of the release that was taken may be offered with its number
-pub may_offer : (seen : Seen) (asked : Option (List ℕ)) (taken : Taken) (vars : List ℕ) (n : ℕ) (cube : CubeValue) → IsTakenAt seen asked taken → n ≡ number_of taken
+pub may_offer : (seen : HolderValue) (asked : Option (List ℕ)) (taken : Taken) (vars : List ℕ) (n : ℕ) (cube : CubeValue) → IsTakenAt seen asked taken → n ≡ number_of taken
     → cube ≡ cube_over seen.start.shape vars (release_in taken).records → IsCubeAt seen.start.shape seen.start.base seen.list vars n cube
 may_offer seen asked taken vars n cube t is cube_is =
     let number : n ≡ length seen.list = is ∙ t.number in
@@ -49,11 +49,11 @@ may_offer seen asked taken vars n cube t is cube_is =
     }
 
 -- where something was taken
-pub if_taken : (pass : Seen) (name : Name) (desk : DeskValue) (vars : Option (List ℕ)) (result : Result Taken Memory) → pass ≡ holder_at name desk → IsSound desk
+pub if_taken : (pass : HolderValue) (name : Name) (desk : DeskValue) (vars : Option (List ℕ)) (result : Result Taken Memory) → pass ≡ holder_at name desk → IsSound desk
     → IfOk result (λ taken. release_in taken ≡ current_of desk) → IfOk result (λ taken. option_map hit_of taken.hit ≡ hit_for vars desk) → IfOk result (IsTakenAt pass vars)
 if_taken pass name desk vars (Ok taken) is sound release hit = taken_at pass name desk vars taken is sound release hit
 if_taken pass name desk vars (Err error) is sound release hit = tt
 
 -- what was taken for a set, over the shape that the start has
-pub taken_for : (seen : Seen) (vars shape : List ℕ) (taken : Taken) → IsTakenAt seen (Some vars) taken → seen.start.shape ≡ shape → IsTaken shape seen.start.base seen.list vars taken
+pub taken_for : (seen : HolderValue) (vars shape : List ℕ) (taken : Taken) → IsTakenAt seen (Some vars) taken → seen.start.shape ≡ shape → IsTaken shape seen.start.base seen.list vars taken
 taken_for seen vars shape taken t is = subst (λ s. IsTaken s seen.start.base seen.list vars taken) is t.hit

@@ -8,23 +8,23 @@ use Rattle.tb_model.specs.Releases.{ReleaseValue}
 use Rattle.tb_release.specs.Batches.{BatchValue, Follows}
 use Rattle.tb_release.specs.Chains.{after_batch}
 use Rattle.tb_release.specs.Results.{ChangeFits}
-use Rattle.tb_board.specs.Seen.{Seen, release_seen, with_batch, IsChainSeen}
-use Rattle.tb_board.specs.Custodians.{CustodianValue, PublicationValue, CanPublish, IsWhole, with_publication}
+use Rattle.tb_board.specs.Holders.{HolderValue, release_seen, with_batch, IsChainSeen}
+use Rattle.tb_board.specs.Custodians.{CustodianValue, PublicationValue, CanPublish, IsWhole, after_publication}
 use Rattle.tb_board.proofs.Chains.{number_seen}
 
 -- the release after one batch more
-pub seen_more : (seen : Seen) (batch : BatchValue) → release_seen (with_batch seen batch) ≡ after_batch (release_seen seen) batch
+pub seen_more : (seen : HolderValue) (batch : BatchValue) → release_seen (with_batch seen batch) ≡ after_batch (release_seen seen) batch
 seen_more seen batch = after-append seen.start.base seen.list (batch ∷ [])
 
 -- a custodian stays whole
-pub whole_with : (c : CustodianValue) (p : PublicationValue) → IsWhole c → p.release ≡ after_batch c.release p.batch → IsWhole (with_publication p c)
+pub whole_with : (c : CustodianValue) (p : PublicationValue) → IsWhole c → p.release ≡ after_batch c.release p.batch → IsWhole (after_publication p c)
 whole_with c p w leads = record {
-  same = ap (λ (h : Seen). with_batch h p.batch) w.same;
+  same = ap (λ (h : HolderValue). with_batch h p.batch) w.same;
   current = leads ∙ ap (λ (r : ReleaseValue). after_batch r p.batch) w.current ∙ sym (seen_more c.writer p.batch);
 }
 
 -- there is room for a batch that follows the release
-pub has_room : (seen : Seen) (release : ReleaseValue) (batch : BatchValue) → IsChainSeen seen → release ≡ release_seen seen → Follows release batch → length seen.list < LONGEST_CHAIN
+pub has_room : (seen : HolderValue) (release : ReleaseValue) (batch : BatchValue) → IsChainSeen seen → release ≡ release_seen seen → Follows release batch → length seen.list < LONGEST_CHAIN
 has_room seen release batch chain is follows =
     let number : release.number ≡ length seen.list = ap (λ (r : ReleaseValue). r.number) is ∙ number_seen seen chain in
     let below = follows.can.releases in

@@ -9,19 +9,19 @@ use Rattle.tb_release.specs.Chains.{after_batch}
 use Rattle.tb_release.specs.Results.{ChangeFits}
 use Rattle.tb_release.specs.declared.edits.Edit.{Edit}
 use Rattle.tb_board.specs.Starts.{StartValue}
-use Rattle.tb_board.specs.Seen.{Seen, release_seen, seen_code, with_batch}
+use Rattle.tb_board.specs.Holders.{HolderValue, release_seen, holder_value_code, with_batch}
 
 -- what its writer and its pass have seen, and its current release
 pub record CustodianValue : Type 0 where
-  pub writer : Seen
-  pub pass : Seen
+  pub writer : HolderValue
+  pub pass : HolderValue
   pub release : ReleaseValue
 
 -- how it is coded, for a type whose value is one
 abbrev pub custodian_code : Coded CustodianValue
 custodian_code =
-    code_by (Seen × (Seen × ReleaseValue))
-    (coded× seen_code (coded× seen_code release_code))
+    code_by (HolderValue × (HolderValue × ReleaseValue))
+    (coded× holder_value_code (coded× holder_value_code release_code))
     (λ c. (c.writer, (c.pass, c.release)))
     (λ p. record { writer = p.0; pass = p.1.0; release = p.1.1 })
     (λ _. refl)
@@ -61,8 +61,8 @@ pub record CanPublish (shape : List ℕ) (release : ReleaseValue)
   pub changes_fit : All (ChangeFits shape) publication.batch.changes
 
 -- a custodian after a publication, which its pass has seen
-abbrev pub with_publication : PublicationValue → CustodianValue → CustodianValue
-with_publication publication custodian =
+abbrev pub after_publication : PublicationValue → CustodianValue → CustodianValue
+after_publication publication custodian =
     record {
       writer = with_batch custodian.writer publication.batch;
       pass = with_batch custodian.pass publication.batch;
@@ -70,9 +70,9 @@ with_publication publication custodian =
     }
 
 -- a custodian after it published some edits
-abbrev pub published : List Edit → CustodianValue → CustodianValue
-published edits custodian =
-    with_publication (next_publication custodian.release edits) custodian
+abbrev pub after_publishing : List Edit → CustodianValue → CustodianValue
+after_publishing edits custodian =
+    after_publication (next_publication custodian.release edits) custodian
 
 -- what a board is made of: the name of its front, and the start of its chain
 pub record OpeningValue : Type 0 where
@@ -82,7 +82,7 @@ pub record OpeningValue : Type 0 where
 -- how it is coded, for a type whose value is one
 abbrev pub opening_code : Coded OpeningValue
 opening_code =
-    code_by Seen seen_code
+    code_by HolderValue holder_value_code
     (λ o. holder o.name o.start [])
     (λ h. record { name = h.name; start = h.start })
     (λ _. refl)

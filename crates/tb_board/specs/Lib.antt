@@ -1,5 +1,5 @@
 pub mod Starts
-pub mod Seen
+pub mod Holders
 pub mod Custodians
 pub mod Turns
 pub mod Lends

@@ -18,8 +18,8 @@ start_code =
     (λ _. refl)
 
 -- one for those that have none: no variables, and no records
-abbrev pub blank : StartValue
-blank =
+abbrev pub blank_start : StartValue
+blank_start =
     record {
       shape = [];
       base = record { records = []; key_book = finmap.from_entries []; number = 0; changes = 0 };

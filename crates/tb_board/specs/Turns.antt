@@ -6,17 +6,17 @@ use Rattle.tb_core.specs.declared.desk.Stats.{Stats}
 use Rattle.tb_core.specs.declared.desk.Taken.{Taken}
 use Rattle.tb_core.specs.Takes.{number_of, release_in, IsTaken}
 use Rattle.tb_core.specs.Views.{hit_of}
-use Rattle.tb_board.specs.Seen.{Seen, release_seen, IsChainSeen}
+use Rattle.tb_board.specs.Holders.{HolderValue, release_seen, IsChainSeen}
 
 -- a cube that was found is that of its number, and comes with the batches that lead from there to
 -- the release that was taken; with no set none is looked for
-abbrev pub IsHitFor : Seen → Option (List ℕ) → Taken → Type 0
+abbrev pub IsHitFor : HolderValue → Option (List ℕ) → Taken → Type 0
 IsHitFor seen None taken = option_map hit_of taken.hit ≡ None
 IsHitFor seen (Some vars) taken = IsTaken seen.start.shape seen.start.base seen.list vars taken
 
 -- what was taken in a turn whose chain was seen: the release to which that leads, whose number is
 -- the number of batches, and whose records fit the shape
-pub record IsTakenAt (seen : Seen) (vars : Option (List ℕ)) (taken : Taken) : Type 0 where
+pub record IsTakenAt (seen : HolderValue) (vars : Option (List ℕ)) (taken : Taken) : Type 0 where
   pub chain : IsChainSeen seen
   pub release : release_in taken ≡ release_seen seen
   pub number : number_of taken ≡ length seen.list

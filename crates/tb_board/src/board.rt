@@ -8,8 +8,8 @@ ghost use Rattle.tb_front.specs.Holders.{holder, longer, IsLater};
 ghost use Rattle.tb_release.specs.Batches.{CanFollow, batch_refusal};
 ghost use Rattle.tb_release.specs.Laws.{EditFits};
 ghost use Rattle.tb_release.specs.Results.{IsWhy};
-ghost use Rattle.tb_board.specs.Custodians.{first_custodian, published, IsWhole};
-ghost use Rattle.tb_board.specs.Seen.{release_seen, IsChainSeen};
+ghost use Rattle.tb_board.specs.Custodians.{after_publishing, first_custodian, IsWhole};
+ghost use Rattle.tb_board.specs.Holders.{release_seen, IsChainSeen};
 ghost use Rattle.tb_board.specs.Turns.{AreStats, IsTakenAt};
 
 use crate::custodian::Custodian;
@@ -105,8 +105,9 @@ impl<B: Named> Board<B> {
         requires fit { All (EditFits custodian.old.writer.start.shape) edits.now }
         ensures whole { IsWhole custodian.new }
         // The writer and the pass have seen one batch more, that of the edits.
-        ensures ok { OnOk result (custodian.new ≡ published edits.now custodian.old) }
+        ensures ok { OnOk result (custodian.new ≡ after_publishing edits.now custodian.old) }
         ensures number { IfOk result (λ n. n ≡ length custodian.new.pass.list) }
+        ensures release { IfOk result (λ n. n ≡ custodian.new.release.number) }
         ensures err { OnErr result (custodian.new ≡ custodian.old) }
         // It is refused exactly where the edits can't follow the release.
         ensures can { OnOk result (CanFollow custodian.old.release edits.now) }

@@ -5,7 +5,7 @@
 //! that takes the lock is one turn, which is one event of the core; no cube is built, advanced or
 //! printed in a turn, and no guard is handed out. What stands behind the lock is known by its type
 //! alone; what a caller knows of the chain, its pass has seen. The contracts cite `specs/Starts`
-//! (the base of a board's chain), `specs/Seen` (what a holder of the front has seen),
+//! (the base of a board's chain), `specs/Holders` (what a holder of the front has seen),
 //! `specs/Custodians` (when a custodian is whole, and what a publication makes of it) and
 //! `specs/Turns` (what the turns return).
 #![tactic(auto)]

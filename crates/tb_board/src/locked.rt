@@ -8,7 +8,7 @@ ghost use Rattle.tb_core.specs.Desks.{IsCubeAt};
 ghost use Rattle.tb_core.specs.Turns.{after_clear, after_look, after_resize, IsOffered};
 ghost use Rattle.tb_front.specs.Holders.{IsLater};
 ghost use Rattle.tb_board.specs.Custodians.{IsWhole};
-ghost use Rattle.tb_board.specs.Seen.{holder_at, IsChainSeen};
+ghost use Rattle.tb_board.specs.Holders.{holder_at, IsChainSeen};
 ghost use Rattle.tb_board.specs.Turns.{AreStats, IsTakenAt};
 
 use crate::custodian::Custodian;
@@ -31,7 +31,7 @@ pub struct Locked<B: Named> {
 impl<B: Named> Model for Locked<B> {
     ghost use Rattle.std.specs.Prelude.{◌≡◌};
     ghost use Rattle.tb_core.specs.Desks.{DeskValue, desk_code};
-    ghost use Rattle.tb_board.specs.Seen.{holder_at};
+    ghost use Rattle.tb_board.specs.Holders.{holder_at};
 
     ghost Value = { DeskValue };
 

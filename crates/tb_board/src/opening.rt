@@ -25,7 +25,7 @@ pub struct Opening {
 impl Model for Opening {
     ghost use Rattle.std.specs.Prelude.{◌≡◌, []};
     ghost use Rattle.tb_board.specs.Custodians.{OpeningValue, first_custodian, opening_code};
-    ghost use Rattle.tb_board.specs.Seen.{holder_at, start_of};
+    ghost use Rattle.tb_board.specs.Holders.{holder_at, start_of};
 
     ghost Value = { OpeningValue };
 

@@ -5,9 +5,9 @@ ghost use Rattle.tb_front.specs.declared.front.TheConstants.{LONGEST_CHAIN};
 ghost use Rattle.tb_release.specs.Batches.{CanFollow, batch_refusal};
 ghost use Rattle.tb_release.specs.Laws.{EditFits};
 ghost use Rattle.tb_release.specs.Results.{IsWhy};
-ghost use Rattle.tb_board.specs.Custodians.{next_publication, with_publication, CanPublish};
+ghost use Rattle.tb_board.specs.Custodians.{after_publication, next_publication, CanPublish};
 ghost use Rattle.tb_board.specs.Custodians.{IsWhole};
-ghost use Rattle.tb_board.specs.Seen.{with_batch};
+ghost use Rattle.tb_board.specs.Holders.{with_batch};
 
 use crate::custodian::Custodian;
 use crate::locked::Locked;
@@ -51,7 +51,8 @@ impl Custodian {
     pub(crate) fn prepare(&self, alloc: Global, edits: &Edits) -> Result<Publication, EditFault>
         requires { All (EditFits self.now.writer.start.shape) edits.now }
         ensures next { IfOk result (λ made. made ≡ next_publication self.now.release edits.now) }
-        ensures may { IfOk result (CanPublish self.now.writer.start.shape self.now.release) }
+        ensures publication { IfOk result
+            (CanPublish self.now.writer.start.shape self.now.release) }
         ensures can { OnOk result (CanFollow self.now.release edits.now) }
         ensures why { IfErr result
             (λ fault. IsWhy (batch_refusal self.now.release edits.now) fault) }
@@ -102,8 +103,9 @@ impl<B: Named> Locked<B> {
         requires whole { IsWhole custodian.old }
         requires publication { CanPublish custodian.old.writer.start.shape
             custodian.old.release publication }
-        ensures ok { OnOk result (custodian.new ≡ with_publication publication custodian.old) }
+        ensures ok { OnOk result (custodian.new ≡ after_publication publication custodian.old) }
         ensures number { IfOk result (λ n. n ≡ length custodian.new.pass.list) }
+        ensures release { IfOk result (λ n. n ≡ custodian.new.release.number) }
         ensures whole { IsWhole custodian.new }
         ensures err { OnErr result (custodian.new ≡ custodian.old) }
         ensures same { OnErr result (self.new ≡ self.old) }

@@ -43,11 +43,11 @@ impl Model for Step {
 }
 
 impl Entry for Step {
-    ghost use Rattle.tb_board.specs.Starts.{blank};
+    ghost use Rattle.tb_board.specs.Starts.{blank_start};
 
     type Start = Start;
 
-    ghost blank = { blank };
+    ghost blank = { blank_start };
 }
 
 impl Step {

@@ -15,3 +15,6 @@ pub later_both : {E S : Type 0} (h k : Holder E S) → IsLater h k → IsLater k
 later_both h k p q =
     let same : h.list ≡ k.list = prefix_whole h.list k.list p.begins (prefix_length k.list h.list q.begins) in
     λ i. record { name = sym p.front i; start = sym p.base i; list = same i }
+
+-- a holder that sees more again and again is later than it was
+pub ruleset seen_more = (later_self, later_trans)

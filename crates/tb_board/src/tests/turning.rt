@@ -82,7 +82,7 @@ fn ask<B: Named, R: Wait, L: Ledger>(
 }
 
 // Asks so many times, and returns how often that went before the first cube that was wrong.
-#[tactic(auto, using(tb_front::proofs::Holding::later_self, tb_front::proofs::Holding::later_trans))]
+#[tactic(auto, using(tb_front::proofs::Holding::seen_more))]
 fn ask_often<L: Ledger, B: Named, R: Wait>(
     blank: Blank,
     rt: &R,

@@ -6,14 +6,14 @@ use Rattle.tb_model.specs.Releases.{ReleaseValue}
 use Rattle.tb_release.specs.Batches.{BatchValue}
 use Rattle.tb_release.specs.Results.{ChangeFits}
 use Rattle.tb_board.specs.Custodians.{CustodianValue, PublicationValue}
-use Rattle.tb_board.specs.Seen.{Seen, holder_at, with_batch}
+use Rattle.tb_board.specs.Holders.{HolderValue, holder_at, with_batch}
 use Rattle.tb_board.proofs.Whole.{has_room, number_more}
 use Rattle.tb_board.proofs.locked.Locked.publish.Goals as goal
 
 pub adopt-requires-clause-fit : goal.adopt-requires-clause-fit
 adopt-requires-clause-fit g c =
     let desk : c.args.self.now ≡ c.self.inside.desk = sym (c.self.view_is ∙ c.meet.ensures.same.0) in
-    let shape : c.args.custodian.now.writer.start.shape ≡ c.self.inside.desk.shape = ap (λ (h : Seen). h.start.shape) c.meet.ensures.met ∙ ap (λ (d : DeskValue). d.shape) desk in
+    let shape : c.args.custodian.now.writer.start.shape ≡ c.self.inside.desk.shape = ap (λ (h : HolderValue). h.start.shape) c.meet.ensures.met ∙ ap (λ (d : DeskValue). d.shape) desk in
     let batch : c.args.publication.batch ≡ arc_value c.publication.inside.batch = sym (ap (λ (p : PublicationValue). p.batch) c.publication.view_is) in
     subst (λ (x : List ℕ × BatchValue). All (ChangeFits x.0) x.1.changes) (λ i. (shape i, batch i)) c.requires.publication.changes_fit
 
@@ -32,5 +32,5 @@ returns-clause-number g c =
     let own : c.publication.inside.kept.value ≡ c.args.publication.release = c.publication.invariant.0 ∙ ap (λ (p : PublicationValue). p.release) c.publication.view_is in
     let pass : c.custodian.inside.pass ≡ with_batch c.self.inside.keeper c.publication.inside.step =
     ap (λ (o : CustodianValue). o.pass) c.custodian.view_is ∙ c.hand_on.ensures.pass in
-    let long : length c.custodian.inside.pass.list ≡ length c.self.inside.keeper.list + 1 = ap (λ (h : Seen). length h.list) pass ∙ length-append c.self.inside.keeper.list (c.publication.inside.step ∷ []) in
-    c.number.ensures ∙ ap (λ (r : ReleaseValue). r.number) own ∙ number ∙ ap (λ (h : Seen). length h.list + 1) keeper ∙ sym long
+    let long : length c.custodian.inside.pass.list ≡ length c.self.inside.keeper.list + 1 = ap (λ (h : HolderValue). length h.list) pass ∙ length-append c.self.inside.keeper.list (c.publication.inside.step ∷ []) in
+    c.number.ensures ∙ ap (λ (r : ReleaseValue). r.number) own ∙ number ∙ ap (λ (h : HolderValue). length h.list + 1) keeper ∙ sym long
