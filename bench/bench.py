@@ -76,7 +76,7 @@ PAIRS = [
     (LARGE, ALL_SETS, KEPT, len(ALL_SETS)),
     (LARGE, (), MIXED_ONE, 11),
     (LARGE, (), MIXED_MANY, 11),
-    *((SMALL, queries, batch, 60) for batch in (ONE_CHANGE, HUNDRED, MANY_CHANGES)
+    *((SMALL, queries, batch, 40) for batch in (ONE_CHANGE, HUNDRED, MANY_CHANGES)
       for queries in ((), OF_FOUR)),
     (NONE, ("AGE",), KEPT, 20_000),
     (NONE, LARGEST, KEPT, 400),
