@@ -57,6 +57,8 @@ class Batch(typing.NamedTuple):
 # Persons are amended, dropped and added in turn; or they are amended alone.
 MIXED_ONE, MIXED_MANY = Batch(1, True), Batch(10_000, True)
 ONE_CHANGE, HUNDRED, MANY_CHANGES = Batch(1, False), Batch(100, False), Batch(10_000, False)
+# How many batches a script has whose tables come from a cube that is behind.
+BATCHES = 40
 COLD, KEPT = "cold", "kept"
 ASCENDING, SHUFFLED = "ascending", "shuffled"
 # Persons, the queries in turn, what comes before each, and how many there are: one, and for a
@@ -76,14 +78,15 @@ PAIRS = [
     (LARGE, ALL_SETS, KEPT, len(ALL_SETS)),
     (LARGE, (), MIXED_ONE, 11),
     (LARGE, (), MIXED_MANY, 11),
-    *((SMALL, queries, batch, 40) for batch in (ONE_CHANGE, HUNDRED, MANY_CHANGES)
-      for queries in ((), OF_FOUR)),
+    *((SMALL, OF_FOUR, batch, BATCHES) for batch in (ONE_CHANGE, HUNDRED, MANY_CHANGES)),
     (NONE, ("AGE",), KEPT, 20_000),
     (NONE, LARGEST, KEPT, 400),
     (NONE, REFUSED, KEPT, 400_000),
 ]
 # How often each case is run, and the one that shows how long loading takes.
 RUNS, LOADING_RUNS, LONG_RUNS = 5, 15, 3
+# How often a script of batches with tables and the same without them are run in turn.
+TURNS = 31
 PROGRAM, PLAIN = "program", "baseline"
 MIB = 1024 * 1024
 
@@ -200,6 +203,21 @@ def measure(case, programs, folder):
         case.peak[who] = peak_of(words[who])
 
 
+def seconds_behind(batch, program, folder):
+    """What the table after each batch takes, in seconds: the median of the differences of runs in
+    turn, with tables and without, since batches take far more time than what they differ by."""
+    runs = []
+    for queries in ((), OF_FOUR):
+        script = f"{folder}/script-{len(queries)}.txt"
+        make_script(script, Case(SMALL, ASCENDING, queries, batch, BATCHES))
+        runs.append(words_of(program, folder, script))
+    differences = []
+    for _ in range(TURNS):
+        without, tables = (seconds_of(words, f"{folder}/turn.out") for words in runs)
+        differences.append((tables - without) / BATCHES)
+    return statistics.median(differences)
+
+
 def spread(seconds):
     return f"{statistics.median(seconds) * 1e3:.0f} ({min(seconds) * 1e3:.0f} to {max(seconds) * 1e3:.0f})"
 
@@ -274,15 +292,12 @@ def targets(first, further, shuffled):
     yield ("persons in another order: peak memory, MiB", shuffled.peak[PROGRAM] / MIB, None)
 
 
-def kept(further):
-    """What tables from cubes that are at hand take, and what the cubes take."""
+def kept(further, behind):
+    """What tables from cubes that are at hand take, those from a cube that is behind by batches, and
+    what the cubes take."""
     margins, of_four = further[LARGE, MARGINS, KEPT], further[LARGE, OF_FOUR, KEPT]
     yield ("tables a second of AREA by SEX with totals", 1 / margins.median(PROGRAM), None)
     yield ("a table with filters, from the cube of four variables, ms", of_four.median(PROGRAM) * 1e3, 0.3)
-    behind = {
-        batch: further[SMALL, OF_FOUR, batch].median(PROGRAM) - further[SMALL, (), batch].median(PROGRAM)
-        for batch in (ONE_CHANGE, HUNDRED, MANY_CHANGES)
-    }
     for batch, seconds in behind.items():
         yield (f"the same, where the cube is {batch.edits:,} changes behind, ms", seconds * 1e3, None)
     advance = behind[MANY_CHANGES] - behind[ONE_CHANGE]
@@ -326,6 +341,10 @@ def main(program, baseline):
                 os.mkdir(folder)
                 make_input(folder, case.persons, case.order)
             measure(case, programs, folder)
+        behind = {
+            batch: seconds_behind(batch, programs[PROGRAM], f"{top}/{SMALL}-{ASCENDING}")
+            for batch in (ONE_CHANGE, HUNDRED, MANY_CHANGES)
+        }
     for one, many in zip(cases[1::2], cases[2::2]):
         further[one.persons, one.queries, one.before] = Further(one, many)
     print(f"{machine()}; median (least to most); outputs equal byte by byte\n")
@@ -333,7 +352,7 @@ def main(program, baseline):
     print()
     print_rows(targets(first, further, shuffled))
     print()
-    print_rows(kept(further))
+    print_rows(kept(further, behind))
     print()
     print_rows(texts(further))
 

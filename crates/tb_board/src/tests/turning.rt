@@ -140,9 +140,34 @@ fn ask_as_custodian<B: Named, R: Wait>(
     right
 }
 
+// One person comes with the next release. Where memory is refused to that, it is done once more.
+// Returns whether the numbers of the desk were the same before that.
+fn publish_in_the_end<B: Named, R: Wait>(
+    rt: &R,
+    alloc: Global,
+    board: &Board<B>,
+    custodian: &mut Custodian,
+    person: u32,
+) -> Result<bool, EditFault>
+    requires name { custodian.old.writer.name ≡ B.name }
+    requires whole { IsWhole custodian.old }
+    requires shape { custodian.old.writer.start.shape ≡ [] }
+    ensures name { custodian.new.writer.name ≡ B.name }
+    ensures whole { IsWhole custodian.new }
+    ensures shape { custodian.new.writer.start.shape ≡ [] }
+{
+    let before = board.stats(rt, custodian);
+    if publish_one(rt, alloc, board, custodian, person).is_ok() {
+        return Ok(true);
+    }
+    let after = board.stats(rt, custodian);
+    publish_one(rt, alloc, board, custodian, person)?;
+    Ok(after == before)
+}
+
 // An analyst asks twice, and finds the cube the second time; one person comes; the custodian asks,
 // and finds the cube of release 0, which it advances. How often the cube was right, and the numbers
-// of the desk.
+// of the desk. It was never right where a refused publication left a trace.
 pub fn worked_turns<B: Named, R: Wait>(
     rt: &R,
     alloc: Global,
@@ -157,8 +182,9 @@ pub fn worked_turns<B: Named, R: Wait>(
     board.confirm(&mut custodian, &mut pass);
     let analyst = ask_beside(rt, alloc, board, pass, 2).unwrap_or(0);
     board.resize(rt, 2)?;
-    publish_one(rt, alloc, board, &mut custodian, 101)?;
+    let kept = publish_in_the_end(rt, alloc, board, &mut custodian, 101)?;
     let own = ask_as_custodian(rt, alloc, board, &mut custodian)?;
+    let right = if kept { analyst.saturating_add(own) } else { 0 };
     board.clear(rt);
-    Ok((analyst.saturating_add(own), board.stats(rt, &mut custodian)))
+    Ok((right, board.stats(rt, &mut custodian)))
 }

@@ -24,10 +24,11 @@ fn four() -> &'static [Row] {
     &FOUR
 }
 
-// What callers and the custodian do. A caller takes AREA, and the custodian drops a person.
+// What callers and the custodian do. A caller takes the set of one variable, and the custodian
+// drops a person.
 #[derive(Clone, Copy)]
 pub enum Ask {
-    Take(u32),
+    Take(u32, u16),
     Work(u32),
     Offer(u32),
     Answer(u32),
@@ -90,9 +91,9 @@ pub fn release_of(alloc: Global, shape: &Shape) -> Result<Release, Memory>
     Release::first(alloc, people)
 }
 
-// The set of AREA alone.
-pub fn area(alloc: Global) -> Result<VarSet, Memory> {
-    VarSet::of(alloc, &[2])
+// The set of one variable alone.
+pub fn set_of(alloc: Global, variable: u16) -> Result<VarSet, Memory> {
+    VarSet::of(alloc, &[variable])
 }
 
 // The edit by which a person leaves, which fits every shape.
@@ -106,8 +107,8 @@ pub fn drop_of(alloc: Global, person: u32) -> Result<Edits, Memory>
     }
 }
 
-fn take_of(alloc: Global, who: u32, refused: bool) -> Result<Event, Memory> {
-    let vars = area(alloc)?;
+fn take_of(alloc: Global, who: u32, variable: u16, refused: bool) -> Result<Event, Memory> {
+    let vars = set_of(alloc, variable)?;
     Ok(Event::Take {
         who,
         vars: Some(vars),
@@ -122,7 +123,7 @@ fn publish_of(alloc: Global, person: u32, refused: bool) -> Result<Event, Memory
 
 fn event_of(alloc: Global, ask: Ask, refused: bool) -> Result<Event, Memory> {
     match ask {
-        Ask::Take(who) => take_of(alloc, who, refused),
+        Ask::Take(who, variable) => take_of(alloc, who, variable, refused),
         Ask::Work(who) => Ok(Event::Work { who, refused }),
         Ask::Offer(who) => Ok(Event::Offer { who, refused }),
         Ask::Answer(who) => Ok(Event::Answer { who }),
