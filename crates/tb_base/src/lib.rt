@@ -27,6 +27,3 @@ pub use shape::Shape;
 pub use status::Status;
 pub use steps::{Steps, charge};
 pub use var_set::VarSet;
-
-#[cfg(test)]
-mod tests;

@@ -12,6 +12,3 @@ mod merging;
 mod putting;
 
 pub use cube::Cube;
-
-#[cfg(test)]
-mod tests;

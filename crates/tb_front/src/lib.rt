@@ -20,6 +20,3 @@ pub use front::{Entry, Front, LONGEST_CHAIN};
 pub use keeper::Keeper;
 pub use pass::{Note, Pass};
 pub use writer::{Draft, Writer};
-
-#[cfg(test)]
-mod tests;

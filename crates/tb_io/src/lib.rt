@@ -28,6 +28,3 @@ pub use real_sink::RealSink;
 pub use sink::Sink;
 pub use sure_files::SureFiles;
 pub use sure_sink::SureSink;
-
-#[cfg(test)]
-mod tests;

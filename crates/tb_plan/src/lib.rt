@@ -14,6 +14,3 @@ mod plan;
 mod steps;
 
 pub use plan::Plan;
-
-#[cfg(test)]
-mod tests;

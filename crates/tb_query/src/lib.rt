@@ -27,6 +27,3 @@ pub use print::print_query;
 pub use query::Query;
 pub use read::read_query;
 pub use tb_model::Filter;
-
-#[cfg(test)]
-mod tests;

@@ -18,6 +18,3 @@ mod words;
 pub use fault::EditTextFault;
 pub use read::read_edit;
 pub use words::first_word;
-
-#[cfg(test)]
-mod tests;

@@ -19,6 +19,3 @@ pub use columns::Fields;
 pub use fault::Fault;
 pub use format::{FileFormat, read_file};
 pub use kind::{FaultKind, FaultName};
-
-#[cfg(test)]
-mod tests;

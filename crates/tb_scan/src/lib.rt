@@ -12,6 +12,3 @@ mod scan;
 
 pub use put::put_all;
 pub use scan::{empty_cells, put_totals, scan_into};
-
-#[cfg(test)]
-mod tests;

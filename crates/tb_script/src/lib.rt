@@ -25,6 +25,3 @@ pub use fault::ScriptFault;
 pub use limits::{MOST_LANE_BYTES, MOST_LANES, MOST_LINE_BYTES, MOST_SCRIPT_BYTES};
 pub use run::{RunEnd, run_script};
 pub use script::Script;
-
-#[cfg(test)]
-mod tests;
