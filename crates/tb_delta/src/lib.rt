@@ -18,9 +18,6 @@ use tb_base::Steps;
 use tb_cube::Cube;
 use tb_release::{Batch, Change};
 
-#[cfg(test)]
-mod tests;
-
 // Makes a change in a cube.
 fn make(cube: &mut Cube, change: &Change)
     requires { CanMake cube.old change.now }

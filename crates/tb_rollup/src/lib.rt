@@ -10,6 +10,3 @@ mod runs;
 mod walk;
 
 pub use walk::roll_into;
-
-#[cfg(test)]
-mod tests;

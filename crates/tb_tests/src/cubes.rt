@@ -104,7 +104,7 @@ fn rows_of_none() -> &'static [Row] {
     &ROWS_OF_NONE
 }
 
-fn is_like(cube: &Cube, want: &[(u32, u8)]) -> bool {
+pub fn is_like(cube: &Cube, want: &[(u32, u8)]) -> bool {
     cube.cells() == want.len()
         && cube.as_slice().iter().zip(want).all(|(cell, (count, key))| cell.count == *count
             && cell.key == *key)
@@ -125,7 +125,7 @@ fn fits(shape: &Shape, one: &Record) -> bool
     true
 }
 
-fn all_fit(shape: &Shape, records: &[Record]) -> bool
+pub fn all_fit(shape: &Shape, records: &[Record]) -> bool
     ensures { result ≡ true → AllFit shape.now records.now }
 {
     for one in records {
@@ -150,7 +150,7 @@ fn are_some_of(shape: &Shape, numbers: &[u16]) -> bool
 }
 
 // The cube of some records. Variables that can't be asked for fail the test.
-fn cube_for(
+pub fn cube_for(
     alloc: Global,
     shape: &Shape,
     numbers: &[u16],

@@ -7,9 +7,13 @@
 #![tactic(auto)]
 
 #[cfg(test)]
+mod advanced_cubes;
+#[cfg(test)]
 mod basics;
 #[cfg(test)]
 mod classifications;
+#[cfg(test)]
+mod counted_cells;
 #[cfg(test)]
 mod cubes;
 #[cfg(test)]
@@ -28,8 +32,6 @@ mod plans;
 mod query_lines;
 #[cfg(test)]
 mod recency_lists;
-#[cfg(test)]
-mod scans;
 #[cfg(test)]
 mod scripts;
 #[cfg(test)]

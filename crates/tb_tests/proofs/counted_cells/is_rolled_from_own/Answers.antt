@@ -8,7 +8,7 @@ use Rattle.tb_cube.proofs.Holding.{counts-held, room-held}
 use Rattle.tb_plan.specs.Plans.{place_count, vars_of}
 use Rattle.tb_rollup.proofs.Own.{few-own, includes-own, there-own}
 use Rattle.tb_rollup.proofs.Tables.{all-empty}
-use Rattle.tb_rollup.proofs.tests.is_rolled_from_own.Goals as goal
+use Rattle.tb_tests.proofs.counted_cells.is_rolled_from_own.Goals as goal
 
 pub zero-requires-clause-there : goal.zero-requires-clause-there
 zero-requires-clause-there c =

@@ -1,6 +1,6 @@
 use Rattle.std.proofs.Common.{ℕ, ◌<◌}
 use Rattle.std.specs.Prelude.{slice_index}
-use Rattle.tb_delta.proofs.tests.forming.codes_fit.Given as goal
+use Rattle.tb_tests.proofs.advanced_cubes.forming.codes_fit.Given as goal
 
 -- the categories so far are in range
 abbrev pub invariant-loop-v : goal.invariant-loop-v

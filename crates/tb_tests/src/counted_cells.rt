@@ -1,30 +1,27 @@
-// What no clause says: worked cells, rolled up from the cube of the plan's own variables and from
-// that of all of them, beside the cells of a scan.
+// What no clause says: worked cells, put together and scanned from records, and rolled up from the
+// cube of the plan's own variables and from that of all of them.
 
-ghost use Rattle.std.specs.Prelude.{◌≡◌, ◌<◌, ◌≤◌, true, All, IfOk, length};
+ghost use Rattle.std.specs.Prelude.{◌≡◌, ◌≤◌, IfOk, length};
 ghost use Rattle.tb_base.specs.declared.people.TheConstants.{MOST_PERSONS};
 ghost use Rattle.tb_base.specs.Records.{AllFit};
-ghost use Rattle.tb_cube.specs.Cubes.{Holds};
 ghost use Rattle.tb_model.specs.Schemas.{shape_of};
 
-use crate::roll_into;
+use crate::cubes::cube_for;
+use crate::small::RECODES;
 use std::alloc::Global;
 use std::test::Fail;
-use tb_base::{Cell, Memory, Record, Shape, VarSet};
+use tb_base::{Cell, Memory, Record, Shape};
 use tb_cube::Cube;
-use tb_grid::{MOST_CELLS, cells_over};
 use tb_plan::Plan;
 use tb_query::{MOST_LINE_BYTES, read_query};
 use tb_records::read_people;
-use tb_scan::{empty_cells, scan_into};
+use tb_rollup::roll_into;
+use tb_scan::{empty_cells, put_all, put_totals, scan_into};
 use tb_schema::{Schema, SchemaFault};
 
 const CLASSES: &[u8] = b"variable,code,label\nSEX,1,Male\nSEX,2,Female\nAGE,0-15,Under 16\n\
     AGE,16-64,Working age\nAGE,65+,65 and over\nAREA,E1,\"North, rural\"\nAREA,E2,South\n\
     LAND,N,North\n";
-
-const RECODES: &[u8] = b"recode,variable,code,group\nAGE2,AGE,0-15,young\n\
-    AGE2,AGE,16-64,old\nAGE2,AGE,65+,old\n";
 
 const PEOPLE: &[u8] = b"person,record_key,SEX,AGE,AREA,LAND\n101,200,1,0-15,E1,N\n\
     102,100,1,16-64,E1,N\n103,20,1,65+,E2,N\n\
@@ -142,31 +139,19 @@ fn is_like(cells: &[Cell], want: &[(u32, u8)]) -> bool {
             && cell.key == *key)
 }
 
-// Whether these variables are the shape's.
-fn are_some_of(shape: &Shape, vars: &VarSet) -> bool
-    ensures { result ≡ true → All (λ v. v < length shape.now) vars.now }
+// Whether the cells that are put together, beginning with empty ones, are as wanted.
+fn is_put(
+    alloc: Global,
+    plan: &Plan,
+    records: &[Record],
+    want: &[(u32, u8)],
+) -> Result<bool, Memory>
+    requires { AllFit plan.now.shape records.now }
 {
-    for i in 0..vars.len() {
-        if vars.at(i) as usize >= shape.len() {
-            return false;
-        }
-    }
-    true
-}
-
-// The cube of some records. Variables that can't be asked for fail the test.
-fn cube_for(alloc: Global, shape: &Shape, vars: &VarSet, records: &[Record]) -> Result<Cube, Memory>
-    requires fit { AllFit shape.now records.now }
-    requires few { length records.now ≤ MOST_PERSONS }
-    ensures shape { IfOk result (λ cube. cube.shape ≡ shape.now) }
-    ensures held { IfOk result (λ cube. Holds cube records.now) }
-{
-    if !are_some_of(shape, vars) || cells_over(shape, vars, 0) > MOST_CELLS {
-        return Err(Memory);
-    }
-    let mut cube = Cube::zero(alloc, shape, vars)?;
-    cube.add_all(records);
-    Ok(cube)
+    let mut cells = empty_cells(alloc, plan)?;
+    put_all(plan, records, &mut cells);
+    put_totals(plan, &mut cells);
+    Ok(is_like(&cells, want))
 }
 
 // Whether the cells rolled up from the cube of the plan's own variables are as wanted.
@@ -197,7 +182,7 @@ fn is_rolled(
     alloc: Global,
     plan: &Plan,
     shape: &Shape,
-    vars: &VarSet,
+    numbers: &[u16],
     records: &[Record],
     want: &[(u32, u8)],
 ) -> Result<bool, Memory>
@@ -205,7 +190,7 @@ fn is_rolled(
     requires fit { AllFit shape.now records.now }
     requires few { length records.now ≤ MOST_PERSONS }
 {
-    let cube = cube_for(alloc, shape, vars, records)?;
+    let cube = cube_for(alloc, shape, numbers, records)?;
     if !cube.vars().includes(plan.vars()) {
         return Ok(false);
     }
@@ -230,13 +215,7 @@ fn is_scanned(
 }
 
 // Whether a row's cells are right both ways, and from both cubes.
-fn is_right(
-    alloc: Global,
-    schema: &Schema,
-    all: &VarSet,
-    records: &[Record],
-    row: Row,
-) -> Result<bool, Fail>
+fn is_right(alloc: Global, schema: &Schema, records: &[Record], row: Row) -> Result<bool, Fail>
     requires fit { AllFit (shape_of schema.now) records.now }
     requires few { length records.now ≤ MOST_PERSONS }
 {
@@ -246,18 +225,18 @@ fn is_right(
     }
     let plan = plan_for(alloc, schema, line)?;
     Ok(
-        is_rolled_from_own(alloc, &plan, schema.shape(), records, want)?
-            && is_rolled(alloc, &plan, schema.shape(), all, records, want)?
-            && is_scanned(alloc, &plan, records, want)?,
+        is_put(alloc, &plan, records, want)?
+            && is_scanned(alloc, &plan, records, want)?
+            && is_rolled_from_own(alloc, &plan, schema.shape(), records, want)?
+            && is_rolled(alloc, &plan, schema.shape(), &[0, 1, 2, 3], records, want)?,
     )
 }
 
 // How many rows come before the first that is wrong.
 fn right_rows(alloc: Global, schema: &Schema) -> Result<usize, Fail> {
-    let all = VarSet::of(alloc, &[0, 1, 2, 3])?;
     let people = read_people(alloc, schema, PEOPLE)?;
     for (i, row) in rows().iter().enumerate() {
-        if !is_right(alloc, schema, &all, people.all(), *row)? {
+        if !is_right(alloc, schema, people.all(), *row)? {
             return Ok(i);
         }
     }

@@ -1,7 +1,7 @@
 use Rattle.std.proofs.Common.{List, ℕ, sym, subst}
 use Rattle.std.specs.Prelude.{All}
 use Rattle.tb_release.specs.Results.{ChangeFits}
-use Rattle.tb_delta.proofs.tests.lead.Goals as goal
+use Rattle.tb_tests.proofs.advanced_cubes.lead.Goals as goal
 
 pub advance-requires-clause-release : goal.advance-requires-clause-release
 advance-requires-clause-release g c = (

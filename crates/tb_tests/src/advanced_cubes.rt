@@ -7,14 +7,15 @@ ghost use Rattle.std.specs.Prelude.{◌≡◌, ◌<◌, IfOk};
 ghost use Rattle.tb_base.specs.Records.{AllFit};
 ghost use Rattle.tb_cube.specs.Cubes.{Holds};
 
-use crate::advance;
-use forming::{Ask, Row, all_fit, cube_for, edits_of, people_of};
+use crate::cubes::{all_fit, cube_for, is_like};
+use forming::{Ask, Row, edits_of, people_of};
 use std::alloc::Global;
 use std::marker::Brand;
 use std::sync::ledger::{Blank, Ledger};
 use std::test::Fail;
 use tb_base::{MOST_PERSONS, Memory, People, Shape, Steps};
 use tb_cube::Cube;
+use tb_delta::advance;
 use tb_release::{EditFault, Release, next};
 
 static FOUR: [Row; 4] = [
@@ -203,7 +204,7 @@ fn start(
     ensures held { IfOk result (λ both. Holds both.1 both.0.records) }
 {
     let people = people_of(alloc, rows)?;
-    if !all_fit(shape, people.all()) {
+    if people.len() > MOST_PERSONS || !all_fit(shape, people.all()) {
         return Err(Memory);
     }
     let cube = cube_for(alloc, shape, numbers, people.all())?;
@@ -252,12 +253,6 @@ fn led<L: Ledger>(
 fn anew(alloc: Global, shape: &Shape, numbers: &[u16], rows: &[Row]) -> Result<Cube, Memory> {
     let (_, cube) = start(alloc, shape, numbers, rows)?;
     Ok(cube)
-}
-
-fn is_like(cube: &Cube, want: &[(u32, u8)]) -> bool {
-    cube.cells() == want.len()
-        && cube.as_slice().iter().zip(want).all(|(cell, (count, key))| cell.count == *count
-            && cell.key == *key)
 }
 
 fn is_right<L: Ledger>(blank: Blank, alloc: Global, case: &Case) -> Result<bool, EditFault>

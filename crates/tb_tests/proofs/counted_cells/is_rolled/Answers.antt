@@ -3,7 +3,7 @@ use Rattle.tb_base.specs.Records.{AllFit}
 use Rattle.tb_cube.proofs.Holding.{counts-held}
 use Rattle.tb_plan.specs.Plans.{place_count}
 use Rattle.tb_rollup.proofs.Tables.{all-empty}
-use Rattle.tb_rollup.proofs.tests.is_rolled.Goals as goal
+use Rattle.tb_tests.proofs.counted_cells.is_rolled.Goals as goal
 
 pub roll_into-requires-clause-few : goal.roll_into-requires-clause-few
 roll_into-requires-clause-few c =

@@ -1,4 +1,4 @@
-use Rattle.tb_delta.proofs.tests.right_cases.Given as goal
+use Rattle.tb_tests.proofs.advanced_cubes.right_cases.Given as goal
 
 -- the ledger of the blank
 abbrev pub ghosts-is_right : goal.ghosts-is_right

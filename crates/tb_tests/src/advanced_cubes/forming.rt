@@ -1,15 +1,11 @@
-// People, edits and cubes of rows, where they fit a shape.
+// People and edits of rows, where they fit a shape.
 
-ghost use Rattle.std.specs.Prelude.{◌≡◌, ◌<◌, ℕ, true, All, IfOk, length};
-ghost use Rattle.std.specs.List.Sorted.{IsStrictlyIncreasing};
-ghost use Rattle.tb_base.specs.Records.{AllFit, Fits};
-ghost use Rattle.tb_cube.specs.Cubes.{Holds};
+ghost use Rattle.std.specs.Prelude.{◌≡◌, ◌<◌, ℕ, true, All, IfOk};
+ghost use Rattle.tb_base.specs.Records.{Fits};
 ghost use Rattle.tb_release.specs.Laws.{EditFits};
 
 use std::alloc::Global;
-use tb_base::{Codes, MOST_PERSONS, Memory, People, Record, Shape, VarSet};
-use tb_cube::Cube;
-use tb_grid::{MOST_CELLS, cells_over};
+use tb_base::{Codes, Memory, People, Record, Shape};
 use tb_release::{Edit, Edits, Sets};
 
 // A person, the record key, and the categories of SEX, AGE and AREA.
@@ -53,62 +49,6 @@ fn codes_fit(shape: &Shape, key: u8, codes: &Codes) -> bool
         }
     }
     true
-}
-
-fn record_fits(shape: &Shape, one: &Record) -> bool
-    ensures { result ≡ true → Fits shape.now one.now }
-{
-    codes_fit(shape, one.key, &one.codes)
-}
-
-pub fn all_fit(shape: &Shape, records: &[Record]) -> bool
-    ensures { result ≡ true → AllFit shape.now records.now }
-{
-    for one in records {
-        if !record_fits(shape, one) {
-            return false;
-        }
-    }
-    true
-}
-
-// Whether these variables ascend and are the shape's.
-fn are_some_of(shape: &Shape, numbers: &[u16]) -> bool
-    ensures ascending { result ≡ true → IsStrictlyIncreasing numbers.now }
-    ensures there { result ≡ true → All (λ v. v < length shape.now) numbers.now }
-{
-    for i in 0..numbers.len() {
-        if numbers[i] as usize >= shape.len() || i > 0 && numbers[i - 1] >= numbers[i] {
-            return false;
-        }
-    }
-    true
-}
-
-// The cube of some records. Variables that can't be asked for fail the test.
-pub fn cube_for(
-    alloc: Global,
-    shape: &Shape,
-    numbers: &[u16],
-    records: &[Record],
-) -> Result<Cube, Memory>
-    requires { AllFit shape.now records.now }
-    ensures shape { IfOk result (λ cube. cube.shape ≡ shape.now) }
-    ensures held { IfOk result (λ cube. Holds cube records.now) }
-{
-    if records.len() > MOST_PERSONS {
-        return Err(Memory);
-    }
-    if !are_some_of(shape, numbers) {
-        return Err(Memory);
-    }
-    let vars = VarSet::of(alloc, numbers)?;
-    if cells_over(shape, &vars, 0) > MOST_CELLS {
-        return Err(Memory);
-    }
-    let mut cube = Cube::zero(alloc, shape, &vars)?;
-    cube.add_all(records);
-    Ok(cube)
 }
 
 fn add_of(

@@ -3,7 +3,7 @@ use Rattle.std.specs.Prelude.{IfOk, Result, Ok, Err}
 use Rattle.tb_base.specs.Records.{AllFit}
 use Rattle.tb_model.specs.Releases.{ReleaseValue, first_release}
 use Rattle.tb_model.specs.Setups.{SetupValue}
-use Rattle.tb_delta.proofs.tests.first.Goals as goal
+use Rattle.tb_tests.proofs.advanced_cubes.first.Goals as goal
 
 map-ok : {T E : Type 0} (r : Result T E) (P Q : T → Type 0) → ((x : T) → P x → Q x) → IfOk r P → IfOk r Q
 map-ok (Ok x) P Q f h = f x h

@@ -1,7 +1,7 @@
 use Rattle.std.proofs.Common.{◌≡◌}
 use Rattle.tb_base.specs.Records.{AllFit}
 use Rattle.tb_cube.specs.Cubes.{Holds}
-use Rattle.tb_delta.proofs.tests.led.Given as goal
+use Rattle.tb_tests.proofs.advanced_cubes.led.Given as goal
 
 -- the cube holds the release's records, which fit
 abbrev pub invariant-loop-asks : goal.invariant-loop-asks

@@ -1,6 +1,6 @@
 use Rattle.std.specs.Prelude.{All}
 use Rattle.tb_release.specs.Laws.{EditFits}
-use Rattle.tb_delta.proofs.tests.forming.edits_of.Given as goal
+use Rattle.tb_tests.proofs.advanced_cubes.forming.edits_of.Given as goal
 
 -- the edits so far fit
 abbrev pub invariant-loop-ask : goal.invariant-loop-ask
