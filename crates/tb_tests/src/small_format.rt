@@ -47,7 +47,7 @@ impl FileFormat for Notes {
     ghost use Rattle.std.specs.Prelude.{◌≤◌, ◌+◌, ◌++◌, ◌==◌, ◌∷◌, [], ℕ, List, Ok, Err, codes, get_or, nat_lt, if◌then◌else◌};
     ghost use Rattle.std.specs.Option.{option_map_or};
     ghost use Rattle.tb_base.specs.Numbers.{number_of};
-    ghost use Rattle.tb_rows.specs.declared.tests.NoteKind.TheVariants as kind;
+    ghost use Rattle.tb_tests.specs.declared.small_format.NoteKind.TheVariants as kind;
 
     type SoFar = Texts;
 
