@@ -1,9 +1,9 @@
 //! Tests of cells: counted, rolled up and advanced, worked by hand, with the cache of cubes and the
 //! front of the chain, and that ample memory is enough.
 //!
-//! They call public functions alone. Tests stand in crates of their own since a crate that has tests
-//! is proved twice; a test that needs what its crate keeps for itself stands there, and whole runs
-//! stand in `tablebuilder`.
+//! They call public functions alone. Tests stand in crates of their own since a crate that has
+//! tests is proved twice; a test that needs what its crate keeps for itself stands there, and whole
+//! runs stand in `tablebuilder`.
 #![tactic(auto)]
 
 #[cfg(test)]

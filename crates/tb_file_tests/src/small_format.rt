@@ -44,7 +44,8 @@ impl Model for Texts {
 }
 
 impl FileFormat for Notes {
-    ghost use Rattle.std.specs.Prelude.{◌≤◌, ◌+◌, ◌++◌, ◌==◌, ◌∷◌, [], ℕ, List, Ok, Err, codes, get_or, nat_lt, if◌then◌else◌};
+    ghost use Rattle.std.specs.Prelude.{◌≤◌, ◌+◌, ◌++◌, ◌==◌, ◌∷◌, [], ℕ, List, Ok, Err, codes};
+    ghost use Rattle.std.specs.Prelude.{get_or, nat_lt, if◌then◌else◌};
     ghost use Rattle.std.specs.Option.{option_map_or};
     ghost use Rattle.tb_base.specs.Numbers.{number_of};
     ghost use Rattle.tb_file_tests.specs.declared.small_format.NoteKind.TheVariants as kind;
