@@ -1,33 +1,20 @@
 // What no clause says: worked cells, advanced by the batches of some edits, beside the cells of a
 // cube that is built anew over the records that the edits leave.
 
-mod forming;
-
 ghost use Rattle.std.specs.Prelude.{◌≡◌, ◌<◌, IfOk};
 ghost use Rattle.tb_base.specs.Records.{AllFit};
 ghost use Rattle.tb_cube.specs.Cubes.{Holds};
 
 use crate::cubes::{all_fit, cube_for, is_like};
-use forming::{Ask, Row, edits_of, people_of};
+use crate::forming::{Ask, Row, edits_of, first, four, people_of, shape};
 use std::alloc::Global;
 use std::marker::Brand;
 use std::sync::ledger::{Blank, Ledger};
 use std::test::Fail;
-use tb_base::{MOST_PERSONS, Memory, People, Shape, Steps};
+use tb_base::{MOST_PERSONS, Memory, Shape, Steps};
 use tb_cube::Cube;
 use tb_delta::advance;
 use tb_release::{EditFault, Release, next};
-
-static FOUR: [Row; 4] = [
-    (101, 200, [0, 0, 0]),
-    (102, 100, [0, 1, 0]),
-    (103, 20, [0, 2, 1]),
-    (104, 7, [1, 1, 1]),
-];
-
-fn four() -> &'static [Row] {
-    &FOUR
-}
 
 // Variables of SEX, AGE and AREA; batches of edits over the four, each over the release that the
 // one before it made; the records that they leave; and the count and the cell key of each cell.
@@ -66,7 +53,7 @@ static CASES: [Case; 10] = [
     // One changes.
     (
         &[0, 1],
-        &[&[Ask::Amend(103, 0, 1)]],
+        &[&[Ask::Amend(103, &[(0, 1)])]],
         &[
             (101, 200, [0, 0, 0]),
             (102, 100, [0, 1, 0]),
@@ -78,7 +65,7 @@ static CASES: [Case; 10] = [
     // One changes in a variable that the cube hasn't.
     (
         &[0],
-        &[&[Ask::Amend(102, 1, 2)]],
+        &[&[Ask::Amend(102, &[(1, 2)])]],
         &[
             (101, 200, [0, 0, 0]),
             (102, 100, [0, 2, 0]),
@@ -90,7 +77,7 @@ static CASES: [Case; 10] = [
     // One comes and changes. 100 + 7 + 250 = 357, and 357 - 256 = 101.
     (
         &[1],
-        &[&[Ask::Add(200, 250, [0, 0, 1]), Ask::Amend(200, 1, 1)]],
+        &[&[Ask::Add(200, 250, [0, 0, 1]), Ask::Amend(200, &[(1, 1)])]],
         &[
             (101, 200, [0, 0, 0]),
             (102, 100, [0, 1, 0]),
@@ -105,7 +92,7 @@ static CASES: [Case; 10] = [
         &[1],
         &[&[
             Ask::Add(200, 250, [0, 0, 1]),
-            Ask::Amend(200, 1, 1),
+            Ask::Amend(200, &[(1, 1)]),
             Ask::Drop(200),
         ]],
         &[
@@ -121,9 +108,9 @@ static CASES: [Case; 10] = [
         &[0, 1],
         &[&[
             Ask::Drop(101),
-            Ask::Amend(104, 1, 0),
+            Ask::Amend(104, &[(1, 0)]),
             Ask::Add(201, 3, [1, 2, 0]),
-            Ask::Amend(104, 0, 0),
+            Ask::Amend(104, &[(0, 0)]),
         ]],
         &[
             (102, 100, [0, 1, 0]),
@@ -138,7 +125,7 @@ static CASES: [Case; 10] = [
         &[2],
         &[
             &[Ask::Drop(103)],
-            &[Ask::Add(103, 20, [1, 0, 0]), Ask::Amend(102, 2, 1)],
+            &[Ask::Add(103, 20, [1, 0, 0]), Ask::Amend(102, &[(2, 1)])],
         ],
         &[
             (101, 200, [0, 0, 0]),
@@ -178,18 +165,6 @@ static CASES: [Case; 10] = [
 
 fn cases() -> &'static [Case] {
     &CASES
-}
-
-// Release 0 of people who fit a shape.
-fn first(alloc: Global, shape: &Shape, people: People) -> Result<Release, Memory>
-    requires { AllFit shape.now people }
-    ensures fit { IfOk result (λ release. AllFit shape.now release.records) }
-    ensures same { IfOk result (λ release. release.records ≡ people) }
-{
-    if people.len() > MOST_PERSONS {
-        return Err(Memory);
-    }
-    Release::first(alloc, people)
 }
 
 // Release 0 of some rows, and its cube.
@@ -262,7 +237,7 @@ fn is_right<L: Ledger>(blank: Blank, alloc: Global, case: &Case) -> Result<bool,
 {
     let (numbers, batches, rows, want) = case;
     let mut steps = Steps::<L>::new(blank);
-    let shape = Shape::of(alloc, &[2, 3, 2])?;
+    let shape = shape(alloc)?;
     let advanced = led(alloc, &shape, numbers, batches, &mut steps)?;
     let built = anew(alloc, &shape, numbers, rows)?;
     Ok(is_like(&advanced, want) && is_like(&built, want))

@@ -6,6 +6,7 @@ ghost use Rattle.std.specs.Prelude.{IfOk, IfSome, drop, length, slice_index, tak
 ghost use Rattle.std.specs.List.Sorted.{IsStrictlyIncreasing};
 ghost use Rattle.tb_base.specs.declared.people.TheConstants.{MOST_PERSONS};
 ghost use Rattle.tb_base.specs.Records.{category_at, AllFit, Fits};
+ghost use Rattle.tb_core.specs.Desks.{HasCube};
 ghost use Rattle.tb_cube.specs.Cubes.{Holds};
 ghost use Rattle.tb_grid.specs.declared.products.TheConstants.{MOST_CELLS};
 
@@ -149,7 +150,22 @@ fn are_some_of(shape: &Shape, numbers: &[u16]) -> bool
     true
 }
 
-// The cube of some records. Variables that can't be asked for fail the test.
+// The set of some variables of which there is a cube. Others fail the test.
+pub fn set_for(alloc: Global, shape: &Shape, numbers: &[u16]) -> Result<VarSet, Memory>
+    ensures same { IfOk result (λ vars. vars ≡ numbers.now) }
+    ensures cube { IfOk result (HasCube shape.now) }
+{
+    if !are_some_of(shape, numbers) {
+        return Err(Memory);
+    }
+    let vars = VarSet::of(alloc, numbers)?;
+    if cells_over(shape, &vars, 0) > MOST_CELLS {
+        return Err(Memory);
+    }
+    Ok(vars)
+}
+
+// The cube of some records. Variables of which there is none fail the test.
 pub fn cube_for(
     alloc: Global,
     shape: &Shape,
@@ -162,13 +178,7 @@ pub fn cube_for(
     ensures vars { IfOk result (λ cube. cube.vars ≡ numbers.now) }
     ensures held { IfOk result (λ cube. Holds cube records.now) }
 {
-    if !are_some_of(shape, numbers) {
-        return Err(Memory);
-    }
-    let vars = VarSet::of(alloc, numbers)?;
-    if cells_over(shape, &vars, 0) > MOST_CELLS {
-        return Err(Memory);
-    }
+    let vars = set_for(alloc, shape, numbers)?;
     let mut cube = Cube::zero(alloc, shape, &vars)?;
     cube.add_all(records);
     Ok(cube)

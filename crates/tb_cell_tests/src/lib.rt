@@ -1,5 +1,6 @@
-//! Tests of cells: counted, rolled up and advanced, worked by hand, with the cache of cubes and the
-//! front of the chain, and that ample memory is enough.
+//! Tests of releases and cells: edited, counted, rolled up and advanced, worked by hand, with the
+//! cache of cubes, the desk that keeps it and the front of the chain, and that ample memory is
+//! enough.
 //!
 //! They call public functions alone. Tests stand in crates of their own since a crate that has
 //! tests is proved twice; a test that needs what its crate keeps for itself stands there, and whole
@@ -13,6 +14,18 @@ mod counted_cells;
 #[cfg(test)]
 mod cubes;
 #[cfg(test)]
+mod desks;
+#[cfg(test)]
+mod edited_releases;
+#[cfg(test)]
+mod event_runs;
+#[cfg(test)]
+mod forming;
+#[cfg(test)]
 mod fronts;
 #[cfg(test)]
 mod recency_lists;
+#[cfg(test)]
+mod release_limits;
+#[cfg(test)]
+mod releases;

@@ -25,9 +25,6 @@ use tb_cache::CubeCache;
 use tb_cube::Cube;
 use tb_release::{Batch, Batches, Release};
 
-#[cfg(test)]
-mod tests;
-
 /// A cube that was found: that of the numbered release, and the batches from there to the release
 /// that was taken.
 #[derive(Drop)]

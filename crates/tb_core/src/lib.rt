@@ -21,6 +21,3 @@ pub use cubes::{build, cube_for};
 pub use desk::{Desk, Hit, Offer, Offered, Stats, Taken};
 pub use events::{Cells, Event, Offers, Outcome, Ran, Replies, Reply};
 pub use running::run;
-
-#[cfg(test)]
-mod tests;

@@ -1,6 +1,8 @@
 pub mod Capped
 pub mod Cuts
+pub mod Found
 pub mod Joins
+pub mod OneMore
 pub mod OneAnswer
 pub mod Refusals
 pub mod RoundTrip

@@ -1,6 +1,6 @@
 -- The canonical text of a query that was read has the tokens of the line that it was read from.
 use Rattle.std.proofs.Common.{◌≡◌, ℕ, true, cond, List, [], ◌∷◌, ◌++◌, Option, Some, None, sym, refl, ap, ◌∙◌, subst}
-use Rattle.std.specs.Prelude.{bytes_eq, codes, map, find, is_none, unwrap_or}
+use Rattle.std.specs.Prelude.{bytes_eq, codes, map}
 use Rattle.std.specs.List.{AllByRecursion, flat_map}
 use Rattle.std.specs.Option.{option_map}
 use Rattle.std.proofs.lemmas.Slice.Eq.{bytes_eq-Decides}
@@ -14,13 +14,14 @@ use Rattle.tb_model.specs.Queries.{QueryValue}
 use Rattle.tb_query.specs.declared.tokens.Kind.{Kind}
 use Rattle.tb_query.specs.declared.tokens.Kind.TheVariants as kind
 use Rattle.tb_query.specs.declared.fault.QueryFault.TheVariants as faults
-use Rattle.tb_query.specs.Tokens.{Token, cut, tokens_of, tokens_from, token_number}
+use Rattle.tb_query.specs.Tokens.{Token, cut, tokens_of, tokens_from}
 use Rattle.tb_query.specs.Bytes.{first_not_text}
 use Rattle.tb_query.specs.Grammar.{NamedFilter, NamedQuery, Piece, OfKind, NamePiece, CodePiece, IsQuery, separated_by, name_pieces, code_pieces, filter_pieces, where_pieces, with_pieces, query_pieces}
 use Rattle.tb_schema.specs.Names.{place_in, variable_or, variable_names, recode_names}
 use Rattle.tb_query.specs.Canonical.{code_text, piece_text, texts_of, join, name_token, code_token, named_filter, named_query, canonical_text}
 use Rattle.tb_query.specs.Meanings.{name_of_token, code_of_token, name_meant, code_meant, filter_meant, query_meant}
-use Rattle.tb_query.specs.Faults.{unknown_in, unknown_name, unknown_code_in, unknown_code, refusal, Reads}
+use Rattle.tb_query.specs.Faults.{unknown_in, unknown_name, unknown_among, unknown_code_in, unknown_code, refusal, Reads}
+use Rattle.tb_query.proofs.Found.{all_found}
 use Rattle.tb_query.proofs.Refusals.{none_both, none_inside}
 use Rattle.tb_query.proofs.Joins.{cut_texts, cut-join, AreText-join, cut_text, text_of_none, none_of_text}
 use Rattle.tb_query.proofs.Texts.{query_texts}
@@ -55,39 +56,24 @@ code_back schema of t n h = sym (same_bytes t.text _ (position-Some (bytes_eq t.
 abbrev NameKept : SchemaValue → Token → Type 0
 NameKept schema t = name_text schema (name_meant schema t) ≡ t.text
 
-kept_at : (schema : SchemaValue) (t : Token) (ts : List Token) (v : Option NameOf) → name_of_token schema t ≡ v
-    → option_map token_number (cond (is_none v) (Some t) (find (λ u. is_none (name_of_token schema u)) ts)) ≡ None
-    → (name_text schema (unwrap_or v (name_of.Variable 0)) ≡ t.text) × (unknown_in schema ts ≡ None)
-kept_at schema t ts None e h = absurd (cc)
-kept_at schema t ts (Some of) e h = (name_back schema t of e, h)
-
 names_kept : (schema : SchemaValue) (ts : List Token) → unknown_in schema ts ≡ None → AllByRecursion (NameKept schema) ts
-names_kept schema [] h = tt
-names_kept schema (t ∷ ts) h = let both = kept_at schema t ts (name_of_token schema t) refl h in (both.0, names_kept schema ts both.1)
+names_kept schema ts h = all_found (name_of_token schema) (name_of.Variable 0) (λ t of. name_text schema of ≡ t.text) (name_back schema) ts h
 
 abbrev CodeKept : SchemaValue → NameOf → Token → Type 0
 CodeKept schema of t = code_text schema of (code_meant schema of t) ≡ t.text
 
-code_kept_at : (schema : SchemaValue) (of : NameOf) (t : Token) (ts : List Token) (v : Option ℕ) → code_of_token schema of t ≡ v
-    → option_map token_number (cond (is_none v) (Some t) (find (λ u. is_none (code_of_token schema of u)) ts)) ≡ None
-    → (code_text schema of (unwrap_or v 0) ≡ t.text) × (option_map token_number (find (λ u. is_none (code_of_token schema of u)) ts) ≡ None)
-code_kept_at schema of t ts None e h = absurd (cc)
-code_kept_at schema of t ts (Some n) e h = (code_back schema of t n e, h)
-
-codes_kept : (schema : SchemaValue) (of : NameOf) (ts : List Token) → option_map token_number (find (λ u. is_none (code_of_token schema of u)) ts) ≡ None → AllByRecursion (CodeKept schema of) ts
-codes_kept schema of [] h = tt
-codes_kept schema of (t ∷ ts) h = let both = code_kept_at schema of t ts (code_of_token schema of t) refl h in (both.0, codes_kept schema of ts both.1)
+codes_kept : (schema : SchemaValue) (of : NameOf) (ts : List Token) → unknown_among schema of ts ≡ None → AllByRecursion (CodeKept schema of) ts
+codes_kept schema of ts h = all_found (code_of_token schema of) 0 (λ t n. code_text schema of n ≡ t.text) (code_back schema of) ts h
 
 record FilterKept (schema : SchemaValue) (f : NamedFilter) : Type 0 where
   name : NameKept schema f.name
   codes_same : AllByRecursion (CodeKept schema (name_meant schema f.name)) f.codes
 
-filters_kept : (schema : SchemaValue) (fs : List NamedFilter) → unknown_in schema (map (λ f. f.name) fs) ≡ None → unknown_code schema fs ≡ None → AllByRecursion (FilterKept schema) fs
+filters_kept : (schema : SchemaValue) (fs : List NamedFilter) → AllByRecursion (NameKept schema) (map (λ f. f.name) fs) → unknown_code schema fs ≡ None → AllByRecursion (FilterKept schema) fs
 filters_kept schema [] hn hc = tt
 filters_kept schema (f ∷ fs) hn hc =
-    let both = kept_at schema f.name (map (λ f. f.name) fs) (name_of_token schema f.name) refl hn in
     let c = none_both (unknown_code_in schema f) (unknown_code schema fs) hc in
-    (record { name = both.0; codes_same = codes_kept schema (name_meant schema f.name) f.codes c.0 }, filters_kept schema fs both.1 c.1)
+    (record { name = hn.0; codes_same = codes_kept schema (name_meant schema f.name) f.codes c.0 }, filters_kept schema fs hn.1 c.1)
 
 -- the texts of pieces whose tokens have the same texts
 texts-append : (xs ys xs' ys' : List Piece) → texts_of xs ≡ texts_of xs' → texts_of ys ≡ texts_of ys' → texts_of (xs ++ ys) ≡ texts_of (xs' ++ ys')
@@ -148,7 +134,7 @@ query_same schema q no_fault =
     let n = none_both (option_map faults.UnknownName (unknown_name schema q)) _ no_fault in
     let c = none_both (option_map faults.UnknownCode (unknown_code schema q.filters)) _ n.1 in
     let names = none_both (unknown_in schema q.dimensions) (unknown_in schema (map (λ f. f.name) q.filters)) (none_inside (unknown_name schema q) faults.UnknownName n.0) in
-    let fs = filters_kept schema q.filters names.1 (none_inside (unknown_code schema q.filters) faults.UnknownCode c.0) in
+    let fs = filters_kept schema q.filters (names_kept schema (map (λ f. f.name) q.filters) names.1) (none_inside (unknown_code schema q.filters) faults.UnknownCode c.0) in
     let ds = separated_same kind.By NamePiece (λ t. refl) (name_token schema) (name_meant schema) q.dimensions (names_kept schema q.dimensions names.0) in
     let meant = query_meant schema q in
     let printed = named_query schema meant in

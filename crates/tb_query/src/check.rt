@@ -6,7 +6,6 @@ ghost use Rattle.tb_model.specs.Schemas.{category_count};
 ghost use Rattle.tb_schema.specs.Names.{IsName};
 ghost use Rattle.tb_query.specs.Faults.{RefusesBy, is_too_large, refusal};
 ghost use Rattle.tb_query.specs.Meanings.{query_meant};
-ghost use Rattle.tb_query.specs.Over.{IsFilterOver};
 ghost use Rattle.tb_query.specs.Views.{query_view};
 
 use crate::codes::filters_meant;
@@ -56,8 +55,6 @@ fn is_too_large(schema: &Schema, query: &Query) -> bool
 
 /// The query that the tokens stand for, or the first fault of what they stand for.
 pub fn query_meant(alloc: Global, schema: &Schema, query: &QueryTokens) -> Result<Query, QueryFault>
-    ensures names { IfOk result (λ q. All (IsName schema.now) q.dimensions) }
-    ensures filters { IfOk result (λ q. All (IsFilterOver schema.now) q.filters) }
     ensures meant { IfOk result (λ q. q ≡ query_meant schema.now (query_view query.now)) }
     ensures no_fault { IfOk result (λ _. refusal schema.now (query_view query.now) ≡ None) }
     ensures refused { IfErr result

@@ -1,15 +1,12 @@
 // What the filters of a query stand for, and the first code that stands for nothing.
 
-ghost use Rattle.std.specs.Prelude.{◌≡◌, ◌<◌, All, IfErr, IfOk, IsSome, MatchResult, None, Some};
-ghost use Rattle.std.specs.Prelude.{map};
+ghost use Rattle.std.specs.Prelude.{◌≡◌, IfErr, IfOk, IsSome, MatchResult, None, Some, map};
 ghost use Rattle.std.specs.Option.{option_map};
-ghost use Rattle.tb_model.specs.Schemas.{category_count};
 ghost use Rattle.tb_schema.specs.Names.{IsName};
 ghost use Rattle.tb_query.specs.Faults.{RefusesBy, unknown_among, unknown_code, unknown_code_in};
 ghost use Rattle.tb_query.specs.Faults.{unknown_in};
 ghost use Rattle.tb_query.specs.Meanings.{code_meant, code_of_token, filter_meant};
 ghost use Rattle.tb_query.specs.Meanings.{name_of_token};
-ghost use Rattle.tb_query.specs.Over.{IsFilterOver};
 ghost use Rattle.tb_query.specs.Views.{filter_view, filter_views, token_view, token_views};
 
 use crate::fault::QueryFault;
@@ -23,13 +20,12 @@ use tb_schema::Schema;
 
 // What a token stands for as a code under a name.
 #[tactic(auto, unfolding(crate::specs::Meanings::code_of_token))]
-fn code_meant(schema: &Schema, of: NameOf, t: Token) -> Result<u16, QueryFault>
+fn code_meant(schema: &Schema, of: NameOf, t: &Token) -> Result<u16, QueryFault>
     requires { IsName schema.now of }
     ensures { MatchResult result
-        (λ number. (code_of_token schema.now of (token_view t.entry) ≡ Some number)
-        × (number < category_count schema.now of))
-        (λ e. (code_of_token schema.now of (token_view t.entry) ≡ None)
-        × (e ≡ QueryFault.UnknownCode (token_view t.entry).number)) }
+        (λ number. code_of_token schema.now of (token_view t.now) ≡ Some number)
+        (λ e. (code_of_token schema.now of (token_view t.now) ≡ None)
+        × (e ≡ QueryFault.UnknownCode (token_view t.now).number)) }
 {
     match schema.code_of(of, t.text) {
         Some(number) => Ok(number),
@@ -45,8 +41,6 @@ fn codes_meant(
     codes: &[Token],
 ) -> Result<Codes, QueryFault>
     requires { IsName schema.now of }
-    ensures within { IfOk result
-        (λ numbers. All (λ number. number < category_count schema.now of) numbers) }
     ensures meant { IfOk result
         (λ numbers. numbers ≡ map (code_meant schema.now of) (token_views codes.now)) }
     ensures no_fault { IfOk result
@@ -57,7 +51,7 @@ fn codes_meant(
 {
     let mut numbers = Vec::new(alloc);
     for t in codes {
-        let number = code_meant(schema, of, *t)?;
+        let number = code_meant(schema, of, t)?;
         numbers.push(number)?;
     }
     match Codes::of(alloc, &numbers) {
@@ -69,7 +63,6 @@ fn codes_meant(
 // What a filter stands for, whose name is there.
 fn filter_meant(alloc: Global, schema: &Schema, filter: &FilterTokens) -> Result<Filter, QueryFault>
     requires { IsSome (name_of_token schema.now (filter_view filter.now).name) }
-    ensures over { IfOk result (IsFilterOver schema.now) }
     ensures meant { IfOk result (λ f. f ≡ filter_meant schema.now (filter_view filter.now)) }
     ensures no_fault { IfOk result
         (λ _. unknown_code_in schema.now (filter_view filter.now) ≡ None) }
@@ -77,7 +70,7 @@ fn filter_meant(alloc: Global, schema: &Schema, filter: &FilterTokens) -> Result
         (option_map QueryFault.UnknownCode
         (unknown_code_in schema.now (filter_view filter.now)))) }
 {
-    let of = name_meant(schema, filter.name)?;
+    let of = name_meant(schema, &filter.name)?;
     let codes = codes_meant(alloc, schema, of, &filter.codes)?;
     Ok(Filter {
         of,
@@ -93,7 +86,6 @@ pub fn filters_meant(
     filters: &[FilterTokens],
 ) -> Result<Vec<Filter>, QueryFault>
     requires { unknown_in schema.now (map (λ f. f.name) (filter_views filters.now)) ≡ None }
-    ensures over { IfOk result (λ fs. All (IsFilterOver schema.now) fs.items) }
     ensures meant { IfOk result
         (λ fs. fs.items ≡ map (filter_meant schema.now) (filter_views filters.now)) }
     ensures no_fault { IfOk result

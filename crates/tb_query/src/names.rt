@@ -18,19 +18,19 @@ use tb_schema::Schema;
 
 // The variable or recode that a token names, if there is one.
 #[tactic(auto, unfolding(crate::specs::Meanings::name_of_token))]
-fn name_of_token(schema: &Schema, t: Token) -> Option<NameOf>
-    ensures name { result ≡ name_of_token schema.now (token_view t.entry) }
+fn name_of_token(schema: &Schema, t: &Token) -> Option<NameOf>
+    ensures name { result ≡ name_of_token schema.now (token_view t.now) }
     ensures within { IfSome result (IsName schema.now) }
 {
     schema.find(t.text)
 }
 
 /// What a token stands for as a name.
-pub fn name_meant(schema: &Schema, t: Token) -> Result<NameOf, QueryFault>
+pub fn name_meant(schema: &Schema, t: &Token) -> Result<NameOf, QueryFault>
     ensures { MatchResult result
-        (λ of. (name_of_token schema.now (token_view t.entry) ≡ Some of) × IsName schema.now of)
-        (λ e. (name_of_token schema.now (token_view t.entry) ≡ None)
-        × (e ≡ QueryFault.UnknownName (token_view t.entry).number)) }
+        (λ of. (name_of_token schema.now (token_view t.now) ≡ Some of) × IsName schema.now of)
+        (λ e. (name_of_token schema.now (token_view t.now) ≡ None)
+        × (e ≡ QueryFault.UnknownName (token_view t.now).number)) }
 {
     match name_of_token(schema, t) {
         Some(of) => Ok(of),
@@ -53,7 +53,7 @@ pub fn names_meant(
 {
     let mut meant = Vec::new(alloc);
     for t in names {
-        let of = name_meant(schema, *t)?;
+        let of = name_meant(schema, t)?;
         meant.push(of)?;
     }
     Ok(meant)
@@ -89,7 +89,7 @@ pub fn unknown_filter(schema: &Schema, filters: &[FilterTokens]) -> Option<u32>
         ≡ unknown_in schema.now (map (λ f. f.name) (filter_views filters.now)) }
 {
     for f in filters {
-        if name_of_token(schema, f.name).is_none() {
+        if name_of_token(schema, &f.name).is_none() {
             return Some(f.name.number);
         }
     }

@@ -1,10 +1,9 @@
 // Reading a query line over a schema.
 
-ghost use Rattle.std.specs.Prelude.{◌≡◌, ◌≤◌, All, IfErr, IfOk, MatchResult, length};
+ghost use Rattle.std.specs.Prelude.{◌≡◌, ◌≤◌, IfErr, IfOk, MatchResult, length};
 ghost use Rattle.tb_model.specs.Queries.{QueryValue};
-ghost use Rattle.tb_schema.specs.Names.{IsName};
 ghost use Rattle.tb_query.specs.Faults.{IsRefused, Reads};
-ghost use Rattle.tb_query.specs.Over.{IsFilterOver, IsOver};
+ghost use Rattle.tb_query.specs.Over.{IsOver};
 
 use crate::check::query_meant;
 use crate::fault::QueryFault;
@@ -15,12 +14,10 @@ use crate::tokens::{first_not_text, tokens};
 use std::alloc::Global;
 use tb_schema::Schema;
 
-// The query of a line, or the line's first fault, with what is true of its names and codes.
+// The query of a line, or the line's first fault.
 fn read(alloc: Global, schema: &Schema, line: &[u8]) -> Result<Query, QueryFault>
     requires { length line.now ≤ MOST_LINE_BYTES }
     ensures read { IfOk result (Reads schema.now line.now) }
-    ensures names { IfOk result (λ q. All (IsName schema.now) q.dimensions) }
-    ensures filters { IfOk result (λ q. All (IsFilterOver schema.now) q.filters) }
     ensures refused { IfErr result (IsRefused schema.now line.now) }
 {
     if let Some(number) = first_not_text(line) {

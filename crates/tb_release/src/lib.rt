@@ -25,6 +25,3 @@ pub use fault::{EditFault, EditFaultKind};
 pub use following::next;
 pub use limits::{MOST_CHANGES, MOST_EDITS, MOST_RELEASES};
 pub use release::{Lent, Release};
-
-#[cfg(test)]
-mod tests;

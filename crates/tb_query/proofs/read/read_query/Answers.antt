@@ -6,4 +6,4 @@ pub returns-clause-only : goal.returns-clause-only
 returns-clause-only c = only_query _ _ _ c.read.ensures.read c.read.ensures.refused
 
 pub returns-clause-over : goal.returns-clause-over
-returns-clause-over c = over_result _ _ _ c.read.ensures.read c.read.ensures.names c.read.ensures.filters
+returns-clause-over c = over_result _ _ _ c.read.ensures.read

@@ -1,4 +1,0 @@
-use Rattle.tb_release.proofs.tests.fitting.record_fits.Goals as goal
-
-pub returns : goal.returns
-returns c = λ h. c.codes_fit.ensures h c.args.one.now.person
