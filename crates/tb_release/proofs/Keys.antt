@@ -18,7 +18,7 @@ use Rattle.tb_release.specs.Edits.{record_of, is_of, amended}
 use Rattle.tb_release.specs.Possible.{has_other_key}
 use Rattle.tb_release.proofs.Books.{is_eq-nat_cmp, get-book_insert}
 use Rattle.tb_release.proofs.Persons.{none_found, Stands, dropped, record_of-here, record_of-gone}
-use Rattle.tb_release.proofs.Slots.{flip}
+use Rattle.tb_release.proofs.SlotLemmas.{flip}
 
 -- the key book of records and of entries
 abbrev pub book_of : List Record → List (ℕ × ℕ) → KeyBook

@@ -4,7 +4,8 @@ pub mod Books
 pub mod Edited
 pub mod Chained
 pub mod Fitting
-pub mod Slots
+pub mod SlotLemmas
+pub mod InPlace
 pub mod Places
 pub mod Keys
 pub mod Made

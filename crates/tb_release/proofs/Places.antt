@@ -11,8 +11,9 @@ use Rattle.tb_base.specs.Persons.{has_person, AreDistinct}
 use Rattle.tb_base.proofs.PersonLemmas.{distinct-new}
 use Rattle.tb_release.specs.declared.edits.Edit.{Edit}
 use Rattle.tb_release.specs.Batches.{person_of}
-use Rattle.tb_release.specs.Drafts.{closed_up, place_of, IsNamed, AreNamed, ArePlaced}
-use Rattle.tb_release.proofs.Slots.{nobody_nowhere, place_of-push}
+use Rattle.tb_release.specs.Drafts.{IsNamed, AreNamed, ArePlaced}
+use Rattle.tb_release.specs.Slots.{closed_up, place_of}
+use Rattle.tb_release.proofs.SlotLemmas.{nobody_nowhere, place_of-push}
 
 -- one person gets another place, in the map and among the slots
 update-at : (b : Bool) (w : Option ℕ) (found : Option (Option ℕ)) (there place : Option ℕ) → cond b (Some w) found ≡ Some place → (found ≡ Some place → place ≡ there) → place ≡ cond b w there

@@ -22,18 +22,19 @@ use Rattle.tb_release.specs.Batches.{BatchValue, Follows, person_of, change_of, 
 use Rattle.tb_release.specs.Chains.{after_batch}
 use Rattle.tb_release.specs.Laws.{EditFits}
 use Rattle.tb_release.specs.Results.{IsNext, ChangeFits}
-use Rattle.tb_release.specs.Drafts.{AreMade, AreNamed, ArePlaced, CanSet, HaveVariables, IsDraftOf, closed_up, release_of}
+use Rattle.tb_release.specs.Drafts.{AreMade, AreNamed, ArePlaced, CanSet, HaveVariables, IsDraftOf, release_of}
+use Rattle.tb_release.specs.Slots.{closed_up}
 use Rattle.tb_release.proofs.Chained.{can_follow, batches_lead_on, length-changes_of}
 use Rattle.tb_release.proofs.Fitting.{fit_after, stay_fitting}
 use Rattle.tb_release.proofs.Places.{closed_up-full}
 
 -- ---- the beginning: a copy of a release
-pub draft_of : (draft : Draft) (release : ReleaseValue) (edits : List Edit) (records : List Record) → records ≡ release.records → draft.slots.items ≡ map Some records
+pub draft_of : (draft : Draft) (release : ReleaseValue) (edits : List Edit) (records : List Record) → records ≡ release.records → draft.slots ≡ map Some records
     → ArePlaced draft.places (map Some records) → AreNamed draft.places edits → release ≡ release_view release.records draft.left.entries release.number release.changes
     → draft.living ≡ length records → draft.number ≡ release.number → draft.changes ≡ release.changes → IsSound release
     → IsDraftOf release edits draft
 draft_of draft release edits records is slots placed named left living number changes sound =
-    let closed : closed_up draft.slots.items ≡ records = ap closed_up slots ∙ closed_up-full records in
+    let closed : closed_up draft.slots ≡ records = ap closed_up slots ∙ closed_up-full records in
     let same : release_of draft ≡ release = rw (closed, is, number, changes) (sym left) in record {
       whole = record {
         placed = subst (ArePlaced draft.places) (sym slots) placed;

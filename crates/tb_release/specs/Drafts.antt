@@ -1,9 +1,8 @@
--- A release while it is edited: each record stands in a slot, and one that is dropped leaves its
--- slot empty.
-use Rattle.std.specs.Prelude.{◌≡◌, ◌<◌, ℕ, suc, nat_eq, true, if◌then◌else◌}
-use Rattle.std.specs.Prelude.{List, [], ◌∷◌, length, Option, Some, None, is_some, All}
-use Rattle.std.specs.List.{filter_map, AllByRecursion}
-use Rattle.std.specs.Option.{option_map, ForSome}
+-- A release while it is edited.
+use Rattle.std.specs.Prelude.{◌≡◌, ◌<◌, ℕ, nat_eq, true, List, length, Option, Some, None, is_some}
+use Rattle.std.specs.Prelude.{All}
+use Rattle.std.specs.List.{AllByRecursion}
+use Rattle.std.specs.Option.{ForSome}
 use Rattle.std.specs.HashMap as hash
 use Rattle.std.specs.HashMap.{HashMap}
 use Rattle.tb_base.specs.declared.records.Record.{Record}
@@ -13,20 +12,10 @@ use Rattle.tb_release.specs.declared.edits.Edit.{Edit}
 use Rattle.tb_release.specs.declared.edits.Edit.TheVariants.{Add, Drop, Amend}
 use Rattle.tb_release.specs.declared.edits.Change.{Change}
 use Rattle.tb_release.specs.Releases.{IsSound, release_view}
-use Rattle.tb_release.specs.Edits.{is_of, record_of, edited, edited_all}
+use Rattle.tb_release.specs.Slots.{closed_up, place_of}
+use Rattle.tb_release.specs.Edits.{record_of, edited, edited_all}
 use Rattle.tb_release.specs.Possible.{first_refusal}
 use Rattle.tb_release.specs.Batches.{person_of, change_of, changes_of}
-
--- the records that stand in slots
-abbrev pub closed_up : List (Option Record) → List Record
-closed_up slots = filter_map (λ slot. slot) slots
-
--- the place of a person's slot, if there is one
-abbrev pub place_of : List (Option Record) → ℕ → Option ℕ
-place_of [] person = None
-place_of (None ∷ slots) person = option_map (λ k. suc k) (place_of slots person)
-place_of (Some r ∷ slots) person =
-    if is_of person r then Some 0 else option_map (λ k. suc k) (place_of slots person)
 
 -- a person is looked up in a map of places
 abbrev pub IsNamed : {S : Type 0} → HashMap ℕ (Option ℕ) S → ℕ → Type 0
@@ -45,12 +34,12 @@ ArePlaced places slots =
 -- the release for which a draft stands
 abbrev pub release_of : Draft → ReleaseValue
 release_of draft =
-    release_view (closed_up draft.slots.items) draft.left.entries draft.number draft.changes
+    release_view (closed_up draft.slots) draft.left.entries draft.number draft.changes
 
 -- persons are looked up at their slots, the records are counted, and the release is sound
 pub record IsDraft (draft : Draft) : Type 0 where
-  pub placed : ArePlaced draft.places draft.slots.items
-  pub living : draft.living ≡ length (closed_up draft.slots.items)
+  pub placed : ArePlaced draft.places draft.slots
+  pub living : draft.living ≡ length (closed_up draft.slots)
   pub sound : IsSound (release_of draft)
 
 -- a draft stands for a release, and the persons of edits are looked up in it

@@ -6,4 +6,5 @@ pub mod Chains
 pub mod Laws
 pub mod FaultNames
 pub mod Results
+pub mod Slots
 pub mod Drafts

@@ -9,18 +9,18 @@ ghost use Rattle.tb_release.specs.declared.limits.TheConstants.{MOST_CHANGES, MO
 ghost use Rattle.tb_release.specs.declared.limits.TheConstants.{MOST_RELEASES};
 ghost use Rattle.tb_release.specs.Batches.{person_of};
 ghost use Rattle.tb_release.specs.Drafts.{AreMade, AreNamed, CanSet, HaveVariables, IsDraft};
-ghost use Rattle.tb_release.specs.Drafts.{IsDraftOf, IsMade, IsNamed, place_of, release_of};
+ghost use Rattle.tb_release.specs.Drafts.{IsDraftOf, IsMade, IsNamed, release_of};
 ghost use Rattle.tb_release.specs.Edits.{record_of};
 ghost use Rattle.tb_release.specs.Laws.{EditFits};
 ghost use Rattle.tb_release.specs.Possible.{CanAdd, IsPossible, first_refusal, refusal};
 ghost use Rattle.tb_release.specs.Results.{IsWhy};
+ghost use Rattle.tb_release.specs.Slots.{place_of};
 
 use crate::edits::{Change, Edit, Sets};
 use crate::fault::{EditFault, EditFaultKind};
-use crate::parts::{
-    amended_slot, exchange, has_other_key, persons_of, places_of, records_of, slots_of,
-};
+use crate::parts::{amended_record, has_other_key, persons_of, places_of};
 use crate::release::Release;
+use crate::slots::Slots;
 use std::alloc::Global;
 use std::collections::{BTreeMap, HashMap};
 use tb_base::{Codes, MOST_PERSONS, Memory, Record, Shape};
@@ -29,7 +29,7 @@ use tb_base::{Codes, MOST_PERSONS, Memory, Record, Shape};
 /// slots close up once, at the end. Of persons, the map of places has those alone whom edits name.
 #[derive(Drop)]
 pub(crate) struct Draft {
-    slots: Vec<Option<Record>>,
+    slots: Slots,
     places: HashMap<u32, Option<usize>>,
     left: BTreeMap<u32, u8>,
     living: usize,
@@ -46,10 +46,12 @@ impl Draft {
         let records = old.records();
         let persons = persons_of(alloc, edits)?;
         let places = places_of(persons, records)?;
+        let slots = Slots::of(alloc, records, records.len() + edits.len())?;
+        let left = old.copy_left()?;
         Ok(Draft {
-            slots: slots_of(alloc, records, records.len() + edits.len())?,
+            slots,
             places,
-            left: old.copy_left()?,
+            left,
             living: records.len(),
             number: old.number(),
             changes: old.changes(),
@@ -86,33 +88,32 @@ impl Draft {
     }
 
     /// The next release, where so many edits were made.
-    pub(crate) fn finish(self, alloc: Global, made: usize) -> Result<Release, Memory>
+    pub(crate) fn finish(self, made: usize) -> Release
         requires draft { IsDraft self }
         requires number { self.number < MOST_RELEASES }
         requires changes { self.changes + made ≤ MOST_CHANGES }
-        ensures { IfOk result (λ release. release ≡ record (release_of self) {
+        ensures { result ≡ record (release_of self) {
           number = self.number + 1;
           changes = self.changes + made;
-        }) }
+        } }
     {
         let Draft {
             slots,
             places: _,
             left,
-            living,
+            living: _,
             number,
             changes,
         } = self;
-        let records = records_of(alloc, slots, living)?;
-        let changes = changes + made as u32;
-        Ok(Release::of(records, left, number + 1, changes))
+        let records = slots.close_up();
+        Release::of(records, left, number + 1, changes + made as u32)
     }
 
     // The place of a person's slot.
     fn find(&self, person: u32) -> Option<usize>
         requires draft { IsDraft self.now }
         requires named { IsNamed self.now.places person }
-        ensures { result ≡ place_of self.now.slots.items person }
+        ensures { result ≡ place_of self.now.slots person }
     {
         match self.places.get(&person) {
             Some(place) => *place,
@@ -195,7 +196,7 @@ impl Draft {
             codes: codes.copy()?,
         };
         let after = kept.copy()?;
-        self.slots.push(Some(kept))?;
+        self.slots.push(kept)?;
         self.places.insert(person, Some(place))?;
         self.left.remove(&person);
         self.living += 1;
@@ -215,7 +216,9 @@ impl Draft {
             (λ change. IsMade (edits.Drop person) self.old self.new change) }
     {
         let place = self.find(person).unwrap();
-        let before = exchange(&mut self.slots, place, None).unwrap();
+        let one = self.slots.at(place);
+        let before = one.copy()?;
+        self.slots.take_out(place);
         self.places.insert(person, None)?;
         self.left.insert(person, before.key)?;
         self.living -= 1;
@@ -237,13 +240,14 @@ impl Draft {
             (λ change. IsMade (edits.Amend person sets.now) self.old self.new change) }
     {
         let place = self.find(person).unwrap();
-        let kept = amended_slot(alloc, &self.slots[place], sets)?;
-        let after = amended_slot(alloc, &self.slots[place], sets)?;
-        let before = exchange(&mut self.slots, place, kept);
+        let old = self.slots.at(place);
+        let kept = amended_record(alloc, old, sets)?;
+        let after = kept.copy()?;
+        let before = self.slots.replace(place, kept);
         Ok(Change {
             person,
-            before,
-            after,
+            before: Some(before),
+            after: Some(after),
         })
     }
 }

@@ -28,8 +28,7 @@ fn refused(kind: EditFaultKind) -> EditFault
 /// They are made in their order, each on what those before it left. The first refusal is returned:
 /// `Nothing` where there is no edit; `TooMany` where the old release is the last that may be, or
 /// there would be too many changes; and else that of the first edit that isn't possible, with its
-/// number. It takes memory for the records and their changes; two releases and a third list of
-/// the records stand in it at the end.
+/// number. It takes memory for the next release's records and for the changes.
 pub fn next(
     alloc: Global,
     shape: &Shape,
@@ -58,6 +57,6 @@ pub fn next(
     }
     let mut draft = Draft::of(alloc, old, list)?;
     let changes = draft.make_all(alloc, shape, list)?;
-    let release = draft.finish(alloc, list.len())?;
+    let release = draft.finish(list.len());
     Ok((release, Batch::of(changes)))
 }

@@ -18,6 +18,7 @@ pub mod laws;
 mod limits;
 mod parts;
 mod release;
+mod slots;
 
 pub use batches::{Batch, Batches};
 pub use edits::{Change, Edit, Edits, Pushed, Sets};

@@ -1,20 +1,17 @@
 // The parts of a release while it is edited.
 
-ghost use Rattle.std.specs.Prelude.{◌≡◌, ◌<◌, ℕ, [], None, Some, IfOk, length, map};
-ghost use Rattle.std.specs.Prelude.{slice_index_or, slice_set};
+ghost use Rattle.std.specs.Prelude.{◌≡◌, ℕ, [], Some, IfOk, map};
 ghost use Rattle.std.specs.FinMap.{from_entries};
-ghost use Rattle.std.specs.Option.{option_map, ForSome};
 ghost use Rattle.std.specs.Ordering.{nat_cmp};
 ghost use Rattle.tb_base.specs.Persons.{AreDistinct};
 ghost use Rattle.tb_release.specs.Batches.{person_of};
-ghost use Rattle.tb_release.specs.Drafts.{AreNamed, ArePlaced, HaveVariables, IsNamed, closed_up};
+ghost use Rattle.tb_release.specs.Drafts.{AreNamed, ArePlaced, HaveVariables, IsNamed};
 ghost use Rattle.tb_release.specs.Edits.{amended};
 ghost use Rattle.tb_release.specs.Possible.{has_other_key as other_key};
 
 use crate::edits::{Edit, Sets};
 use std::alloc::Global;
 use std::collections::{BTreeMap, HashMap};
-use std::mem;
 use tb_base::{Codes, Memory, Record};
 
 // The person of an edit.
@@ -62,38 +59,6 @@ pub(crate) fn places_of(
     Ok(places)
 }
 
-// Each record in a slot of its own, with room for so many slots.
-pub(crate) fn slots_of(
-    alloc: Global,
-    records: &[Record],
-    room: usize,
-) -> Result<Vec<Option<Record>>, Memory>
-    ensures { IfOk result (λ slots. slots.items ≡ map Some records.now) }
-{
-    let mut slots = Vec::with_capacity(alloc, room)?;
-    for one in records {
-        slots.push(Some(one.copy()?))?;
-    }
-    Ok(slots)
-}
-
-// The records that stand in slots, so many.
-pub(crate) fn records_of(
-    alloc: Global,
-    slots: Vec<Option<Record>>,
-    living: usize,
-) -> Result<Vec<Record>, Memory>
-    ensures { IfOk result (λ records. records.items ≡ closed_up slots.items) }
-{
-    let mut records = Vec::with_capacity(alloc, living)?;
-    for slot in slots {
-        if let Some(record) = slot {
-            records.push(record)?;
-        }
-    }
-    Ok(records)
-}
-
 // Whether a person who left has another key.
 pub(crate) fn has_other_key(left: &BTreeMap<u32, u8>, person: u32, key: u8) -> bool
     ensures { result ≡ other_key (from_entries {R = nat_cmp} left.now.entries) person key }
@@ -102,19 +67,6 @@ pub(crate) fn has_other_key(left: &BTreeMap<u32, u8>, person: u32, key: u8) -> b
         Some(old) => *old != key,
         None => false,
     }
-}
-
-// Puts something else into a slot, and returns what was there.
-pub(crate) fn exchange(
-    slots: &mut Vec<Option<Record>>,
-    place: usize,
-    new: Option<Record>,
-) -> Option<Record>
-    requires { place < length slots.old.items }
-    ensures old { result ≡ slice_index_or slots.old.items place None }
-    ensures new { slots.new.items ≡ slice_set slots.old.items place new }
-{
-    mem::replace(&mut slots[place], new)
 }
 
 // The categories as a list.
@@ -143,19 +95,4 @@ pub(crate) fn amended_record(alloc: Global, old: &Record, sets: &Sets) -> Result
         key: old.key,
         codes: Codes::of(alloc, &list)?,
     })
-}
-
-// The slot's record with the settings made.
-pub(crate) fn amended_slot(
-    alloc: Global,
-    slot: &Option<Record>,
-    sets: &Sets,
-) -> Result<Option<Record>, Memory>
-    requires { ForSome slot.now (λ r. HaveVariables sets.now r.codes) }
-    ensures { IfOk result (λ new. new ≡ option_map (amended sets.now) slot.now) }
-{
-    match slot {
-        Some(record) => Ok(Some(amended_record(alloc, record, sets)?)),
-        None => Ok(None),
-    }
 }

@@ -14,5 +14,5 @@ returns c =
       changes = c.args.self.now.changes;
     } in
     add_made c.args.self.now new c.args.person c.args.key c.len-place.result c.args.codes.now _ c.in_ok-after.after c.requires.draft c.requires.possible
-    (same_codes c.args.person c.args.key c.in_ok-copy.field-0 c.args.codes.now c.in_ok-copy.ensures) c.in_ok-after.ensures c.in_ok-push.ensures.items
+    (same_codes c.args.person c.args.key c.in_ok-copy.field-0 c.args.codes.now c.in_ok-copy.ensures) c.in_ok-after.ensures c.in_ok-push.ensures
     (let long = c.len-place.ensures in omega arith) c.in_ok-insert.ensures.updates.0 c.remove.ensures.updates.0 refl refl refl

@@ -7,13 +7,13 @@ use Rattle.tb_release.proofs.draft.Draft.of.Goals as goal
 pub returns : goal.returns
 returns c =
     let draft : Draft = record {
-      slots = c.in_ok-slots_of.field-0;
+      slots = c.in_ok-slots.slots;
       places = c.in_ok-places.places;
-      left = c.in_ok-copy_left.field-0;
+      left = c.in_ok-left.left;
       living = length c.records-records.result.now;
       number = c.number.result;
       changes = c.changes.result;
     } in
-    draft_of draft c.args.old.now c.args.edits.now c.records-records.result.now c.records-records.ensures.records c.in_ok-slots_of.ensures c.in_ok-places.ensures.placed
+    draft_of draft c.args.old.now c.args.edits.now c.records-records.result.now c.records-records.ensures.records c.in_ok-slots.ensures c.in_ok-places.ensures.placed
     (are_named-kept c.in_ok-persons.persons c.in_ok-places.places c.args.edits.now c.in_ok-places.ensures.named c.in_ok-persons.ensures.named)
-    c.in_ok-copy_left.ensures refl c.number.ensures c.changes.ensures c.records-records.ensures.sound
+    c.in_ok-left.ensures refl c.number.ensures c.changes.ensures c.records-records.ensures.sound

@@ -8,7 +8,7 @@ use Rattle.std.proofs.lemmas.List.Elements.{filter_map-append}
 use Rattle.tb_base.specs.declared.records.Record.{Record}
 use Rattle.tb_base.specs.Persons.{has_person, AreDistinct}
 use Rattle.tb_release.specs.Edits.{record_of, is_of, amended}
-use Rattle.tb_release.specs.Drafts.{closed_up, place_of}
+use Rattle.tb_release.specs.Slots.{closed_up, place_of}
 use Rattle.tb_release.proofs.Persons.{Stands, dropped, replaced, record_of-here}
 
 pub flip : (a b : ℕ) → eqb a b ≡ eqb b a
@@ -116,15 +116,6 @@ slot_within {person} {k} {slots} s =
 -- ---- the records
 pub closed_up-append : (xs ys : List (Option Record)) → closed_up (xs ++ ys) ≡ closed_up xs ++ closed_up ys
 closed_up-append xs ys = filter_map-append (λ slot. slot) xs ys
-
--- the records of the slots so far, and of one more
-pub closed_up-push : (slots : List (Option Record)) (slot : Option Record) (r : Record) (old new : List Record) → slot ≡ Some r → old ≡ closed_up slots → new ≡ old ++ r ∷ [] → new ≡ closed_up (slots ++ slot ∷ [])
-closed_up-push slots slot r old new here is more =
-    more ∙ ap (λ rs. rs ++ r ∷ []) is ∙ sym (ap (λ s. closed_up (slots ++ s ∷ [])) here ∙ closed_up-append slots (Some r ∷ []))
-
-pub closed_up-push_none : (slots : List (Option Record)) (slot : Option Record) (old : List Record) → slot ≡ None → old ≡ closed_up slots → old ≡ closed_up (slots ++ slot ∷ [])
-closed_up-push_none slots slot old here is =
-    is ∙ sym (ap (λ s. closed_up (slots ++ s ∷ [])) here ∙ closed_up-append slots (None ∷ []) ∙ append-nil (closed_up slots))
 
 none_after : (xs ys : List Record) (r : Record) → AreDistinct (xs ++ r ∷ ys) → has_person ys r.person ≡ false
 none_after [] ys r d = d.0
