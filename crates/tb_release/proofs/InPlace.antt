@@ -75,9 +75,9 @@ next_slot S rs es i same same_S lt rest =
     let in_rs : i < length rs = omega (arith, same, lt) in
     let in_S : i < length S = omega (arith, same_S, lt) in
     let left : slots_in (drop i rs) (drop i es) ≡ slot_of (get_or rs i no_record) (get_or es i false) ∷ slots_in (drop (i + 1) rs) (drop (i + 1) es) =
-        ap (λ xs. slots_in xs (drop i es)) (drop_more rs i no_record in_rs) ∙ ap (λ ys. slots_in (get_or rs i no_record ∷ drop (i + 1) rs) ys) (drop_more es i false lt) in
+    ap (λ xs. slots_in xs (drop i es)) (drop_more rs i no_record in_rs) ∙ ap (λ ys. slots_in (get_or rs i no_record ∷ drop (i + 1) rs) ys) (drop_more es i false lt) in
     let both : slot_of (get_or rs i no_record) (get_or es i false) ∷ slots_in (drop (i + 1) rs) (drop (i + 1) es) ≡ get_or S i None ∷ drop (i + 1) S =
-        sym left ∙ rest ∙ drop_more S i None in_S in
+    sym left ∙ rest ∙ drop_more S i None in_S in
     (ap (λ ss. slice_index_or ss 0 None) both, ap (drop 1) both)
 
 -- an empty slot is left
@@ -99,15 +99,15 @@ moved rs after i kept lt le is =
     let y = get_or rs kept no_record in
     let in_rs : kept < length rs = omega (arith, lt, le) in
     let dropped : drop (i + 1) after ≡ drop (i + 1) rs =
-        ap (drop (i + 1)) is ∙ drop-set-lt (i + 1) (set rs kept x) i y (omega arith) ∙ drop-set-lt (i + 1) rs kept x (omega (arith, le)) in
+    ap (drop (i + 1)) is ∙ drop-set-lt (i + 1) (set rs kept x) i y (omega arith) ∙ drop-set-lt (i + 1) rs kept x (omega (arith, le)) in
     let taken : take (kept + 1) after ≡ take kept rs ++ x ∷ [] =
-        elim (eqb_tells kept i) [
-          | inl h ↦
-              let in_set : kept < length (set rs kept x) = omega (arith, length-set rs kept x, in_rs) in
-              ap (take (kept + 1)) (is ∙ ap (λ j. set (set rs kept x) j y) (sym h.1)) ∙ take_more_set (set rs kept x) kept y in_set
-              ∙ ap (λ zs. zs ++ y ∷ []) (take-set rs kept x) ∙ ap (λ j. take kept rs ++ get_or rs j no_record ∷ []) h.1
-          | inr h ↦ ap (take (kept + 1)) is ∙ take-set-le (kept + 1) (set rs kept x) i y (omega (arith, le, h.1)) ∙ take_more_set rs kept x in_rs
-        ] in
+    elim (eqb_tells kept i) [
+      | inl h ↦
+          let in_set : kept < length (set rs kept x) = omega (arith, length-set rs kept x, in_rs) in
+          ap (take (kept + 1)) (is ∙ ap (λ j. set (set rs kept x) j y) (sym h.1)) ∙ take_more_set (set rs kept x) kept y in_set
+          ∙ ap (λ zs. zs ++ y ∷ []) (take-set rs kept x) ∙ ap (λ j. take kept rs ++ get_or rs j no_record ∷ []) h.1
+      | inr h ↦ ap (take (kept + 1)) is ∙ take-set-le (kept + 1) (set rs kept x) i y (omega (arith, le, h.1)) ∙ take_more_set rs kept x in_rs
+    ] in
     (taken, dropped)
 
 pub keep_one : (S : List (Option Record)) (rs after : List Record) (es : List Bool) (i kept : ℕ) → length es ≡ length rs → length S ≡ length es → i < length es → get_or es i false ≡ false → kept ≤ i

@@ -1,7 +1,7 @@
 // The records of a release while it is edited.
 
-ghost use Rattle.std.specs.Prelude.{◌≡◌, ◌<◌, ◌++◌, ◌∷◌, [], None, Some, IfOk, IsSome, OnOk, length};
-ghost use Rattle.std.specs.Prelude.{map, slice_index_or, slice_set};
+ghost use Rattle.std.specs.Prelude.{◌≡◌, ◌<◌, ◌++◌, ◌∷◌, [], None, Some, IfOk, IsSome, OnOk};
+ghost use Rattle.std.specs.Prelude.{length, map, slice_index_or, slice_set};
 ghost use Rattle.tb_release.specs.Slots.{closed_up, slots_in};
 
 use std::alloc::Global;

@@ -13,7 +13,7 @@ loop-i-preserved c =
     elim c.if-not-empty-i.branch [
       | then-not-empty-i w ↦
           let kept = keep_one all c.loop-i.records.items w.swap.new.self.items c.args.empty.now c.loop-i.i c.loop-i.kept so_far.long long_all c.loop-i-test.true w.if-not-empty-i.true so_far.fewer
-              w.swap.ensures.by_index so_far.before so_far.after in
+          w.swap.ensures.by_index so_far.before so_far.after in
           rw (w.records-is, w.kept-is) (record {
             before = kept.0;
             after = kept.1;
