@@ -106,7 +106,7 @@ fn ends_at_most_changes(alloc: Global) -> Result<bool, EditFault> {
     let most = led(alloc, &shape, some, 1, MOST_EDITS - 2)?;
     let two = refusal(alloc, &shape, &most, 2)?;
     let three = refusal(alloc, &shape, &most, 3)?;
-    Ok(most.changes() + 2 == MOST_CHANGES && two.is_none() && three == Some(EditFaultKind::TooMany))
+    Ok(most.changes() == MOST_CHANGES - 2 && two.is_none() && three == Some(EditFaultKind::TooMany))
 }
 
 #[test]
