@@ -1,8 +1,12 @@
+pub mod Bytes
 pub mod Cells
 pub mod Codes
 pub mod Lists
 pub mod Numbers
+pub mod OneAnswer
+pub mod Parts
 pub mod Persons
 pub mod Records
 pub mod Sets
 pub mod Statuses
+pub mod Words

@@ -1,11 +1,21 @@
 //! The data that all of TableBuilder counts: persons' records, cells, lists of categories and of
-//! variables, numbers in decimal digits, and the error of a call that runs out of memory.
+//! variables, numbers in decimal digits, and the error of a call that runs out of memory; and the
+//! bytes and words of the lines that it reads.
 //!
 //! It stands on nothing but `smallvec` and `itoa`. Its contracts cite `specs/Cells` (a cell is the
-//! count and the key sum of some records), `Records`, `Codes` (how a record's numbers are kept),
-//! `Persons`, `Sets`, `Numbers` and `Statuses`; `Lists` serves the crates above.
+//! count and the key sum of some records), `Parts` (its two numbers, each summed modulo its own),
+//! `Records`, `Codes` (how a record's numbers are kept), `Persons`, `Sets`, `Numbers`, `Statuses`,
+//! `Bytes` and `Words` (text, blanks, and the words of a line); `Lists` and `OneAnswer` (a text
+//! that is read has exactly one answer) serve the crates above. Cells are summed here alone.
+//!
+//! Lemmas for the crates above: `proofs/CellLemmas` (how a cell changes with its records),
+//! `CellsBy` (the same of the cells of several groups), `PartLemmas` (the two numbers of cells, and
+//! sums modulo a number), `PersonLemmas`, `WordLemmas` (the words taken from the front of a line),
+//! `OnlyAnswer` (what is returned for a text), `AllThere` and `Options` (values that may be
+//! missing) and `Texts` (texts that are compared).
 #![tactic(auto)]
 
+mod bytes;
 mod cells;
 mod codes;
 mod memory;
@@ -16,8 +26,10 @@ mod shape;
 mod status;
 mod steps;
 mod var_set;
+mod words;
 
-pub use cells::{Cell, KEY_RANGE};
+pub use bytes::{are_blanks, blank_at, is_blank, is_text, is_text_byte, skip_blanks};
+pub use cells::{Cell, KEY_RANGE, know_cells};
 pub use codes::Codes;
 pub use memory::Memory;
 pub use number::{print_number, read_number};
@@ -27,3 +39,4 @@ pub use shape::Shape;
 pub use status::Status;
 pub use steps::{Steps, charge};
 pub use var_set::VarSet;
+pub use words::first_word;

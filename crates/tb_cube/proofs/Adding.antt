@@ -1,5 +1,5 @@
 -- Records that are put in one after another are merged.
-use Rattle.std.proofs.Common.{◌≡◌, ℕ, ◌+◌, ◌%◌, ◌<◌, ◌≤◌, ◌-◌, ◌^◌, Bool, true, false, List, [], ◌∷◌, length, map, drop, get_or, set, refl, ap, sym, subst, ◌∙◌, inl, inr, arith}
+use Rattle.std.proofs.Common.{◌≡◌, ℕ, ◌+◌, ◌*◌, ◌<◌, ◌≤◌, ◌-◌, ◌^◌, Bool, List, [], ◌∷◌, length, map, drop, get_or, set, refl, ap, sym, subst, ◌∙◌, inl, inr, arith}
 use Rattle.std.specs.Prelude.{◌==◌, bytes_eq, replicate, All}
 use Rattle.std.specs.List.{filter}
 use Rattle.std.proofs.lemmas.Bool.Decides.{eqb_tells}
@@ -9,8 +9,8 @@ use Rattle.tb_base.specs.declared.cells.Cell.{Cell}
 use Rattle.tb_base.specs.declared.cells.TheConstants.{KEY_RANGE}
 use Rattle.tb_base.specs.Cells.{empty_cell, with_key, merged, merged_all, cell_of}
 use Rattle.tb_base.specs.Records.{category_at, Fits}
-use Rattle.tb_base.proofs.CellLemmas.{cell_of-filter_insert_yes, cell_of-filter_insert_no}
-use Rattle.tb_base.proofs.CellsBy.{put_if, get_or-cells_by}
+use Rattle.tb_base.proofs.CellLemmas.{merged-none}
+use Rattle.tb_base.proofs.CellsBy.{first-record, get_or-cells_by, put-either, put_if, set_at}
 use Rattle.tb_model.specs.Cubes.{category_lists, cube_of}
 use Rattle.tb_model.proofs.CubeLemmas.{AllWithin}
 use Rattle.tb_grid.specs.declared.products.TheConstants.{MOST_CELLS}
@@ -18,7 +18,8 @@ use Rattle.tb_grid.proofs.Merges.{length-merged_all, get_or-merged_all}
 use Rattle.tb_cube.specs.declared.axes.Axis.{Axis}
 use Rattle.tb_cube.specs.Cubes.{place_of, cell_count, CubeValue}
 use Rattle.tb_cube.specs.Axes.{axes_of, number_by, with_all, LeadsBelow, IsCube}
-use Rattle.tb_cube.proofs.Grid.{place-below, number-place, place-test, length-lists, all-fit, leads-in}
+use Rattle.tb_cube.proofs.Grid.{place-below, number-place, place-test, length-lists, all-fit, leads-in, no_axis}
+use Rattle.tb_grid.proofs.Sums.{sum-one, sum-three, sum-two}
 
 -- the keys of cells are keys
 abbrev pub AreKeys : List Cell → Type 0
@@ -32,32 +33,6 @@ keys-set cells i key are k below =
       | inl h ↦ rw (h.1, get_or-set_same cells i new empty_cell (omega (arith, within, h.1))) (omega arith)
       | inr h ↦ rw (get_or-set_other cells i k new empty_cell h.1) (are k within)
     ]
-
--- a merge with no records
-merged-none : (cell : Cell) → cell.key < KEY_RANGE → merged cell (cell_of []) ≡ cell
-merged-none cell small =
-    let counts : cell.count + 0 ≡ cell.count = omega arith in
-    let keys : (cell.key + 0 % KEY_RANGE) % KEY_RANGE ≡ cell.key = omega arith in
-    rw (counts, keys) refl
-
--- a record put into either part of a merge
-put-either : (b : Bool) (key : ℕ) (x y : Cell) → merged (put_if b key x) y ≡ merged x (put_if b key y)
-put-either true key x y =
-    let counts : x.count + 1 + y.count ≡ x.count + (y.count + 1) = omega arith in
-    let keys : ((x.key + key) % KEY_RANGE + y.key) % KEY_RANGE ≡ (x.key + (y.key + key) % KEY_RANGE) % KEY_RANGE = omega arith in
-    rw (counts, keys) refl
-put-either false key x y = refl
-
-set-at : (cells : List Cell) (i k key : ℕ) → i < length cells → get_or (set cells i (with_key (get_or cells i empty_cell) key)) k empty_cell ≡ put_if (k == i) key (get_or cells k empty_cell)
-set-at cells i k key below =
-    elim (eqb_tells k i) [
-      | inl h ↦ rw (h.0, h.1, get_or-set_same cells i (with_key (get_or cells i empty_cell) key) empty_cell below) refl
-      | inr h ↦ rw (h.0, get_or-set_other cells i k (with_key (get_or cells i empty_cell) key) empty_cell h.1) refl
-    ]
-
-first-record : (p : Record → Bool) (r : Record) (rs : List Record) (b : Bool) → p r ≡ b → cell_of (filter p (r ∷ rs)) ≡ put_if b r.key (cell_of (filter p rs))
-first-record p r rs true h = cell_of-filter_insert_yes p [] rs r h
-first-record p r rs false h = cell_of-filter_insert_no p [] rs r h
 
 pub get_or-cube_of : (shape vars : List ℕ) (rs : List Record) (k : ℕ) (e : List ℕ) → k < length (category_lists shape vars)
     → get_or (cube_of shape vars rs) k empty_cell ≡ cell_of (filter (λ r. bytes_eq (map (category_at r) vars) (get_or (category_lists shape vars) k e)) rs)
@@ -90,7 +65,7 @@ with_all-cube_of shape vars cells (r ∷ rs) are long few fit =
     let p : Record → Bool = λ x. bytes_eq (map (category_at x) vars) (get_or (category_lists shape vars) k []) in
     let cell : Cell = get_or cells k empty_cell in
     get_or-merged_all next (cube_of shape vars rs) k empty_cell (still ∙ rest) (omega (arith, within, still))
-    ∙ ap (λ x. merged x (get_or (cube_of shape vars rs) k empty_cell)) (set-at cells n k r.key here)
+    ∙ ap (λ x. merged x (get_or (cube_of shape vars rs) k empty_cell)) (set_at cells n k empty_cell r.key here)
     ∙ put-either (k == n) r.key cell (get_or (cube_of shape vars rs) k empty_cell)
     ∙ ap (λ y. merged cell (put_if (k == n) r.key y)) (get_or-cube_of shape vars rs k [] inside)
     ∙ ap (merged cell) (sym (get_or-cube_of shape vars (r ∷ rs) k [] inside ∙ first-record p r rs (k == n) (place-test shape vars r k [] fit.0 inside)))
@@ -122,28 +97,62 @@ made-cube shape shape' vars vars' cells cells' s v c = rw (s, v, c) refl
 pub at-item : {X : Type 0} (P : X → Type 0) (xs : List X) (i : ℕ) (x : X) → All P xs → i < length xs → x ≡ get_or xs i x → P x
 at-item P xs i x all below is = subst P (sym is) (all i x below)
 
+-- the number of a record's cell, which is there
+pub record Number (axes : List Axis) (cells : ℕ) (r : Record) (number : ℕ) : Type 0 where
+  pub is : number ≡ number_by axes (category_at r)
+  pub there : number < cells
+
+-- of the records of a piece, by the offsets of all axes, of one, of two and of three
+module _ (axes : List Axis) (start cells : List Cell) (piece : List Record) (i : ℕ) (r : Record)
+    (lead : All (LeadsBelow (length start) axes) piece) (below : i < length piece) (at : r ≡ get_or piece i r)
+    (long : length cells ≡ length start) where
+  abbrev pub offset : ℕ → ℕ
+  offset k = category_at r (get_or axes k no_axis).variable * (get_or axes k no_axis).stride
+
+  pub number-any : (n : ℕ) → n ≡ number_by axes (category_at r) → Number axes (length cells) r n
+  number-any n is = record {
+    is = is;
+    there = omega
+        (arith, (at-item (LeadsBelow (length start) axes) piece i r lead below at).low, is, long);
+  }
+
+  pub number-one : (u : ℕ) → length axes ≡ 1 → u ≡ offset 0 → Number axes (length cells) r u
+  number-one u count a = number-any u (a ∙ sum-one (λ x. category_at r x.variable * x.stride) axes no_axis count)
+
+  pub number-two : (u v : ℕ) → length axes ≡ 2 → u ≡ offset 0 → v ≡ offset 1 → Number axes (length cells) r (u + v)
+  number-two u v count a b = number-any (u + v) (ap (λ y. y + v) a ∙ ap (λ y. offset 0 + y) b ∙ sum-two
+      (λ x. category_at r x.variable * x.stride) axes no_axis count)
+
+  pub number-three : (u v w : ℕ) → length axes ≡ 3 → u ≡ offset 0 → v ≡ offset 1 → w ≡ offset 2 → Number axes (length cells) r (u + v + w)
+  number-three u v w count a b d =
+      number-any (u + v + w) (ap (λ y. y + v + w) a ∙ ap (λ y. offset 0 + y + w) b ∙ ap (λ y. offset 0 + offset 1 + y) d ∙ sum-three
+      (λ x. category_at r x.variable * x.stride) axes no_axis count)
+
 -- one turn of a loop that puts records in
 pub record Turn (axes : List Axis) (start next : List Cell) (piece : List Record) (i : ℕ) : Type 0 where
   pub with_them : with_all axes next (drop (i + 1) piece) ≡ with_all axes start piece
   pub room : All (λ (c : Cell). c.count + (length piece - (i + 1)) < 2 ^ 32) next
 
 pub turn : (axes : List Axis) (start cells : List Cell) (piece : List Record) (i number : ℕ) (r : Record) (new : Cell) → i < length piece → r ≡ get_or piece i r
-    → number ≡ number_by axes (category_at r) → number < length cells → with_all axes cells (drop i piece) ≡ with_all axes start piece
-    → All (λ (c : Cell). c.count + (length piece - i) < 2 ^ 32) cells → new ≡ with_key (get_or cells number empty_cell) r.key → Turn axes start (set cells number new) piece i
-turn axes start cells piece i number r new below is leads within so_far room made = record {
-  with_them =
-      let split : drop i piece ≡ r ∷ drop (i + 1) piece = drop_more piece i r below ∙ ap (λ x. x ∷ drop (i + 1) piece) (sym is) in
-      let put : ℕ → List Cell = λ n. set cells n (with_key (get_or cells n empty_cell) r.key) in
-      ap (λ x. with_all axes (set cells number x) (drop (i + 1) piece)) made
-      ∙ ap (λ n. with_all axes (put n) (drop (i + 1) piece)) leads
-      ∙ sym (ap (with_all axes cells) split) ∙ so_far;
-  room = λ k d low.
-      let inside : k < length cells = omega (arith, low, length-set cells number new) in
-      let was = room k d inside in
-      elim (eqb_tells k number) [
-        | inl h ↦
-            let here = room number empty_cell within in
-            rw (h.1, get_or-set_same cells number new d within, made) (omega (arith, here))
-        | inr h ↦ rw (get_or-set_other cells number k new d h.1) (omega (arith, was))
-      ];
-}
+    → Number axes (length cells) r number → with_all axes cells (drop i piece) ≡ with_all axes start piece
+    → All (λ (c : Cell). c.count + (length piece - i) < 2 ^ 32) cells
+    → ((get_or cells number empty_cell).count + 1 < 2 ^ 32 → new ≡ with_key (get_or cells number empty_cell) r.key) → Turn axes start
+    (set cells number new) piece i
+turn axes start cells piece i number r new below is at so_far room exact =
+    let here = room number empty_cell at.there in
+    let made : new ≡ with_key (get_or cells number empty_cell) r.key = exact (omega (arith, here, below)) in
+    record {
+      with_them =
+          let split : drop i piece ≡ r ∷ drop (i + 1) piece = drop_more piece i r below ∙ ap (λ x. x ∷ drop (i + 1) piece) (sym is) in
+          let put : ℕ → List Cell = λ n. set cells n (with_key (get_or cells n empty_cell) r.key) in
+          ap (λ x. with_all axes (set cells number x) (drop (i + 1) piece)) made
+          ∙ ap (λ n. with_all axes (put n) (drop (i + 1) piece)) at.is
+          ∙ sym (ap (with_all axes cells) split) ∙ so_far;
+      room = λ k d low.
+          let inside : k < length cells = omega (arith, low, length-set cells number new) in
+          let was = room k d inside in
+          elim (eqb_tells k number) [
+            | inl h ↦ rw (h.1, get_or-set_same cells number new d at.there, made) (omega (arith, here))
+            | inr h ↦ rw (get_or-set_other cells number k new d h.1) (omega (arith, was))
+          ];
+    }

@@ -1,7 +1,7 @@
 -- A record that is put in, or taken out again.
-use Rattle.std.proofs.Common.{◌≡◌, ℕ, zero, suc, ◌<◌, Bool, true, false, cond, Option, Some, None, List, [], ◌∷◌, ◌++◌, length, map, get_or, set, refl, ap, sym, subst, ◌∙◌, inl, inr, arith}
+use Rattle.std.proofs.Common.{◌≡◌, ℕ, zero, suc, ◌<◌, Bool, true, false, cond, Bor, Option, Some, None, List, [], ◌∷◌, ◌++◌, length, map, get_or, set, refl, ap, sym, subst, ◌∙◌, inl, inr, arith}
 use Rattle.std.specs.Prelude.{◌==◌, bytes_eq, slice_index}
-use Rattle.std.specs.Option.{ForSome, option_to_list}
+use Rattle.std.specs.Option.{ForSome, option_copied, option_to_list}
 use Rattle.std.specs.List.{filter, zip, sum_by, AllByRecursion}
 use Rattle.std.proofs.lemmas.Bool.Decides.{eqb_tells}
 use Rattle.std.proofs.lemmas.List.{length-map, length-set, get_or-set_same, get_or-set_other, ext_get_or, get_or_read}
@@ -16,10 +16,8 @@ use Rattle.tb_base.proofs.CellsBy.{cells_by, cells_by-insert, put_if}
 use Rattle.tb_model.specs.Cubes.{category_lists, cube_of}
 use Rattle.tb_model.proofs.RollUp.{EachBelow}
 use Rattle.tb_model.proofs.CubeLemmas.{cube_of-append}
-use Rattle.tb_cube.specs.declared.axes.Axis.{Axis}
-use Rattle.tb_cube.specs.Axes.{number_by, IsCube}
-use Rattle.tb_cube.specs.Cubes.{place_of, cell_count, changed_for, count_for, merged_with, put_in, taken_out, CubeValue, CanTakeOut, Holds}
-use Rattle.tb_cube.proofs.Grid.{leads-in, place-below, place-test, length-lists}
+use Rattle.tb_cube.specs.Cubes.{place_of, cell_count, changed_for, count_for, merged_with, put_in, taken_out, CubeValue, CanTakeOut, Holds, IsWhole}
+use Rattle.tb_cube.proofs.Grid.{one-fits, place-below, place-test, length-lists}
 
 length-map-zip : {X Y Z : Type 0} (f : X × Y → Z) (xs : List X) (ys : List Y) → length xs ≡ length ys → length (map f (zip xs ys)) ≡ length ys
 length-map-zip f [] [] e = refl
@@ -106,22 +104,24 @@ held-merged old other new ours theirs is shape vars held held' =
     let theirs-are : other.cells ≡ cube_of old.shape old.vars theirs = held' ∙ ap (λ s. cube_of s other.vars theirs) shape ∙ ap (λ vs. cube_of old.shape vs theirs) vars in
     held-added old new ours theirs (is ∙ ap (merged_with old) theirs-are) held
 
--- the same of a cube as it is kept, by the number of the record's cell
-pub record Change (change : Cell → Cell) (cube : CubeValue) (axes : List Axis) (r : Record) (number : ℕ) : Type 0 where
-  pub within : number < length cube.cells
-  pub count : (cell : Cell) → cell ≡ get_or cube.cells number cell → cell.count ≡ count_for cube r
-  pub gives : (cell new : Cell) → cell ≡ get_or cube.cells number cell → new ≡ change cell → record cube { cells = set cube.cells number new } ≡ changed_for change r cube
+-- one cell of a cube as it is kept is changed, at the place of a record's categories
+module _ (kept now : CubeValue) (view : kept ≡ now) (r : Record) (place : ℕ) (at : place ≡ place_of now.shape now.vars (category_at r))
+    (within : place < length now.cells) (cell : Cell) (is : cell ≡ get_or kept.cells place cell) where
+  read : cell ≡ get_or now.cells place empty_cell
+  read = get_or_read now.cells place cell within (is ∙ ap (λ (v : CubeValue). get_or v.cells place cell) view) empty_cell
 
-pub change-at : (change : Cell → Cell) (cube : CubeValue) (axes : List Axis) (r : Record) (number : ℕ) → IsCube cube axes → Fits cube.shape r → number ≡ number_by axes (category_at r) → Change change cube axes r number
-change-at change cube axes r number is fits leads =
-    let led = leads-in cube axes r is fits in
-    let place : number ≡ place_of cube.shape cube.vars (category_at r) = leads ∙ led.number in
-    let within : number < length cube.cells = omega (arith, led.lead.low, leads) in
-    let put : ℕ → List Cell = λ n. set cube.cells n (change (get_or cube.cells n empty_cell)) in
-    record {
-      within = within;
-      count = λ cell read. ap (λ (c : Cell). c.count) (get_or_read cube.cells number cell within read empty_cell ∙ ap (λ n. get_or cube.cells n empty_cell) place);
-      gives = λ cell new read made.
-          let here : new ≡ change (get_or cube.cells number empty_cell) = made ∙ ap change (get_or_read cube.cells number cell within read empty_cell) in
-          ap (λ (cells : List Cell). record cube { cells = cells }) (ap (set cube.cells number) here ∙ ap put place ∙ set-changed change cube r led.below is.whole.long);
-    }
+  pub count-at : cell.count ≡ count_for now r
+  count-at = ap (λ (c : Cell). c.count) (read ∙ ap (λ n. get_or now.cells n empty_cell) at)
+
+  pub change-at : (change : Cell → Cell) (new : Cell) → IsWhole now → Fits now.shape r → new ≡ change cell → ◌≡◌ {A = CubeValue}
+      (record kept { cells = set kept.cells place new }) (changed_for change r now)
+  change-at change new whole fits made =
+      let put : ℕ → List Cell = λ n. set now.cells n (change (get_or now.cells n empty_cell)) in
+      ap (λ (v : CubeValue). record v { cells = set v.cells place new }) view
+      ∙ ap (λ (cells : List Cell). record now { cells = cells })
+      (ap (set now.cells place) (made ∙ ap change read) ∙ ap put at ∙ set-changed change now r
+      (one-fits now.shape now.vars r whole.there fits) whole.long)
+
+-- what is asked of a record that is there
+pub of-given : (P : Record → Type 0) (o : Option (Bor Record)) (one : Bor Record) → o ≡ Some one → ForSome (option_copied o) P → P one.now
+of-given P o one is can = subst (λ (p : Option (Bor Record)). ForSome (option_copied p) P) is can one.now refl

@@ -17,7 +17,7 @@ use Rattle.tb_model.proofs.RollUp.{EachBelow}
 use Rattle.tb_model.proofs.CubeLemmas.{AllWithin, AllBelow, AllWithin-from_Fits}
 use Rattle.tb_grid.specs.Products.{cells_over}
 use Rattle.tb_grid.specs.declared.products.TheConstants.{MOST_CELLS}
-use Rattle.tb_grid.proofs.Sums.{same-place, cut}
+use Rattle.tb_grid.proofs.Sums.{cut, eq-swap, same-place}
 use Rattle.tb_grid.proofs.Factors.{at-least}
 use Rattle.tb_cube.specs.declared.axes.Axis.{Axis}
 use Rattle.tb_cube.specs.Cubes.{place_of, cell_count, CubeValue}
@@ -47,9 +47,6 @@ lengths shape (v ∷ vs) = rw (length-range_with_len 0 (slice_index shape v), le
 pub length-lists : (shape vars : List ℕ) → length (category_lists shape vars) ≡ cell_count shape vars
 length-lists shape vars = length-row_major (map (λ v. range_with_len 0 (slice_index shape v)) vars) ∙ ap product (lengths shape vars)
 
-eq-turn : (a b : ℕ) → (a == b) ≡ (b == a)
-eq-turn a b = elim (eqb_tells a b) [ inl h ↦ rw (h.0, h.1, eq-eqb b b refl) refl | inr h ↦ rw (h.0, ne_eqb b a (λ e. h.1 (sym e))) refl ]
-
 -- a record has the categories of its place alone
 choice-test : (shape vars : List ℕ) (at : ℕ → ℕ) (k : ℕ) → EachBelow at (slice_index shape) vars → k < cell_count shape vars
     → bytes_eq (map at vars) (choice_at (map (λ v. range_with_len 0 (slice_index shape v)) vars) k 0) ≡ (k == place_of shape vars at)
@@ -59,7 +56,7 @@ choice-test shape (v ∷ vs) at k below inside =
     let c = cut (slice_index shape v) m k inside in
     rw (ap product (lengths shape vs), get_or-range_with_len 0 (slice_index shape v) (k / m) 0 c.row)
     (let first : 0 + k / m ≡ k / m = omega arith in
-    rw (first, choice-test shape vs at (k % m) below.1 c.column, eq-turn (at v) (k / m))
+    rw (first, choice-test shape vs at (k % m) below.1 c.column, eq-swap (at v) (k / m))
     (sym (same-place m k (at v) (place_of shape vs at) (place-below shape vs at below.1))))
 
 pub place-test : (shape vars : List ℕ) (r : Record) (k : ℕ) (e : List ℕ) → EachBelow (category_at r) (slice_index shape) vars → k < length (category_lists shape vars)
@@ -124,19 +121,3 @@ leads-in cube axes r is fits =
 -- no axis
 abbrev pub no_axis : Axis
 no_axis = record { variable = 0; stride = 0 }
-
--- a sum over a list of one, of two and of three
-pub sum-one : {X : Type 0} (f : X → ℕ) (xs : List X) (d : X) → length xs ≡ 1 → f (get_or xs 0 d) ≡ sum_by f xs
-sum-one f [] d e = absurd (omega (arith, e))
-sum-one f (x ∷ []) d e = let z : f x + 0 ≡ f x = omega arith in sym (sum_by-cons f x [] ∙ z)
-sum-one f (x ∷ y ∷ ys) d e = absurd (omega (arith, e))
-
-pub sum-two : {X : Type 0} (f : X → ℕ) (xs : List X) (d : X) → length xs ≡ 2 → f (get_or xs 0 d) + f (get_or xs 1 d) ≡ sum_by f xs
-sum-two f [] d e = absurd (omega (arith, e))
-sum-two f (x ∷ ys) d e = ap (λ s. f x + s) (sum-one f ys d (omega (arith, e))) ∙ sym (sum_by-cons f x ys)
-
-pub sum-three : {X : Type 0} (f : X → ℕ) (xs : List X) (d : X) → length xs ≡ 3 → f (get_or xs 0 d) + f (get_or xs 1 d) + f (get_or xs 2 d) ≡ sum_by f xs
-sum-three f [] d e = absurd (omega (arith, e))
-sum-three f (x ∷ ys) d e =
-    let turn : f x + f (get_or ys 0 d) + f (get_or ys 1 d) ≡ f x + (f (get_or ys 0 d) + f (get_or ys 1 d)) = omega arith in
-    turn ∙ ap (λ s. f x + s) (sum-two f ys d (omega (arith, e))) ∙ sym (sum_by-cons f x ys)

@@ -4,19 +4,20 @@ ghost use Rattle.std.specs.Option.{ForSome, option_copied, option_to_list};
 ghost use Rattle.tb_base.specs.declared.people.TheConstants.{MOST_PERSONS};
 ghost use Rattle.tb_base.specs.declared.records.Record.{Record as AnyRecord};
 ghost use Rattle.tb_base.specs.Cells.{empty_cell};
-ghost use Rattle.tb_base.specs.Records.{AllFit};
+ghost use Rattle.tb_base.specs.Records.{category_at, AllFit, Fits};
 ghost use Rattle.tb_grid.specs.declared.products.TheConstants.{MOST_CELLS};
 ghost use Rattle.tb_model.specs.Cubes.{cube_of};
-ghost use Rattle.tb_cube.specs.Cubes.{cell_count, cube_over, merged_at, merged_with, put_in};
-ghost use Rattle.tb_cube.specs.Cubes.{taken_out, CanPutIn, CanTakeOut, HasRoom, Holds, IsWhole};
+ghost use Rattle.tb_cube.specs.Cubes.{cell_count, cube_over, merged_at, merged_with, place_of};
+ghost use Rattle.tb_cube.specs.Cubes.{put_in, taken_out, CanPutIn, CanTakeOut, HasRoom, Holds};
+ghost use Rattle.tb_cube.specs.Cubes.{IsWhole};
 
 use crate::axes::{Axis, axes_of, number_of};
-use crate::merging::{merge_all, merge_into};
+use crate::merging::merge_all;
 use crate::putting::put_all;
 use std::alloc::Global;
 use std::marker::Model;
-use tb_base::{Cell, Memory, Record, Shape, VarSet};
-use tb_grid::{cells_over, know_cells};
+use tb_base::{Cell, Memory, Record, Shape, VarSet, know_cells};
+use tb_grid::cells_over;
 
 /// The cells over some variables of a classification: one for each list of their categories, in
 /// row-major order, so that the last variable's categories change fastest. A cell counts the
@@ -75,14 +76,25 @@ impl Cube {
         put_all(&mut self.cells, &self.axes, piece);
     }
 
+    // The place of the cell of a record's categories.
+    fn place_for(&self, one: &Record) -> usize
+        requires { Fits self.now.shape one.now }
+        ensures place { result ≡ place_of self.now.shape self.now.vars (category_at one.now) }
+        ensures cube { IsWhole self.now }
+        ensures there { result < length self.now.cells }
+    {
+        let _ = &self.cells;
+        number_of(&self.axes, one)
+    }
+
     // Takes a record, if there is one, out of the cell of its categories.
     fn take_out(&mut self, gone: Option<&Record>)
         requires { ForSome (option_copied gone) (CanTakeOut self.old) }
         ensures { self.new ≡ taken_out (option_copied gone.entry) self.old }
     {
         if let Some(gone) = gone {
-            let number = number_of(&self.axes, gone);
-            self.cells[number].take_out(gone.key);
+            let place = self.place_for(gone);
+            self.cells[place].take_out(gone.key);
         }
     }
 
@@ -92,8 +104,8 @@ impl Cube {
         ensures { self.new ≡ put_in (option_copied new.entry) self.old }
     {
         if let Some(new) = new {
-            let number = number_of(&self.axes, new);
-            self.cells[number].put(new.key);
+            let place = self.place_for(new);
+            self.cells[place].put(new.key);
         }
     }
 
@@ -136,7 +148,7 @@ impl Cube {
             ≤ MOST_PERSONS }
         ensures { self.new ≡ merged_at self.old place cell }
     {
-        merge_into(&mut self.cells[place], cell);
+        self.cells[place].add(cell);
     }
 
     /// How many cells there are.

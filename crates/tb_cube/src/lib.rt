@@ -4,6 +4,10 @@
 //! in a piece at a time, one by one, or by merging another cube's cells, and can be taken out
 //! again. Its contracts cite `Cubes.cube_of` of `tb_model` (the cells of some records), and here
 //! `specs/Cubes` (what a cube is seen as, which records it holds, and what becomes of its cells).
+//!
+//! Lemmas: `proofs/Grid` (the number of a record's cell), `Adding` (records that are put in),
+//! `Changes` (one that is put in or taken out); for the crates above `Holding` (what a caller knows
+//! of a cube that holds some records).
 #![tactic(auto)]
 
 mod axes;

@@ -2,20 +2,9 @@
 
 ghost use Rattle.std.specs.Prelude.{◌≡◌, ℕ, ◌+◌, ◌<◌, ◌^◌, length, slice_index_or};
 ghost use Rattle.tb_base.specs.declared.cells.Cell.{Cell as AnyCell};
-ghost use Rattle.tb_base.specs.Cells.{merged, merged_all};
+ghost use Rattle.tb_base.specs.Cells.{merged_all};
 
 use tb_base::Cell;
-
-/// Merges a cell with another. The two numbers are changed apart, so the unused bytes of a cell
-/// aren't written.
-#[inline]
-pub fn merge_into(cell: &mut Cell, other: Cell)
-    requires { cell.old.count + other.count < 2 ^ 32 }
-    ensures { cell.new ≡ merged cell.old other }
-{
-    cell.count += other.count;
-    cell.key = cell.key.wrapping_add(other.key);
-}
 
 /// Merges each cell with the other at its place.
 pub fn merge_all(cells: &mut [Cell], others: &[Cell])
@@ -25,6 +14,6 @@ pub fn merge_all(cells: &mut [Cell], others: &[Cell])
     ensures { cells.new ≡ merged_all cells.old others.now }
 {
     for i in 0..cells.len() {
-        merge_into(&mut cells[i], others[i]);
+        cells[i].add(others[i]);
     }
 }

@@ -6,9 +6,12 @@ use Rattle.std.proofs.Math.Path.{fun_ext}
 use Rattle.std.proofs.lemmas.List.{drop_more, drop_all}
 use Rattle.std.proofs.lemmas.Nat.{mul-add-lt}
 use Rattle.tb_model.specs.RowMajor.{product}
+use Rattle.tb_grid.specs.declared.totals.Sign.{Sign}
+use Rattle.tb_grid.specs.declared.totals.Sign.TheVariants.{Plus, Minus}
 use Rattle.tb_grid.specs.Totals.{total_at, AreSome}
+use Rattle.tb_grid.specs.Signs.{plain, totalled}
 use Rattle.tb_grid.proofs.Sums.{sum-range-mod, total-last, total-other, total-ext, cut}
-use Rattle.tb_grid.proofs.Factors.{product-some, at-least}
+use Rattle.tb_grid.proofs.Factors.{product-some, at-least, positive}
 
 -- no dimension is left
 at-nothing : (f : ℕ → ℕ) (k o r : ℕ) → r < product [] → f (o * product [] + r) % k ≡ total_at [] (λ j. f (o * product [] + j)) r % k
@@ -21,6 +24,11 @@ at-end sizes d f k o r past below =
     let none : drop d sizes ≡ [] = drop_all d sizes past in
     rw none (at-nothing f k o r (rw none at below))
 
+some-drop : (ns : List ℕ) (d : ℕ) → AreSome ns → AreSome (drop d ns)
+some-drop ns zero some = some
+some-drop [] (suc d) some = tt
+some-drop (n ∷ ns) (suc d) some = some-drop ns d some.1
+
 -- the dimension d and those after it
 pub record Here (sizes : List ℕ) (d : ℕ) : Type 0 where
   pub is : drop d sizes ≡ get_or sizes d 0 ∷ drop (d + 1) sizes
@@ -29,20 +37,35 @@ pub record Here (sizes : List ℕ) (d : ℕ) : Type 0 where
   pub product_is : product (drop d sizes) ≡ get_or sizes d 0 * product (drop (d + 1) sizes)
   pub rest_some : 0 < product (drop (d + 1) sizes)
 
-pub here : (sizes : List ℕ) (d : ℕ) → d < length sizes → AreSome (drop d sizes) → Here sizes d
+here : (sizes : List ℕ) (d : ℕ) → d < length sizes → AreSome (drop d sizes) → Here sizes d
 here sizes d below some =
     let is = drop_more sizes d 0 below in
     let both = rw is at some in
     record { is = is; some = both.0; rest = both.1; product_is = ap product is; rest_some = product-some (drop (d + 1) sizes) both.1 }
 
-pub room-for : (sizes : List ℕ) (d blocks long : ℕ) → d < length sizes → AreSome (drop d sizes) → blocks * product (drop d sizes) ≡ long → blocks * get_or sizes d 0 ≤ long
-room-for sizes d blocks long below some whole =
-    let h = here sizes d below some in
+-- where the sizes are all some and the blocks are all of the places, what the dimension d and those after it ask for
+pub record Split (sizes : List ℕ) (d blocks long : ℕ) : Type 0 where
+  pub here : Here sizes d
+  pub room : blocks * get_or sizes d 0 ≤ long
+  pub whole : blocks * get_or sizes d 0 * product (drop (d + 1) sizes) ≡ long
+  pub some : 0 < blocks * get_or sizes d 0
+
+pub split : (sizes : List ℕ) (d blocks long : ℕ) → d < length sizes → AreSome sizes → blocks * product (drop d sizes) ≡ long → 0 < blocks
+    → Split sizes d blocks long
+split sizes d blocks long below some whole few =
+    let h = here sizes d below (some-drop sizes d some) in
     let n : ℕ = get_or sizes d 0 in
     let m : ℕ = product (drop (d + 1) sizes) in
-    let turn : m * (blocks * n) ≡ blocks * (n * m) = omega arith in
-    let split : m * (blocks * n) ≡ long = turn ∙ ap (λ x. blocks * x) (sym h.product_is) ∙ whole in
-    omega (arith, at-least m (blocks * n) h.rest_some, split)
+    let sign : blocks * n * m ≡ blocks * (n * m) = omega arith in
+    let all : blocks * n * m ≡ long = sign ∙ ap (λ x. blocks * x) (sym h.product_is) ∙ whole in
+    let swap : m * (blocks * n) ≡ blocks * n * m = omega arith in
+    record {
+      here = h;
+      room = omega (arith, at-least m (blocks * n) h.rest_some, swap, all);
+      whole = all;
+      some = positive blocks n few
+          h.some;
+    }
 
 -- one dimension more: old is what the cells were, mid after the later dimensions, new after this one
 step-at : (n : ℕ) (ns : List ℕ) (k o : ℕ) (old mid new : ℕ → ℕ) → 0 < n
@@ -87,7 +110,7 @@ whole-block ns k old new i h =
     let none : (j : ℕ) → 0 * product ns + j ≡ j = λ j. omega arith in
     ap (λ j. new j % k) (sym (none i)) ∙ h ∙ ap (λ (f : ℕ → ℕ). total_at ns f i % k) (fun_ext (λ j. ap old (none j)))
 
-pub some-drop : (ns : List ℕ) (d : ℕ) → AreSome ns → AreSome (drop d ns)
-some-drop ns zero some = some
-some-drop [] (suc d) some = tt
-some-drop (n ∷ ns) (suc d) some = some-drop ns d some.1
+-- nothing is left to be added or taken out
+pub none-signed : {A : Type 0} (sign : Sign) (P : A → A → Type 0) (x : A) → P x x → P (totalled sign x x) (plain sign x x)
+none-signed Plus P x h = h
+none-signed Minus P x h = h

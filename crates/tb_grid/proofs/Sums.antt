@@ -1,5 +1,5 @@
 -- Sums over the places that lie in a place.
-use Rattle.std.proofs.Common.{◌≡◌, ℕ, zero, suc, ◌+◌, ◌-◌, ◌*◌, ◌/◌, ◌%◌, ◌<◌, ◌≤◌, ◌&&◌, ◌||◌, Bool, true, false, cond, List, [], ◌∷◌, refl, ap, sym, ◌∙◌, inl, inr, arith, add-one}
+use Rattle.std.proofs.Common.{◌≡◌, ℕ, zero, suc, ◌+◌, ◌-◌, ◌*◌, ◌/◌, ◌%◌, ◌<◌, ◌≤◌, ◌&&◌, ◌||◌, Bool, true, false, cond, List, [], ◌∷◌, length, get_or, refl, ap, sym, ◌∙◌, inl, inr, arith, add-one}
 use Rattle.std.specs.Prelude.{◌==◌, nat_lt}
 use Rattle.std.specs.List.{sum_by, range_with_len}
 use Rattle.std.proofs.Math.Nat.{mod-add-div', mod-mod}
@@ -142,6 +142,10 @@ abbrev pub under : Bool → List ℕ → ℕ → ℕ → Bool
 under totals [] i x = true
 under totals (n ∷ ns) i x = ((x / product ns == i / product ns) || (totals && (i / product ns == n - 1))) && under totals ns (i % product ns) (x % product ns)
 
+-- the order of two numbers doesn't matter
+pub eq-swap : (a b : ℕ) → (a == b) ≡ (b == a)
+eq-swap a b = elim (eqb_tells a b) [ inl h ↦ rw (h.0, h.1, eq-eqb b b refl) refl | inr h ↦ rw (h.0, ne_eqb b a (λ e. h.1 (sym e))) refl ]
+
 -- a number by its row and column
 pub same-place : (m x e j : ℕ) → j < m → (x == e * m + j) ≡ ((x / m == e) && (x % m == j))
 same-place m x e j below =
@@ -213,3 +217,20 @@ under-alone (n ∷ ns) i x below within =
     let d = cut n m x within in
     rw (or-false (x / m == i / m), under-alone ns (i % m) (x % m) c.column d.column)
     (sym (ap (λ k. x == k) (sym c.whole) ∙ same-place m x (i / m) (i % m) c.column))
+
+-- a sum over a list of one, of two and of three
+pub sum-one : {X : Type 0} (f : X → ℕ) (xs : List X) (d : X) → length xs ≡ 1 → f (get_or xs 0 d) ≡ sum_by f xs
+sum-one f [] d e = absurd (omega (arith, e))
+sum-one f (x ∷ []) d e = let z : f x + 0 ≡ f x = omega arith in sym (sum_by-cons f x [] ∙ z)
+sum-one f (x ∷ y ∷ ys) d e = absurd (omega (arith, e))
+
+pub sum-two : {X : Type 0} (f : X → ℕ) (xs : List X) (d : X) → length xs ≡ 2 → f (get_or xs 0 d) + f (get_or xs 1 d) ≡ sum_by f xs
+sum-two f [] d e = absurd (omega (arith, e))
+sum-two f (x ∷ ys) d e = ap (λ s. f x + s) (sum-one f ys d (omega (arith, e))) ∙ sym (sum_by-cons f x ys)
+
+pub sum-three : {X : Type 0} (f : X → ℕ) (xs : List X) (d : X) → length xs ≡ 3
+    → f (get_or xs 0 d) + f (get_or xs 1 d) + f (get_or xs 2 d) ≡ sum_by f xs
+sum-three f [] d e = absurd (omega (arith, e))
+sum-three f (x ∷ ys) d e =
+    let sign : f x + f (get_or ys 0 d) + f (get_or ys 1 d) ≡ f x + (f (get_or ys 0 d) + f (get_or ys 1 d)) = omega arith in
+    sign ∙ ap (λ s. f x + s) (sum-two f ys d (omega (arith, e))) ∙ sym (sum_by-cons f x ys)

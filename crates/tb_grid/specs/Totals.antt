@@ -1,29 +1,10 @@
--- The places of a table with Total, from those without, and the numbers of a cell.
-use Rattle.std.specs.Prelude.{◌≡◌, ◌+◌, ◌-◌, ◌*◌, ◌/◌, ◌%◌, ◌^◌, ◌<◌, ◌==◌, ℕ}
-use Rattle.std.specs.Prelude.{List, [], ◌∷◌, length, slice_index_or, if◌then◌else◌}
+-- The places of a table with Total, from those without.
+use Rattle.std.specs.Prelude.{◌≡◌, ◌+◌, ◌-◌, ◌*◌, ◌/◌, ◌%◌, ◌<◌, ◌==◌, ℕ}
+use Rattle.std.specs.Prelude.{List, [], ◌∷◌, length, if◌then◌else◌}
 use Rattle.std.specs.List.{sum_by, range_with_len}
 use Rattle.tb_base.specs.declared.cells.Cell.{Cell}
-use Rattle.tb_base.specs.declared.cells.TheConstants.{KEY_RANGE}
-use Rattle.tb_base.specs.Cells.{empty_cell}
+use Rattle.tb_base.specs.Parts.{modulus, part_at, Part}
 use Rattle.tb_model.specs.RowMajor.{product}
-
--- the two numbers of a cell: its count and its key sum
-pub data Part : Type 0 where
-  counts : Part
-  keys : Part
-
-abbrev pub part : Part → Cell → ℕ
-part counts cell = cell.count
-part keys cell = cell.key
-
--- the number modulo which each is kept
-abbrev pub modulus : Part → ℕ
-modulus counts = 2 ^ 32
-modulus keys = KEY_RANGE
-
--- a part of the cell at a place, by the place's number
-abbrev pub part_at : Part → List Cell → ℕ → ℕ
-part_at p cells i = part p (slice_index_or cells i empty_cell)
 
 -- the sum of f over the places that lie in place i, where the dimensions have these sizes and
 -- Total is the last entry of each

@@ -38,8 +38,7 @@ belongs-same schema query place f g dimensions filters =
 
 -- the variable under each of the names is among these
 abbrev pub AllAmong : SchemaValue → List ℕ → List NameOf → Type 0
-AllAmong schema vars [] = Unit {0}
-AllAmong schema vars (of ∷ rest) = (list_any (λ w. w == base_of schema of) vars ≡ true) × AllAmong schema vars rest
+AllAmong schema vars names = AllByRecursion (λ of. list_any (λ w. w == base_of schema of) vars ≡ true) names
 
 category_in-map : (f : ℕ → ℕ) (vars : List ℕ) (v : ℕ) → list_any (λ w. w == v) vars ≡ true → f v ≡ category_in vars (map f vars) v
 category_in-map f [] v among = cc

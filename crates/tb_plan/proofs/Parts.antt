@@ -1,10 +1,10 @@
 -- A plan's dimensions and filters, one by one.
 use Rattle.std.proofs.Common.{◌≡◌, ℕ, zero, suc, ◌+◌, ◌*◌, ◌<◌, ◌≤◌, Bool, true, false, cond, List, [], ◌∷◌, ◌++◌, length, map, take, drop, get_or, refl, ap, sym, ◌∙◌, inl, inr, arith, subst}
 use Rattle.std.specs.Prelude.{◌==◌, slice_index, slice_index_or}
-use Rattle.std.specs.List.{range_with_len, filter}
+use Rattle.std.specs.List.{range_with_len, filter, AllByRecursion}
 use Rattle.std.proofs.lemmas.Bool.{cases_Bool, eqb-true, eq-eqb, ne_eqb}
 use Rattle.std.proofs.lemmas.List.{length-map, get_or-map, drop_more, drop-map, map-id, map-append, append-nil, take_more}
-use Rattle.std.proofs.lemmas.List.Elements.{filter-append}
+use Rattle.std.proofs.lemmas.List.Elements.{filter-append, All-from_recursion}
 use Rattle.std.proofs.lemmas.List.FromFn.{map-range_with_len_more}
 use Rattle.tb_model.specs.declared.names.NameOf.{NameOf}
 use Rattle.tb_model.specs.Schemas.{SchemaValue, category_count, shape_of}
@@ -35,22 +35,17 @@ no_dimension = record { variable = 0; categories = 0; entries = [] }
 abbrev no_condition : ConditionValue
 no_condition = record { variable = 0; passed = [] }
 
-pub is-dimension-at : (shape : List ℕ) (ds : List DimensionValue) (d : ℕ) (e : DimensionValue) → AreDimensions shape ds → d < length ds → IsDimension shape (get_or ds d e)
-is-dimension-at shape [] d e are below = absurd (omega arith)
-is-dimension-at shape (x ∷ xs) zero e are below = are.0
-is-dimension-at shape (x ∷ xs) (suc d) e are below = is-dimension-at shape xs d e are.1 (omega arith)
+-- what is kept at a number: what is seen there, and what is true of it
+pub record Kept {X Y : Type 0} (see : X → Y) (P : Y → Type 0) (seen : Y) (x : X) : Type 0 where
+  pub view : seen ≡ see x
+  pub is : P (see x)
 
-pub is-condition-at : (shape : List ℕ) (fs : List ConditionValue) (f : ℕ) (e : ConditionValue) → AreConditions shape fs → f < length fs → IsCondition shape (get_or fs f e)
-is-condition-at shape [] f e are below = absurd (omega arith)
-is-condition-at shape (x ∷ xs) zero e are below = are.0
-is-condition-at shape (x ∷ xs) (suc f) e are below = is-condition-at shape xs f e are.1 (omega arith)
-
--- what is kept at a number is what is seen there
-pub dimension-kept : (items : List Dimension) (d : ℕ) (x : Dimension) (e : DimensionValue) → d < length items → x ≡ get_or items d x → get_or (map dimension_view items) d e ≡ dimension_view x
-dimension-kept items d x e below is = get_or-map dimension_view items d x e below ∙ ap dimension_view (sym is)
-
-pub condition-kept : (items : List Condition) (f : ℕ) (x : Condition) (e : ConditionValue) → f < length items → x ≡ get_or items f x → get_or (map condition_view items) f e ≡ condition_view x
-condition-kept items f x e below is = get_or-map condition_view items f x e below ∙ ap condition_view (sym is)
+kept-at : {X Y : Type 0} (view : X → Y) (P : Y → Type 0) (items : List X) (i : ℕ) (x : X) (e : Y) → AllByRecursion P (map view items)
+    → i < length (map view items) → x ≡ get_or items i x → Kept view P (get_or (map view items) i e) x
+kept-at view P items i x e all below at =
+    let seen : get_or (map view items) i e ≡ view x = get_or-map view items i x e (omega (arith, below, length-map items view)) ∙ ap view
+    (sym at) in
+    record { view = seen; is = subst P seen (All-from_recursion P (map view items) all i e below) }
 
 pub sizes-some : (totals : Bool) (shape : List ℕ) (ds : List DimensionValue) → AreDimensions shape ds → AreSome (map (entry_count totals) ds)
 sizes-some totals shape [] are = tt
@@ -97,27 +92,21 @@ filter-step-le places (f ∷ fs) v c =
     ]
 
 -- the dimension, and the filter, that are kept at a number
-pub record KeptDimension (plan : PlanValue) (d : ℕ) (x : Dimension) : Type 0 where
-  pub view : dimension_at plan d ≡ dimension_view x
-  pub is : IsDimension plan.shape (dimension_view x)
-
-pub record KeptCondition (plan : PlanValue) (f : ℕ) (x : Condition) : Type 0 where
-  pub view : condition_at plan f ≡ condition_view x
-  pub is : IsCondition plan.shape (condition_view x)
-
 pub kept-dimension : (shape : List ℕ) (ds : List Dimension) (fs : List Condition) (totals : Bool) (plan : PlanValue) (d : ℕ) (x : Dimension)
-    → plan_view shape ds fs totals ≡ plan → IsPlan (plan_view shape ds fs totals) → d < length plan.dimensions → x ≡ get_or ds d x → KeptDimension plan d x
-kept-dimension shape ds fs totals plan d x e is = let P : PlanValue → Type 0 = λ p. d < length p.dimensions → x ≡ get_or ds d x → KeptDimension p d x in subst P e (λ below at.
-    let long : d < length ds = omega (arith, length-map ds dimension_view) in
-    let view = dimension-kept ds d x no_dimension long at in
-    record { view = view; is = subst (IsDimension shape) view (is-dimension-at shape (map dimension_view ds) d no_dimension is.dimensions below) })
+    → plan_view shape ds fs totals ≡ plan → IsPlan (plan_view shape ds fs totals) → d < length plan.dimensions → x ≡ get_or ds d x → Kept
+    dimension_view (IsDimension plan.shape) (dimension_at plan d) x
+kept-dimension shape ds fs totals plan d x e is =
+    let P : PlanValue → Type 0 = λ p. d < length p.dimensions → x ≡ get_or ds d x → Kept dimension_view (IsDimension p.shape)
+    (dimension_at p d) x in
+    subst P e (λ below at. kept-at dimension_view (IsDimension shape) ds d x no_dimension is.dimensions below at)
 
 pub kept-condition : (shape : List ℕ) (ds : List Dimension) (fs : List Condition) (totals : Bool) (plan : PlanValue) (f : ℕ) (x : Condition)
-    → plan_view shape ds fs totals ≡ plan → IsPlan (plan_view shape ds fs totals) → f < length plan.filters → x ≡ get_or fs f x → KeptCondition plan f x
-kept-condition shape ds fs totals plan f x e is = let P : PlanValue → Type 0 = λ p. f < length p.filters → x ≡ get_or fs f x → KeptCondition p f x in subst P e (λ below at.
-    let long : f < length fs = omega (arith, length-map fs condition_view) in
-    let view = condition-kept fs f x no_condition long at in
-    record { view = view; is = subst (IsCondition shape) view (is-condition-at shape (map condition_view fs) f no_condition is.filters below) })
+    → plan_view shape ds fs totals ≡ plan → IsPlan (plan_view shape ds fs totals) → f < length plan.filters → x ≡ get_or fs f x → Kept
+    condition_view (IsCondition plan.shape) (condition_at plan f) x
+kept-condition shape ds fs totals plan f x e is =
+    let P : PlanValue → Type 0 = λ p. f < length p.filters → x ≡ get_or fs f x → Kept condition_view (IsCondition p.shape)
+    (condition_at p f) x in
+    subst P e (λ below at. kept-at condition_view (IsCondition shape) fs f x no_condition is.filters below at)
 
 -- a list that is made of the numbers of a range, with one more
 pub push-range : {X : Type 0} (f : ℕ → X) (n : ℕ) (old new : List X) (x : X) → old ≡ map f (range_with_len 0 n) → x ≡ f n → new ≡ old ++ x ∷ [] → new ≡ map f (range_with_len 0 (n + 1))
@@ -164,24 +153,16 @@ some-category schema (name_of.Recode r) sound there =
     let some = (sound.recodes r (record { name = []; variable = 0; groups = []; group_of = [] }) there).some in
     omega (arith, some)
 
-pub push-dimension : (shape : List ℕ) (ds : List DimensionValue) (d : DimensionValue) → AreDimensions shape ds → IsDimension shape d → AreDimensions shape (ds ++ d ∷ [])
-push-dimension shape [] d are is = (is, tt)
-push-dimension shape (x ∷ xs) d are is = (are.0, push-dimension shape xs d are.1 is)
+-- one more that is kept
+push-each : {Y : Type 0} (P : Y → Type 0) (ys : List Y) (y : Y) → AllByRecursion P ys → P y → AllByRecursion P (ys ++ y ∷ [])
+push-each P [] y all is = (is, tt)
+push-each P (x ∷ xs) y all is = (all.0, push-each P xs y all.1 is)
 
-pub push-condition : (shape : List ℕ) (fs : List ConditionValue) (f : ConditionValue) → AreConditions shape fs → IsCondition shape f → AreConditions shape (fs ++ f ∷ [])
-push-condition shape [] f are is = (is, tt)
-push-condition shape (x ∷ xs) f are is = (are.0, push-condition shape xs f are.1 is)
-
--- the same of lists that are kept
-pub kept-dimensions : (shape : List ℕ) (old new : List Dimension) (d : Dimension) → AreDimensions shape (map dimension_view old) → IsDimension shape (dimension_view d) → new ≡ old ++ d ∷ [] → AreDimensions shape (map dimension_view new)
-kept-dimensions shape old new d are is e =
-    let made : map dimension_view new ≡ map dimension_view old ++ dimension_view d ∷ [] = ap (map dimension_view) e ∙ map-append dimension_view old (d ∷ []) in
-    rw made (push-dimension shape (map dimension_view old) (dimension_view d) are is)
-
-pub kept-conditions : (shape : List ℕ) (old new : List Condition) (f : Condition) → AreConditions shape (map condition_view old) → IsCondition shape (condition_view f) → new ≡ old ++ f ∷ [] → AreConditions shape (map condition_view new)
-kept-conditions shape old new f are is e =
-    let made : map condition_view new ≡ map condition_view old ++ condition_view f ∷ [] = ap (map condition_view) e ∙ map-append condition_view old (f ∷ []) in
-    rw made (push-condition shape (map condition_view old) (condition_view f) are is)
+pub kept-more : {X Y : Type 0} (view : X → Y) (P : Y → Type 0) (old new : List X) (x : X) → AllByRecursion P (map view old) → P (view x)
+    → new ≡ old ++ x ∷ [] → AllByRecursion P (map view new)
+kept-more view P old new x all is e =
+    let made : map view new ≡ map view old ++ view x ∷ [] = ap (map view) e ∙ map-append view old (x ∷ []) in
+    rw made (push-each P (map view old) (view x) all is)
 
 -- the plan of a query has its places
 pub place_count-plan_of : (schema : SchemaValue) (query : QueryValue) → place_count (plan_of schema query) ≡ length (places_of schema query)

@@ -1,7 +1,7 @@
 -- The number to which categories lead is that of the place in which they lie.
 use Rattle.std.proofs.Common.{◌≡◌, ℕ, ◌+◌, ◌-◌, ◌*◌, ◌/◌, ◌%◌, ◌<◌, ◌≤◌, ◌&&◌, ◌||◌, Bool, true, false, cond, List, [], ◌∷◌, map, length, refl, ap, sym, ◌∙◌, inl, inr, arith}
 use Rattle.std.specs.Prelude.{◌==◌, nat_lt, slice_index, slice_index_or}
-use Rattle.std.specs.List.{sum_by, range_with_len, filter, list_any, list_all}
+use Rattle.std.specs.List.{sum_by, range_with_len, filter, list_all, AllByRecursion}
 use Rattle.std.proofs.lemmas.Bool.{cases_lt, lt-ltb, le-ltb, ne_eqb, eq-eqb}
 use Rattle.std.proofs.lemmas.Bool.Decides.{eqb_tells}
 use Rattle.std.proofs.lemmas.Nat.{div-mul-add, mod-mul-add, mul-add-lt}
@@ -16,9 +16,10 @@ use Rattle.tb_model.specs.RowMajor.{product}
 use Rattle.tb_model.proofs.SumLemmas.{sum_by-ext, sum_by-none, sum_by-add, sum_by-filter}
 use Rattle.tb_model.proofs.TableLemmas.{size_of, entry_at, place_at}
 use Rattle.tb_plan.specs.Plans.{DimensionValue, ConditionValue, PlanValue, dimension_of, condition_of, plan_of, entry_count, place_count, uses, vars_of}
-use Rattle.tb_plan.specs.Whole.{AreDimensions, AreConditions, IsPlan}
+use Rattle.tb_plan.specs.Whole.{AreDimensions, IsPlan}
 use Rattle.tb_plan.specs.Steps.{dimension_step, filter_step, step_at, number_at}
-use Rattle.tb_grid.proofs.Sums.{under, range-once, cut}
+use Rattle.tb_grid.proofs.Sums.{cut, eq-swap, range-once, under}
+use Rattle.tb_plan.proofs.Under.{EachNamed, EachUnder, each-under}
 
 -- a variable is exactly once among some
 abbrev pub OnceIn : List ℕ → ℕ → Type 0
@@ -39,35 +40,6 @@ used-once used n w below is f =
     ])
     ∙ range-once (f w) w 0 n (omega arith) (omega arith)
 
--- the variables under dimensions, and under filters, are each once among some
-abbrev pub DimensionsIn : List ℕ → List DimensionValue → Type 0
-DimensionsIn vars [] = Unit {0}
-DimensionsIn vars (d ∷ ds) = OnceIn vars d.variable × DimensionsIn vars ds
-
-abbrev pub ConditionsIn : List ℕ → List ConditionValue → Type 0
-ConditionsIn vars [] = Unit {0}
-ConditionsIn vars (f ∷ fs) = OnceIn vars f.variable × ConditionsIn vars fs
-
-or-right : (a b : Bool) → b ≡ true → (a || b) ≡ true
-or-right true b h = refl
-or-right false b h = h
-
-or-left : (a b : Bool) → a ≡ true → (a || b) ≡ true
-or-left true b h = refl
-or-left false b h = cc
-
-pub dimensions-in : (vars shape : List ℕ) (ds : List DimensionValue) → AreDimensions shape ds
-    → ((v : ℕ) → v < length shape → list_any (λ d. d.variable == v) ds ≡ true → OnceIn vars v) → DimensionsIn vars ds
-dimensions-in vars shape [] are once = tt
-dimensions-in vars shape (d ∷ ds) are once =
-    (once d.variable are.0.there (or-left (d.variable == d.variable) _ (eq-eqb d.variable d.variable refl)), dimensions-in vars shape ds are.1 (λ v below h. once v below (or-right (d.variable == v) _ h)))
-
-pub conditions-in : (vars shape : List ℕ) (fs : List ConditionValue) → AreConditions shape fs
-    → ((v : ℕ) → v < length shape → list_any (λ f. f.variable == v) fs ≡ true → OnceIn vars v) → ConditionsIn vars fs
-conditions-in vars shape [] are once = tt
-conditions-in vars shape (f ∷ fs) are once =
-    (once f.variable are.0.there (or-left (f.variable == f.variable) _ (eq-eqb f.variable f.variable refl)), conditions-in vars shape fs are.1 (λ v below h. once v below (or-right (f.variable == v) _ h)))
-
 -- the number of the place without filters, and what the filters add
 abbrev pub dimension_number : Bool → List DimensionValue → (ℕ → ℕ) → ℕ
 dimension_number totals [] at = 0
@@ -77,14 +49,14 @@ abbrev pub filter_number : ℕ → List ConditionValue → (ℕ → ℕ) → ℕ
 filter_number places [] at = 0
 filter_number places (f ∷ fs) at = cond (slice_index_or f.passed (at f.variable) false) 0 places + filter_number places fs at
 
-sum-dimensions : (vars : List ℕ) (totals : Bool) (ds : List DimensionValue) (at : ℕ → ℕ) → DimensionsIn vars ds
+sum-dimensions : (vars : List ℕ) (totals : Bool) (ds : List DimensionValue) (at : ℕ → ℕ) → AllByRecursion (λ d. OnceIn vars d.variable) ds
     → sum_by (λ v. dimension_step totals ds v (at v)) vars ≡ dimension_number totals ds at
 sum-dimensions vars totals [] at h = sum_by-none vars
 sum-dimensions vars totals (d ∷ ds) at h =
     sum_by-add (λ v. cond (d.variable == v) (slice_index d.entries (at v) * product (map (entry_count totals) ds)) 0) (λ v. dimension_step totals ds v (at v)) vars
     ∙ rw (h.0 (λ v. slice_index d.entries (at v) * product (map (entry_count totals) ds)), sum-dimensions vars totals ds at h.1) refl
 
-sum-filters : (vars : List ℕ) (places : ℕ) (fs : List ConditionValue) (at : ℕ → ℕ) → ConditionsIn vars fs
+sum-filters : (vars : List ℕ) (places : ℕ) (fs : List ConditionValue) (at : ℕ → ℕ) → AllByRecursion (λ f. OnceIn vars f.variable) fs
     → sum_by (λ v. filter_step places fs v (at v)) vars ≡ filter_number places fs at
 sum-filters vars places [] at h = sum_by-none vars
 sum-filters vars places (f ∷ fs) at h =
@@ -92,37 +64,32 @@ sum-filters vars places (f ∷ fs) at h =
     ∙ rw (h.0 (λ v. cond (slice_index_or f.passed (at v) false) 0 places), sum-filters vars places fs at h.1) refl
 
 -- the steps of variables among which those of the plan are
-number-in : (plan : PlanValue) (vars : List ℕ) (at : ℕ → ℕ) → DimensionsIn vars plan.dimensions → ConditionsIn vars plan.filters
+number-in : (plan : PlanValue) (vars : List ℕ) (at : ℕ → ℕ) → EachUnder (OnceIn vars) plan
     → sum_by (λ v. step_at plan v (at v)) vars ≡ dimension_number plan.totals plan.dimensions at + filter_number (place_count plan) plan.filters at
-number-in plan vars at dimensions filters =
+number-in plan vars at once =
     sum_by-add (λ v. dimension_step plan.totals plan.dimensions v (at v)) (λ v. filter_step (place_count plan) plan.filters v (at v)) vars
-    ∙ rw (sum-dimensions vars plan.totals plan.dimensions at dimensions, sum-filters vars (place_count plan) plan.filters at filters) refl
+    ∙ rw (
+      sum-dimensions vars plan.totals plan.dimensions at once.dimensions,
+      sum-filters vars (place_count plan) plan.filters at
+          once.filters,
+    ) refl
 
 pub number-parts : (plan : PlanValue) (at : ℕ → ℕ) → IsPlan plan → number_at plan at ≡ dimension_number plan.totals plan.dimensions at + filter_number (place_count plan) plan.filters at
-number-parts plan at is =
-    let n : ℕ = length plan.shape in
-    number-in plan (vars_of plan) at
-    (dimensions-in (vars_of plan) plan.shape plan.dimensions is.dimensions (λ v below h. used-once (uses plan) n v below (or-left _ _ h)))
-    (conditions-in (vars_of plan) plan.shape plan.filters is.filters (λ v below h. used-once (uses plan) n v below (or-right _ _ h)))
+number-parts plan at is = number-in plan (vars_of plan) at
+    (each-under (OnceIn (vars_of plan)) plan is (λ v below used. used-once (uses plan) (length plan.shape) v below used))
 
 -- the same number from the steps of more variables
 pub number-wider : (plan : PlanValue) (vars : List ℕ) (at : ℕ → ℕ) → IsPlan plan → ((v : ℕ) → v < length plan.shape → uses plan v ≡ true → OnceIn vars v)
     → sum_by (λ v. step_at plan v (at v)) vars ≡ number_at plan at
-number-wider plan vars at is once =
-    number-in plan vars at
-    (dimensions-in vars plan.shape plan.dimensions is.dimensions (λ v below h. once v below (or-left _ _ h)))
-    (conditions-in vars plan.shape plan.filters is.filters (λ v below h. once v below (or-right _ _ h)))
-    ∙ sym (number-parts plan at is)
+number-wider plan vars at is once = number-in plan vars at (each-under (OnceIn vars) plan is once) ∙ sym (number-parts plan at is)
 
 -- the categories are those of the variables under these names
 abbrev pub AtNames : SchemaValue → (ℕ → ℕ) → List NameOf → Type 0
-AtNames schema at [] = Unit {0}
-AtNames schema at (of ∷ rest) = (at (base_of schema of) < slice_index (shape_of schema) (base_of schema of)) × AtNames schema at rest
+AtNames schema at names = AllByRecursion (λ of. at (base_of schema of) < slice_index (shape_of schema) (base_of schema of)) names
 
 -- each category is one of its name
 abbrev pub AllBelow : SchemaValue → (ℕ → ℕ) → List NameOf → Type 0
-AllBelow schema at [] = Unit {0}
-AllBelow schema at (of ∷ rest) = (category_of schema of at < category_count schema of) × AllBelow schema at rest
+AllBelow schema at names = AllByRecursion (λ of. category_of schema of at < category_count schema of) names
 
 pub sizes-plan_of : (schema : SchemaValue) (query : QueryValue) (of : List NameOf) → map (entry_count query.totals) (map (dimension_of schema) of) ≡ map (size_of schema query) of
 sizes-plan_of schema query [] = refl
@@ -167,14 +134,11 @@ is-last totals true k n h below = refl
 is-last false false k n h below = absurd (omega arith)
 is-last true false k n h below = eq-eqb k (n + 1 - 1) (omega arith)
 
-eq-turn : (a b : ℕ) → (a == b) ≡ (b == a)
-eq-turn a b = elim (eqb_tells a b) [ inl h ↦ rw (h.0, h.1, eq-eqb b b refl) refl | inr h ↦ rw (h.0, ne_eqb b a (λ e. h.1 (sym e))) refl ]
-
 covers-digit : (schema : SchemaValue) (totals : Bool) (of : NameOf) (k c : ℕ) → k < category_count schema of + cond totals 1 0
     → ((c == k) || (totals && (k == category_count schema of + cond totals 1 0 - 1))) ≡ covers (entry_at schema of k) c
 covers-digit schema totals of k c below =
     elim (cases_lt k (category_count schema of)) [
-      | inl h ↦ rw (lt-ltb k (category_count schema of) h) (not-last totals (c == k) k (category_count schema of) h ∙ eq-turn c k)
+      | inl h ↦ rw (lt-ltb k (category_count schema of) h) (not-last totals (c == k) k (category_count schema of) h ∙ eq-swap c k)
       | inr h ↦ rw (le-ltb k (category_count schema of) h) (is-last totals (c == k) k (category_count schema of) h below)
     ]
 
@@ -216,22 +180,27 @@ filters-fail schema places at (x ∷ xs) fits some =
     ] refl some
 
 -- categories lead into a place exactly where they belong to it
-pub reach : (schema : SchemaValue) (query : QueryValue) (at : ℕ → ℕ) (i : ℕ) → IsPlan (plan_of schema query) → AtNames schema at query.dimensions → AtNames schema at (map (λ f. f.of) query.filters)
+pub reach : (schema : SchemaValue) (query : QueryValue) (at : ℕ → ℕ) (i : ℕ) → IsPlan (plan_of schema query)
+    → EachNamed (λ v. at v < slice_index (shape_of schema) v) schema query
     → i < product (map (size_of schema query) query.dimensions)
     → (nat_lt (number_at (plan_of schema query) at) (product (map (size_of schema query) query.dimensions)) && under query.totals (map (size_of schema query) query.dimensions) i (number_at (plan_of schema query) at))
     ≡ belongs schema query (place_at schema query query.dimensions i) at
-reach schema query at i is dimensions filters below =
+reach schema query at i is fits below =
     let n : ℕ = product (map (size_of schema query) query.dimensions) in
-    let small = all-below schema at (shape_of schema) query.dimensions is.dimensions dimensions in
+    let small = all-below schema at (shape_of schema) query.dimensions is.dimensions fits.dimensions in
     let number : number_at (plan_of schema query) at ≡ place_number schema query query.dimensions at + filter_number (place_count (plan_of schema query)) (map (condition_of schema) query.filters) at =
-    number-parts (plan_of schema query) at is ∙ ap (λ k. k + filter_number (place_count (plan_of schema query)) (map (condition_of schema) query.filters) at) (number-plan_of schema query at query.dimensions dimensions) in
+    number-parts (plan_of schema query) at is ∙ ap
+    (λ k. k + filter_number (place_count (plan_of schema query)) (map (condition_of schema) query.filters) at)
+    (number-plan_of schema query at query.dimensions fits.dimensions) in
     let places : place_count (plan_of schema query) ≡ n = ap product (sizes-plan_of schema query query.dimensions) in
     let here : place_number schema query query.dimensions at < n = number-below schema query at query.dimensions small in
     elim (passes_all schema query at) as (λ b. passes_all schema query at ≡ b → (nat_lt (number_at (plan_of schema query) at) n && under query.totals (map (size_of schema query) query.dimensions) i (number_at (plan_of schema query) at)) ≡ (b && lies_in schema query.dimensions (place_at schema query query.dimensions i) at)) [
       | true ↦ λ h.
-          let same : number_at (plan_of schema query) at ≡ place_number schema query query.dimensions at = omega (arith, number, filters-pass schema (place_count (plan_of schema query)) at query.filters filters h) in
+          let same : number_at (plan_of schema query) at ≡ place_number schema query query.dimensions at = omega
+          (arith, number, filters-pass schema (place_count (plan_of schema query)) at query.filters fits.filters h) in
           rw (same, lt-ltb (place_number schema query query.dimensions at) n here) (under-lies_in schema query at query.dimensions i below small)
       | false ↦ λ h.
-          let past : n ≤ number_at (plan_of schema query) at = omega (arith, number, places, filters-fail schema (place_count (plan_of schema query)) at query.filters filters h) in
+          let past : n ≤ number_at (plan_of schema query) at = omega
+          (arith, number, places, filters-fail schema (place_count (plan_of schema query)) at query.filters fits.filters h) in
           rw (le-ltb (number_at (plan_of schema query) at) n past) refl
     ] refl

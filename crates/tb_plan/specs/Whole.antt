@@ -1,5 +1,6 @@
 -- What is true of each plan.
-use Rattle.std.specs.Prelude.{◌≡◌, ◌<◌, ◌≤◌, ℕ, List, [], ◌∷◌, length, slice_index}
+use Rattle.std.specs.Prelude.{◌≡◌, ◌<◌, ◌≤◌, ℕ, List, length, slice_index}
+use Rattle.std.specs.List.{AllByRecursion}
 use Rattle.tb_schema.specs.declared.limits.TheConstants.{MOST_VARIABLES}
 use Rattle.tb_query.specs.declared.limits.TheConstants.{MOST_DIMENSIONS, MOST_FILTERS}
 use Rattle.tb_query.specs.declared.limits.TheConstants.{MOST_PLACES}
@@ -19,12 +20,10 @@ pub record IsCondition (shape : List ℕ) (f : ConditionValue) : Type 0 where
 
 -- each of the dimensions, and each of the filters, is as above
 abbrev pub AreDimensions : List ℕ → List DimensionValue → Type 0
-AreDimensions shape [] = Unit {0}
-AreDimensions shape (d ∷ ds) = IsDimension shape d × AreDimensions shape ds
+AreDimensions shape ds = AllByRecursion (IsDimension shape) ds
 
 abbrev pub AreConditions : List ℕ → List ConditionValue → Type 0
-AreConditions shape [] = Unit {0}
-AreConditions shape (f ∷ fs) = IsCondition shape f × AreConditions shape fs
+AreConditions shape fs = AllByRecursion (IsCondition shape) fs
 
 -- the dimensions and filters are as above, and they, the variables and the places are not too many
 pub record IsPlan (plan : PlanValue) : Type 0 where

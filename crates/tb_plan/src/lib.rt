@@ -5,6 +5,10 @@
 //! `specs/Plans` (what a plan is seen as, by the definitions of `tb_model`), `specs/Steps` (the
 //! number of a record's place as a sum of one step for each variable) and `specs/Whole` (what is
 //! true of every plan).
+//!
+//! Lemmas: `proofs/Parts` (dimensions and filters, one by one), `Sets` (the variables that are
+//! used, in order); for the crates above also `Under` (what is true of each variable that is used)
+//! and `Places` (categories lead to the number of the place in which they lie).
 #![tactic(auto)]
 
 mod axes;

@@ -1,16 +1,14 @@
 // A query over a schema, worked out once.
 
-ghost use Rattle.std.specs.Prelude.{◌≡◌, ℕ, ◌<◌, ◌≤◌, IfOk, false, true, length, map};
-ghost use Rattle.std.specs.Prelude.{slice_index, slice_index_or};
+ghost use Rattle.std.specs.Prelude.{◌≡◌, ℕ, ◌<◌, ◌≤◌, IfOk, true, length, map, slice_index};
 ghost use Rattle.tb_grid.specs.declared.products.TheConstants.{MOST_CELLS};
 ghost use Rattle.tb_grid.specs.Totals.{AreTotals, WereTotals};
 ghost use Rattle.tb_model.specs.Places.{places_of};
 ghost use Rattle.tb_model.specs.RowMajor.{product};
 ghost use Rattle.tb_query.specs.Over.{IsOver};
 ghost use Rattle.tb_query.specs.declared.limits.TheConstants.{MOST_PLACES};
-ghost use Rattle.tb_plan.specs.Plans.{condition_at, cube_cells_of, dimension_at, entry_count};
-ghost use Rattle.tb_plan.specs.Plans.{place_count, plan_of, sizes as sizes_of, up_to, uses};
-ghost use Rattle.tb_plan.specs.Plans.{vars_of};
+ghost use Rattle.tb_plan.specs.Plans.{cube_cells_of, place_count, plan_of, sizes as sizes_of};
+ghost use Rattle.tb_plan.specs.Plans.{up_to, uses, vars_of};
 ghost use Rattle.tb_plan.specs.Whole.{IsPlan};
 ghost use Rattle.tb_plan.specs.Steps.{steps_of};
 
@@ -88,68 +86,11 @@ impl Plan {
         })
     }
 
-    /// How many dimensions there are.
-    pub fn dims(&self) -> usize
-        ensures count { result ≡ length self.now.dimensions }
-        ensures plan { IsPlan self.now }
-    {
-        self.axes.dims()
-    }
-
-    /// The variable under dimension `d`.
-    pub fn variable(&self, d: usize) -> u16
-        requires { d < length self.now.dimensions }
-        ensures { result ≡ (dimension_at self.now d).variable }
-    {
-        self.axes.variable(d)
-    }
-
-    /// How many entries dimension `d` has, Total counted.
-    pub fn size(&self, d: usize) -> usize
-        requires { d < length self.now.dimensions }
-        ensures { result ≡ entry_count self.now.totals (dimension_at self.now d) }
-    {
-        self.axes.size(d)
-    }
-
-    /// The category of dimension `d` for a category of its variable.
-    pub fn entry(&self, d: usize, value: u16) -> u16
-        requires dimension { d < length self.now.dimensions }
-        requires category { value < slice_index self.now.shape (dimension_at self.now d).variable }
-        ensures { result ≡ slice_index (dimension_at self.now d).entries value }
-    {
-        self.axes.entry(d, value)
-    }
-
     /// Whether the table has totals.
     pub fn totals(&self) -> bool
         ensures { result ≡ self.now.totals }
     {
         self.axes.totals()
-    }
-
-    /// How many filters there are.
-    pub fn filters(&self) -> usize
-        ensures { result ≡ length self.now.filters }
-    {
-        self.axes.filters()
-    }
-
-    /// The variable under filter `f`.
-    pub fn filter_variable(&self, f: usize) -> u16
-        requires { f < length self.now.filters }
-        ensures { result ≡ (condition_at self.now f).variable }
-    {
-        self.axes.filter_variable(f)
-    }
-
-    /// Whether a category of its variable passes filter `f`.
-    pub fn passes(&self, f: usize, value: u16) -> bool
-        requires filter { f < length self.now.filters }
-        requires category { value < slice_index self.now.shape (condition_at self.now f).variable }
-        ensures { result ≡ slice_index_or (condition_at self.now f).passed value false }
-    {
-        self.axes.passes(f, value)
     }
 
     /// The variables under the dimensions and filters.

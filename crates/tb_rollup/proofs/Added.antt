@@ -1,50 +1,33 @@
 -- Runs of cells that are added up, and the last variable of a roll-up.
-use Rattle.std.proofs.Common.{◌≡◌, ℕ, ◌+◌, ◌*◌, ◌%◌, ◌<◌, false, cond, Option, Some, None, List, [], ◌∷◌, length, drop, get_or, set, refl, ap, sym, ◌∙◌, inl, inr, arith}
+use Rattle.std.proofs.Common.{◌≡◌, ℕ, ◌+◌, ◌*◌, ◌%◌, ◌<◌, false, cond, Option, Some, None, List, [], ◌∷◌, length, drop, get_or, refl, ap, sym, ◌∙◌, arith}
 use Rattle.std.specs.Prelude.{◌==◌, slice_index, MatchOption}
 use Rattle.std.specs.Option.{IfSome}
 use Rattle.std.specs.List.{sum_by, range_with_len}
 use Rattle.std.proofs.Math.Nat.{mod-mod, mod-add-mod, add-mod-mod}
-use Rattle.std.proofs.lemmas.Bool.{ne_eqb}
-use Rattle.std.proofs.lemmas.Bool.Decides.{eqb_tells}
-use Rattle.std.proofs.lemmas.List.{drop_more, get_or-set_same, get_or-set_other}
+use Rattle.std.proofs.lemmas.List.{drop_more}
 use Rattle.std.proofs.lemmas.List.Sums.{sum_by-cons}
 use Rattle.std.proofs.lemmas.List.FromFn.{length-map-range_with_len, get_or-map-range_with_len}
 use Rattle.tb_base.specs.declared.cells.Cell.{Cell}
-use Rattle.tb_base.specs.Cells.{empty_cell}
-use Rattle.tb_grid.specs.Totals.{Part, part, part_at, modulus}
-use Rattle.tb_grid.specs.Totals.Part.{counts, keys}
+use Rattle.tb_base.proofs.PartLemmas.{add-more}
+use Rattle.tb_base.specs.Parts.{Part, part, modulus}
 use Rattle.tb_grid.proofs.Sums.{sum-range}
 use Rattle.tb_plan.specs.Plans.{PlanValue, uses}
 use Rattle.tb_plan.specs.Steps.{step_at, steps_of}
 use Rattle.tb_rollup.specs.Rolling.{spread, run_sum, runs_at, AreUnused, IsLast}
-use Rattle.tb_rollup.proofs.Spread.{count_of, spread-more, spread-unused, sum-next, add-more, no-step}
+use Rattle.tb_rollup.proofs.Spread.{count_of, spread-more, spread-unused, sum-next, no-step}
 
--- a cell to which a sum is added
-pub added-at : (p : Part) (cells : List Cell) (to i : ℕ) (new sum : Cell) (x : ℕ) → to < length cells
-    → part p new ≡ (part_at p cells to + part p sum) % modulus p → part p sum % modulus p ≡ x % modulus p
-    → part_at p (set cells to new) i % modulus p ≡ (part_at p cells i + cond (to == i) x 0) % modulus p
-added-at p cells to i new sum x below made is =
+-- a cell to which a cell with this sum is added
+pub sum-added : (p : Part) (old new sum : Cell) (x : ℕ) → part p new ≡ (part p old + part p sum) % modulus p
+    → part p sum % modulus p ≡ x % modulus p → part p new % modulus p ≡ (part p old + x) % modulus p
+sum-added p old new sum x made is =
     let k : ℕ = modulus p in
-    let old : ℕ = part_at p cells to in
-    let here : part p new % k ≡ (old + x) % k =
-    ap (λ y. y % k) made ∙ mod-mod (old + part p sum) k ∙ sym (add-mod-mod old (part p sum) k) ∙ ap (λ y. (old + y) % k) is ∙ add-mod-mod old x k in
-    elim (eqb_tells to i) [
-      | inl h ↦ rw (h.0, ← h.1, get_or-set_same cells to new empty_cell below) here
-      | inr h ↦ rw (h.0, get_or-set_other cells to i new empty_cell (λ e. h.1 (sym e))) (let e : part_at p cells i ≡ part_at p cells i + 0 = omega arith in ap (λ y. y % k) e)
-    ]
-
--- a run that leads past the cells
-pub past-at : (p : Part) (cells : List Cell) (to i x : ℕ) → i < to → part_at p cells i % modulus p ≡ (part_at p cells i + cond (to == i) x 0) % modulus p
-past-at p cells to i x past = rw (ne_eqb to i (λ e. omega (arith, e))) (let e : part_at p cells i ≡ part_at p cells i + 0 = omega arith in ap (λ y. y % modulus p) e)
+    ap (λ y. y % k) made ∙ mod-mod (part p old + part p sum) k ∙ sym (add-mod-mod (part p old) (part p sum) k) ∙ ap
+    (λ y. (part p old + y) % k) is ∙ add-mod-mod (part p old) x k
 
 -- one cell more of a run
 pub one-cell : (k s mid new x : ℕ) → mid % k ≡ s % k → new ≡ (mid + x) % k → new % k ≡ (s + x) % k
 one-cell k s mid new x h e =
     ap (λ y. y % k) e ∙ mod-mod (mid + x) k ∙ sym (mod-add-mod mid k x) ∙ ap (λ y. (y + x) % k) h ∙ mod-add-mod s k x
-
-pub empty-part : (p : Part) → part p empty_cell ≡ 0
-empty-part counts = refl
-empty-part keys = refl
 
 -- one run more
 pub one-run : (p : Part) (f : ℕ → ℕ) (old mid new : ℕ) (c : ℕ) → mid % modulus p ≡ (old + sum_by f (range_with_len 0 c)) % modulus p → new % modulus p ≡ (mid + f c) % modulus p

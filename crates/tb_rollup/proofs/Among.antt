@@ -1,5 +1,5 @@
 -- The variables of a cube, and its lists of categories.
-use Rattle.std.proofs.Common.{◌≡◌, ℕ, zero, suc, ◌+◌, ◌<◌, ◌≤◌, ◌&&◌, ◌||◌, Bool, true, false, cond, List, [], ◌∷◌, ◌++◌, length, map, get_or, refl, ap, sym, ◌∙◌, inl, inr, arith}
+use Rattle.std.proofs.Common.{◌≡◌, ℕ, zero, suc, ◌+◌, ◌<◌, ◌≤◌, ◌&&◌, Bool, true, false, cond, List, [], ◌∷◌, ◌++◌, length, map, get_or, refl, ap, sym, ◌∙◌, inl, inr, arith}
 use Rattle.std.specs.Prelude.{◌==◌, slice_index}
 use Rattle.std.specs.List.{sum_by, range_with_len, filter, list_any, list_all, flat_map, zip}
 use Rattle.std.specs.List.Sorted.{IsStrictlyIncreasing}
@@ -7,15 +7,10 @@ use Rattle.std.proofs.lemmas.Bool.{cases_eq, eq-eqb, ne_eqb, and_parts}
 use Rattle.std.proofs.lemmas.Bool.Decides.{eqb_tells}
 use Rattle.std.proofs.lemmas.List.Sums.{sum_by-cons}
 use Rattle.tb_base.specs.declared.cells.Cell.{Cell}
-use Rattle.tb_model.specs.declared.names.NameOf.{NameOf}
-use Rattle.tb_model.specs.declared.names.Filter.{Filter}
-use Rattle.tb_model.specs.Schemas.{SchemaValue, base_of, shape_of}
 use Rattle.tb_model.specs.Cubes.{category_lists, category_in}
-use Rattle.tb_model.proofs.CubeLemmas.{AllAmong}
-use Rattle.tb_plan.specs.Plans.{PlanValue, dimension_of, condition_of}
-use Rattle.tb_plan.specs.Whole.{AreDimensions, AreConditions}
+use Rattle.tb_plan.specs.Plans.{PlanValue}
 use Rattle.tb_plan.specs.Steps.{step_at}
-use Rattle.tb_plan.proofs.Places.{OnceIn, AtNames}
+use Rattle.tb_plan.proofs.Places.{OnceIn}
 use Rattle.tb_rollup.proofs.Zipped.{lead}
 
 abbrev pub NotIn : ℕ → List ℕ → Type 0
@@ -131,50 +126,8 @@ category-below shape (w ∷ ws) (c ∷ cs) v fits among =
       | inr h ↦ rw h.0 (category-below shape ws cs v fits.1 (rw h.0 at among))
     ]
 
-or-right : (a b : Bool) → b ≡ true → (a || b) ≡ true
-or-right true b h = refl
-or-right false b h = h
-
-or-left : (a b : Bool) → a ≡ true → (a || b) ≡ true
-or-left true b h = refl
-or-left false b h = cc
-
--- categories of all the variables that are used are categories under the names
-pub names-of-dimensions : (schema : SchemaValue) (at : ℕ → ℕ) (of : List NameOf) → AreDimensions (shape_of schema) (map (dimension_of schema) of)
-    → ((v : ℕ) → v < length (shape_of schema) → list_any (λ d. d.variable == v) (map (dimension_of schema) of) ≡ true → at v < slice_index (shape_of schema) v) → AtNames schema at of
-names-of-dimensions schema at [] are below = tt
-names-of-dimensions schema at (of ∷ rest) are below = (
-  below (base_of schema of) are.0.there (or-left (base_of schema of == base_of schema of) _ (eq-eqb (base_of schema of) (base_of schema of) refl)),
-  names-of-dimensions schema at rest are.1 (λ v there h. below v there (or-right (base_of schema of == v) _ h)),
-)
-
-pub names-of-filters : (schema : SchemaValue) (at : ℕ → ℕ) (fs : List Filter) → AreConditions (shape_of schema) (map (condition_of schema) fs)
-    → ((v : ℕ) → v < length (shape_of schema) → list_any (λ f. f.variable == v) (map (condition_of schema) fs) ≡ true → at v < slice_index (shape_of schema) v) → AtNames schema at (map (λ f. f.of) fs)
-names-of-filters schema at [] are below = tt
-names-of-filters schema at (x ∷ xs) are below = (
-  below (base_of schema x.of) are.0.there (or-left (base_of schema x.of == base_of schema x.of) _ (eq-eqb (base_of schema x.of) (base_of schema x.of) refl)),
-  names-of-filters schema at xs are.1 (λ v there h. below v there (or-right (base_of schema x.of == v) _ h)),
-)
-
 -- a sum over lists with their cells, by the lists that are there
 pub zip-ext : (P : List ℕ → Type 0) (f g : List ℕ × Cell → ℕ) (L : List (List ℕ)) (cells : List Cell) → AllLists P L → ((x : List ℕ) (c : Cell) → P x → f (x, c) ≡ g (x, c)) → sum_by f (zip L cells) ≡ sum_by g (zip L cells)
 zip-ext P f g [] cells all same = refl
 zip-ext P f g (x ∷ xs) [] all same = refl
 zip-ext P f g (x ∷ xs) (c ∷ cs) all same = rw (sum_by-cons f (x, c) (zip xs cs), sum_by-cons g (x, c) (zip xs cs), same x c all.0, zip-ext P f g xs cs all.1 same) refl
-
--- the variables under the names are among the cube's
-pub among-dimensions : (schema : SchemaValue) (vars : List ℕ) (of : List NameOf) → AreDimensions (shape_of schema) (map (dimension_of schema) of)
-    → ((v : ℕ) → v < length (shape_of schema) → list_any (λ d. d.variable == v) (map (dimension_of schema) of) ≡ true → list_any (λ w. w == v) vars ≡ true) → AllAmong schema vars of
-among-dimensions schema vars [] are there = tt
-among-dimensions schema vars (of ∷ rest) are there = (
-  there (base_of schema of) are.0.there (or-left (base_of schema of == base_of schema of) _ (eq-eqb (base_of schema of) (base_of schema of) refl)),
-  among-dimensions schema vars rest are.1 (λ v low h. there v low (or-right (base_of schema of == v) _ h)),
-)
-
-pub among-filters : (schema : SchemaValue) (vars : List ℕ) (fs : List Filter) → AreConditions (shape_of schema) (map (condition_of schema) fs)
-    → ((v : ℕ) → v < length (shape_of schema) → list_any (λ f. f.variable == v) (map (condition_of schema) fs) ≡ true → list_any (λ w. w == v) vars ≡ true) → AllAmong schema vars (map (λ f. f.of) fs)
-among-filters schema vars [] are there = tt
-among-filters schema vars (x ∷ xs) are there = (
-  there (base_of schema x.of) are.0.there (or-left (base_of schema x.of == base_of schema x.of) _ (eq-eqb (base_of schema x.of) (base_of schema x.of) refl)),
-  among-filters schema vars xs are.1 (λ v low h. there v low (or-right (base_of schema x.of == v) _ h)),
-)

@@ -1,6 +1,7 @@
-pub mod Spread
-pub mod Zipped
-pub mod Among
-pub mod Tables
 pub mod Added
+pub mod Among
+pub mod Descent
 pub mod Own
+pub mod Spread
+pub mod Tables
+pub mod Zipped

@@ -1,22 +1,18 @@
 -- What a caller knows of a cube over a plan's own variables.
-use Rattle.std.proofs.Common.{◌≡◌, ℕ, ◌<◌, ◌≤◌, ◌||◌, Bool, true, false, cond, Option, Some, None, List, [], ◌∷◌, ◌++◌, length, map, get_or, refl, subst, append_assoc, arith}
-use Rattle.std.specs.Prelude.{slice_index, All, nat_le}
+use Rattle.std.proofs.Common.{◌≡◌, ℕ, ◌<◌, ◌≤◌, Bool, true, false, cond, Some, None, List, [], ◌∷◌, ◌++◌, length, refl, subst, append_assoc, arith}
+use Rattle.std.specs.Prelude.{All, nat_le}
 use Rattle.std.specs.List.{list_all}
-use Rattle.std.proofs.lemmas.Bool.{eq-eqb, leb-true}
+use Rattle.std.proofs.lemmas.Bool.{eq-eqb, leb-true, or_right}
 use Rattle.std.proofs.lemmas.List.{get_or_default}
 use Rattle.tb_base.specs.Sets.{is_in, includes_all}
 use Rattle.tb_grid.specs.declared.products.TheConstants.{MOST_CELLS}
 use Rattle.tb_cube.specs.Cubes.{cell_count}
-use Rattle.tb_plan.specs.Plans.{PlanValue, cube_cells_of, up_to, uses, vars_of}
+use Rattle.tb_plan.specs.Plans.{PlanValue, cube_cells_of, uses, vars_of}
 use Rattle.tb_plan.proofs.Sets.{filter-below}
-
-or-right : (a b : Bool) → b ≡ true → (a || b) ≡ true
-or-right true b h = refl
-or-right false b h = h
 
 is_in-at : (pre : List ℕ) (x : ℕ) (rest : List ℕ) → is_in (pre ++ x ∷ rest) x ≡ true
 is_in-at [] x rest = rw (eq-eqb x x refl) refl
-is_in-at (p ∷ pre) x rest = or-right _ _ (is_in-at pre x rest)
+is_in-at (p ∷ pre) x rest = or_right _ _ (is_in-at pre x rest)
 
 all-in : (pre xs : List ℕ) → list_all (is_in (pre ++ xs)) xs ≡ true
 all-in pre [] = refl

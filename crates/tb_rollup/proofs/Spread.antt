@@ -1,8 +1,7 @@
 -- What the cells of a cube add at a number.
-use Rattle.std.proofs.Common.{◌≡◌, ℕ, zero, suc, ◌+◌, ◌*◌, ◌%◌, ◌<◌, ◌≤◌, ◌⊎◌, Bool, true, false, cond, List, [], ◌∷◌, length, drop, get_or, refl, ap, sym, subst, ◌∙◌, inl, inr, arith}
+use Rattle.std.proofs.Common.{◌≡◌, ℕ, zero, suc, ◌+◌, ◌*◌, ◌<◌, ◌≤◌, ◌⊎◌, Bool, true, false, cond, List, [], ◌∷◌, length, drop, get_or, refl, ap, sym, subst, ◌∙◌, inl, inr, arith}
 use Rattle.std.specs.Prelude.{◌==◌, slice_index}
 use Rattle.std.specs.List.{sum_by, range_with_len, list_any}
-use Rattle.std.proofs.Math.Nat.{mod-add-mod}
 use Rattle.std.proofs.lemmas.Bool.{ne_eqb, or_parts}
 use Rattle.std.proofs.lemmas.List.{drop_more}
 use Rattle.std.proofs.lemmas.List.Sums.{sum_by-cons}
@@ -99,12 +98,6 @@ spread-unused plan (v ∷ vs) f k base i unused =
       | false ↦ sum_by-none (range_with_len 0 n)
     ]
 
--- one more category: what it adds, and what a category past all places adds
-pub add-more : (k old mid new s x : ℕ) → mid % k ≡ (old + s) % k → new % k ≡ (mid + x) % k → new % k ≡ (old + (s + x)) % k
-add-more k old mid new s x h e =
-    let turn : old + s + x ≡ old + (s + x) = omega arith in
-    e ∙ sym (mod-add-mod mid k x) ∙ ap (λ y. (y + x) % k) h ∙ mod-add-mod (old + s) k x ∙ ap (λ y. y % k) turn
-
 zero-factor : (n m : ℕ) → n * m ≡ 0 → (n ≡ 0) ⊎ (m ≡ 0)
 zero-factor zero m h = inl refl
 zero-factor (suc n) m h = inr (omega (arith, h, at-least (suc n) m (omega arith)))
@@ -160,29 +153,6 @@ pub level-at : (plan : PlanValue) (vars : List ℕ) (j k long v n : ℕ) → j <
     → v ≡ get_or vars j 0 → n ≡ slice_index plan.shape v → Level plan vars j k long v n
 level-at plan vars j k long v n below some whole e count =
     subst (λ (s : ℕ). Level plan vars j k long v s) (sym count) (subst (λ (w : ℕ). Level plan vars j k long w (slice_index plan.shape w)) (sym e) (level plan vars j k long below some whole))
-
--- the sums of a loop over the categories of a variable
-pub one-category : (plan : PlanValue) (vs : List ℕ) (f : ℕ → ℕ) (k n base v c i m old mid new : ℕ) → mid % m ≡ (old + sum_by (λ e. spread plan vs f (k * n + e) (base + step_at plan v e) i) (range_with_len 0 c)) % m
-    → new % m ≡ (mid + spread plan vs f (k * n + c) (base + step_at plan v c) i) % m
-    → new % m ≡ (old + sum_by (λ e. spread plan vs f (k * n + e) (base + step_at plan v e) i) (range_with_len 0 (c + 1))) % m
-one-category plan vs f k n base v c i m old mid new h e =
-    let g : ℕ → ℕ = λ e. spread plan vs f (k * n + e) (base + step_at plan v e) i in
-    add-more m old mid new (sum_by g (range_with_len 0 c)) (g c) h e ∙ ap (λ s. (old + s) % m) (sym (sum-next g c))
-
--- nothing is added
-pub nothing : (m old x : ℕ) → x ≡ 0 → old % m ≡ (old + x) % m
-nothing m old x none = let e : old ≡ old + x = omega arith in ap (λ y. y % m) e
-
-pub all-categories : (plan : PlanValue) (vars : List ℕ) (f : ℕ → ℕ) (j k n base v c i m old new long : ℕ) → Level plan vars j k long v n → c ≡ n
-    → new % m ≡ (old + sum_by (λ e. spread plan (drop (j + 1) vars) f (k * n + e) (base + step_at plan v e) i) (range_with_len 0 c)) % m
-    → new % m ≡ (old + spread plan (drop j vars) f k base i) % m
-all-categories plan vars f j k n base v c i m old new long at done h =
-    let vs : List ℕ = drop (j + 1) vars in
-    let whole : spread plan (drop j vars) f k base i ≡ sum_by (λ e. spread plan vs f (k * n + e) (base + step_at plan v e) i) (range_with_len 0 c) =
-    ap (λ xs. spread plan xs f k base i) at.is ∙ spread-more plan v vs f k base i
-    ∙ ap (λ x. sum_by (λ e. spread plan vs f (k * x + e) (base + step_at plan v e) i) (range_with_len 0 x)) (sym at.size)
-    ∙ ap (λ x. sum_by (λ e. spread plan vs f (k * n + e) (base + step_at plan v e) i) (range_with_len 0 x)) (sym done) in
-    h ∙ ap (λ s. (old + s) % m) (sym whole)
 
 -- the last variables of a cube with cells make no more cells
 pub suffix-some : (plan : PlanValue) (vars : List ℕ) (j : ℕ) → 0 < count_of plan vars → 0 < count_of plan (drop j vars)

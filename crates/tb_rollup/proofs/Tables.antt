@@ -1,13 +1,11 @@
 -- The cells of a table from what a cube adds at each number.
-use Rattle.std.proofs.Common.{◌≡◌, ℕ, ◌+◌, ◌%◌, ◌^◌, ◌<◌, ◌≤◌, ◌&&◌, ◌||◌, Bool, true, false, cond, List, [], ◌∷◌, length, map, replicate, get_or, refl, ap, sym, subst, ◌∙◌, inl, inr, arith}
-use Rattle.std.specs.Prelude.{◌==◌, nat_lt, All}
-use Rattle.std.specs.List.{sum_by, filter, zip}
+use Rattle.std.proofs.Common.{◌≡◌, ℕ, ◌+◌, ◌%◌, ◌^◌, ◌<◌, ◌≤◌, ◌&&◌, Bool, true, false, cond, List, [], ◌∷◌, length, map, replicate, get_or, ap, sym, subst, ◌∙◌, arith}
+use Rattle.std.specs.Prelude.{◌==◌, nat_lt, slice_index, All}
+use Rattle.std.specs.List.{sum_by, filter, list_any, zip}
 use Rattle.std.proofs.Math.Nat.{mod-eq_of_lt}
-use Rattle.std.proofs.lemmas.Bool.{cases_lt, lt-ltb, le-ltb, ne_eqb}
 use Rattle.std.proofs.lemmas.List.{length-map, length-replicate, get_or-map, get_or-replicate, ext_get_or}
 use Rattle.std.proofs.lemmas.List.Sums.{sum_by-cons}
 use Rattle.tb_base.specs.declared.cells.Cell.{Cell}
-use Rattle.tb_base.specs.declared.cells.TheConstants.{KEY_RANGE}
 use Rattle.tb_base.specs.declared.people.TheConstants.{MOST_PERSONS}
 use Rattle.tb_base.specs.Cells.{empty_cell}
 use Rattle.tb_base.specs.Sets.{is_in, includes_all}
@@ -20,53 +18,30 @@ use Rattle.tb_model.specs.Cubes.{category_lists, category_in, cube_of, merged_wh
 use Rattle.tb_model.proofs.CubeLemmas.{rolled_up-cube_of}
 use Rattle.tb_cube.proofs.Grid.{all-fit}
 use Rattle.tb_model.specs.RowMajor.{product}
-use Rattle.tb_model.proofs.SumLemmas.{sum_by-ext, sum_by-map, sum_by-filter}
+use Rattle.tb_model.proofs.SumLemmas.{sum_by-map, sum_by-filter}
 use Rattle.tb_model.proofs.TableLemmas.{size_of, place_at, length-places, get_or-places}
-use Rattle.tb_grid.specs.Totals.{Part, part, part_at, modulus, total_at}
-use Rattle.tb_grid.specs.Totals.Part.{counts, keys}
-use Rattle.tb_grid.proofs.Sums.{under, under-alone, total-ext, total-sum, total-number, total-same-mod}
+use Rattle.tb_base.specs.Parts.{Part, part, part_at, modulus}
+use Rattle.tb_grid.specs.Totals.{total_at}
+use Rattle.tb_base.specs.Parts.Part.{counts, keys}
+use Rattle.tb_base.proofs.PartLemmas.{same-cell}
+use Rattle.tb_grid.proofs.Reached.{plain-value, reached, total-value}
+use Rattle.tb_grid.proofs.Sums.{total-zero, under}
 use Rattle.tb_cube.specs.Cubes.{CubeValue, IsWhole}
 use Rattle.tb_plan.specs.Plans.{PlanValue, plan_of, place_count, sizes, uses, vars_of}
 use Rattle.tb_plan.specs.Whole.{IsPlan}
 use Rattle.tb_plan.specs.Steps.{number_at}
 use Rattle.tb_plan.proofs.Places.{number-wider, reach, sizes-plan_of}
 use Rattle.tb_plan.proofs.Parts.{place_count-plan_of}
+use Rattle.tb_plan.proofs.Under.{each-named}
 use Rattle.tb_rollup.specs.Rolling.{spread}
 use Rattle.tb_rollup.proofs.Spread.{count_of}
 use Rattle.tb_rollup.proofs.Zipped.{lead, spread-zip}
-use Rattle.tb_rollup.proofs.Among.{Distinct, distinct, FitsList, once-in, all-range, lists-fit, lead-steps, category-below, names-of-dimensions, names-of-filters, zip-ext, among-dimensions, among-filters}
-
-or-right : (a b : Bool) → b ≡ true → (a || b) ≡ true
-or-right true b h = refl
-or-right false b h = h
-
-or-left : (a b : Bool) → a ≡ true → (a || b) ≡ true
-or-left true b h = refl
-or-left false b h = cc
-
--- with no totals a number reaches the place with that number alone
-alone : (ns : List ℕ) (w i x : ℕ) → i < product ns → cond (x == i) w 0 ≡ cond (nat_lt x (product ns) && under false ns i x) w 0
-alone ns w i x below =
-    elim (cases_lt x (product ns)) [
-      | inl h ↦ rw (lt-ltb x (product ns) h, under-alone ns i x below h) refl
-      | inr h ↦ rw (le-ltb x (product ns) h, ne_eqb x i (λ e. omega (arith, e))) refl
-    ]
+use Rattle.tb_rollup.proofs.Among.{Distinct, distinct, FitsList, once-in, all-range, lists-fit, lead-steps, category-below, zip-ext}
 
 -- what a cube adds at a place of the table
 abbrev pub reached_sum : PlanValue → Bool → List ℕ → List ℕ → Part → List Cell → ℕ → ℕ
-reached_sum plan totals ns vars p cells i = sum_by (λ q. cond (nat_lt (lead plan vars q.0) (product ns) && under totals ns i (lead plan vars q.0)) (part p q.1) 0) (zip (category_lists plan.shape vars) cells)
-
-pub without-totals : (plan : PlanValue) (ns vars : List ℕ) (p : Part) (cells : List Cell) (i : ℕ) → i < product ns → length cells ≡ count_of plan vars → spread plan vars (part_at p cells) 0 0 i ≡ reached_sum plan false ns vars p cells i
-without-totals plan ns vars p cells i below long =
-    spread-zip plan vars p cells i long ∙ sum_by-ext _ _ (zip (category_lists plan.shape vars) cells) (λ q. alone ns (part p q.1) i (lead plan vars q.0) below)
-
-pub with-totals : (plan : PlanValue) (ns vars : List ℕ) (p : Part) (cells : List Cell) (i : ℕ) → i < product ns → length cells ≡ count_of plan vars → total_at ns (λ j. spread plan vars (part_at p cells) 0 0 j) i ≡ reached_sum plan true ns vars p cells i
-with-totals plan ns vars p cells i below long =
-    let pairs : List (List ℕ × Cell) = zip (category_lists plan.shape vars) cells in
-    let f : List ℕ × Cell → ℕ → ℕ = λ q j. cond (lead plan vars q.0 == j) (part p q.1) 0 in
-    total-ext ns (λ j. spread plan vars (part_at p cells) 0 0 j) (λ j. sum_by (λ q. f q j) pairs) i below (λ j _. spread-zip plan vars p cells j long)
-    ∙ total-sum ns f pairs i below
-    ∙ sum_by-ext (λ q. total_at ns (f q) i) _ pairs (λ q. total-number ns (part p q.1) i (lead plan vars q.0) below)
+reached_sum plan totals ns vars p cells i = reached totals ns (λ q. lead plan vars q.0) (λ q. part p q.1)
+    (zip (category_lists plan.shape vars) cells) i
 
 -- a cube's list reaches a place exactly where its categories belong to it
 reaches : (schema : SchemaValue) (query : QueryValue) (vars cs : List ℕ) (i : ℕ) → IsPlan (plan_of schema query) → Distinct vars → includes_all vars (vars_of (plan_of schema query)) ≡ true → FitsList (shape_of schema) vars cs
@@ -80,9 +55,9 @@ reaches schema query vars cs i is apart among fits below =
     let there : (v : ℕ) → v < length (shape_of schema) → uses plan v ≡ true → is_in vars v ≡ true = λ v low used. all-range (is_in vars) (uses plan) 0 (length (shape_of schema)) v among (omega arith) (omega arith) used in
     let number : lead plan vars cs ≡ number_at plan at =
     lead-steps plan (shape_of schema) vars cs fits apart ∙ number-wider plan vars at is (λ v low used. once-in vars v apart (there v low used)) in
-    let dimensions = names-of-dimensions schema at query.dimensions is.dimensions (λ v low h. category-below (shape_of schema) vars cs v fits (there v low (or-left _ _ h))) in
-    let filters = names-of-filters schema at query.filters is.filters (λ v low h. category-below (shape_of schema) vars cs v fits (there v low (or-right _ _ h))) in
-    ap (λ x. nat_lt x (product ns) && under query.totals ns i x) number ∙ reach schema query at i is dimensions filters below
+    let named = each-named (λ v. at v < slice_index (shape_of schema) v) schema query is
+    (λ v low used. category-below (shape_of schema) vars cs v fits (there v low used)) in
+    ap (λ x. nat_lt x (product ns) && under query.totals ns i x) number ∙ reach schema query at i is named below
 
 -- the counts that pass a test are no more than all
 counted : (test : (ℕ → ℕ) → Bool) (vars : List ℕ) (L : List (List ℕ)) (cells : List Cell) → sum_by (λ (q : List ℕ × Cell). cond (test (category_in vars q.0)) q.1.count 0) (zip L cells) ≤ sum_by (λ c. c.count) cells
@@ -105,12 +80,9 @@ part-merged counts test shape vars cells few =
     whole ∙ sym (mod-eq_of_lt small)
 part-merged keys test shape vars cells few =
     let pairs : List (List ℕ × Cell) = zip (category_lists shape vars) cells in
-    ap (λ s. s % KEY_RANGE) (sum_by-map (λ (c : Cell). c.key) (λ (q : List ℕ × Cell). q.1) (filter (λ (q : List ℕ × Cell). test (category_in vars q.0)) pairs) ∙ sum_by-filter (λ (q : List ℕ × Cell). q.1.key) (λ (q : List ℕ × Cell). test (category_in vars q.0)) pairs)
-
-same-cell : (x y : Cell) → ((p : Part) → part p x ≡ part p y) → x ≡ y
-same-cell x y same =
-    let made : ℕ → ℕ → Cell = λ n m. record { count = n; key = m } in
-    ap (λ n. made n x.key) (same counts) ∙ ap (λ m. made y.count m) (same keys)
+    ap (λ s. s % modulus keys) (sum_by-map (λ (c : Cell). c.key) (λ (q : List ℕ × Cell). q.1)
+    (filter (λ (q : List ℕ × Cell). test (category_in vars q.0)) pairs) ∙ sum_by-filter (λ (q : List ℕ × Cell). q.1.key)
+    (λ (q : List ℕ × Cell). test (category_in vars q.0)) pairs)
 
 -- a table's cells are rolled up, where each part is what the cube adds at its place
 pub rolled : (schema : SchemaValue) (query : QueryValue) (vars : List ℕ) (cube cells : List Cell) → IsPlan (plan_of schema query) → Distinct vars → includes_all vars (vars_of (plan_of schema query)) ≡ true
@@ -132,22 +104,36 @@ rolled schema query vars cube cells is apart among few long value =
     ∙ sym (ap (part p) here ∙ part-merged p (belongs schema query (place_at schema query query.dimensions i)) (shape_of schema) vars cube (omega (arith, few)))))
 
 -- the part of a cell, after the cube was rolled into empty cells, without totals and with them
-pub plain-value : (plan : PlanValue) (totals : Bool) (ns vars : List ℕ) (p : Part) (cube : List Cell) (i old new : ℕ) → totals ≡ false → i < product ns → length cube ≡ count_of plan vars → old ≡ 0
-    → new % modulus p ≡ (old + spread plan vars (part_at p cube) 0 0 i) % modulus p → new < modulus p → new ≡ reached_sum plan totals ns vars p cube i % modulus p
-plain-value plan totals ns vars p cube i old new none below long empty made small =
-    let drop-old : old + spread plan vars (part_at p cube) 0 0 i ≡ spread plan vars (part_at p cube) 0 0 i = omega arith in
-    sym (mod-eq_of_lt small) ∙ made ∙ ap (λ x. x % modulus p) (drop-old ∙ without-totals plan ns vars p cube i below long ∙ ap (λ t. reached_sum plan t ns vars p cube i) (sym none))
+module _ (plan : PlanValue) (totals : Bool) (ns vars : List ℕ) (p : Part) (cube : List Cell) (long : length cube ≡ count_of plan vars)
+    (i : ℕ) (below : i < product ns) where
+  abbrev pairs : List (List ℕ × Cell)
+  pairs = zip (category_lists plan.shape vars) cube
 
-pub total-value : (plan : PlanValue) (totals : Bool) (ns vars : List ℕ) (p : Part) (cube : List Cell) (i new : ℕ) (old mid : ℕ → ℕ) → totals ≡ true → i < product ns → length cube ≡ count_of plan vars → ((j : ℕ) → j < product ns → old j ≡ 0)
-    → ((j : ℕ) → j < product ns → mid j % modulus p ≡ (old j + spread plan vars (part_at p cube) 0 0 j) % modulus p)
-    → new % modulus p ≡ total_at ns mid i % modulus p → new < modulus p → new ≡ reached_sum plan totals ns vars p cube i % modulus p
-total-value plan totals ns vars p cube i new old mid some below long empty made totalled small =
-    sym (mod-eq_of_lt small) ∙ totalled
-    ∙ total-same-mod ns mid (λ j. spread plan vars (part_at p cube) 0 0 j) (modulus p) i below (λ j low.
-    let gone = empty j low in
-    let drop-old : old j + spread plan vars (part_at p cube) 0 0 j ≡ spread plan vars (part_at p cube) 0 0 j = omega arith in
-    made j low ∙ ap (λ x. x % modulus p) drop-old)
-    ∙ ap (λ x. x % modulus p) (with-totals plan ns vars p cube i below long ∙ ap (λ t. reached_sum plan t ns vars p cube i) (sym some))
+  abbrev number : List ℕ × Cell → ℕ
+  number q = lead plan vars q.0
+
+  abbrev adds : List ℕ × Cell → ℕ
+  adds q = part p q.1
+
+  empty : 0 + reached totals ns number adds pairs i ≡ reached totals ns number adds pairs i
+  empty = omega arith
+
+  pub plain-part : (old new : ℕ) → totals ≡ false → old ≡ 0 → new % modulus p ≡ (old + spread plan vars (part_at p cube) 0 0 i) % modulus p
+      → new < modulus p → new ≡ reached_sum plan totals ns vars p cube i % modulus p
+  plain-part old new none zero made small =
+      plain-value ns number adds pairs i below totals (modulus p) 0 new none
+      (made ∙ ap (λ x. (x + spread plan vars (part_at p cube) 0 0 i) % modulus p) zero ∙ ap (λ x. (0 + x) % modulus p)
+      (spread-zip plan vars p cube i long)) small
+      ∙ ap (λ x. x % modulus p) empty
+
+  pub total-part : (new : ℕ) (old mid : ℕ → ℕ) → totals ≡ true → ((j : ℕ) → j < product ns → old j ≡ 0)
+      → ((j : ℕ) → j < product ns → mid j % modulus p ≡ (old j + spread plan vars (part_at p cube) 0 0 j) % modulus p)
+      → new % modulus p ≡ total_at ns mid i % modulus p → new < modulus p → new ≡ reached_sum plan totals ns vars p cube i % modulus p
+  total-part new old mid some zero made totalled small =
+      total-value ns number adds pairs i below totals (modulus p) 0 new (λ _. 0) mid some (ap (λ x. x % modulus p) (sym (total-zero ns i)))
+      (λ j low. made j low ∙ ap (λ x. (x + spread plan vars (part_at p cube) 0 0 j) % modulus p) (zero j low) ∙ ap
+      (λ x. (0 + x) % modulus p) (spread-zip plan vars p cube j long)) totalled small
+      ∙ ap (λ x. x % modulus p) empty
 
 -- the same over any schema and query of which this is the plan
 pub rolled-plan : (plan : PlanValue) (cube : CubeValue) (cells : List Cell) → IsPlan plan → IsWhole cube → cube.shape ≡ plan.shape → includes_all cube.vars (vars_of plan) ≡ true
@@ -173,8 +159,8 @@ counted-plan plan cube cells is whole shape among rolled schema query records e 
     let law : rolled_up schema query cube.shape cube.vars (cube_of cube.shape cube.vars records) ≡ cells_of schema query records =
     subst P (sym e) (λ is' there'.
     rolled_up-cube_of schema query cube.shape cube.vars records (all-fit cube.shape cube.vars records whole.there fit)
-    (among-dimensions schema cube.vars query.dimensions is'.dimensions (λ v low h. there' v low (or-left _ _ h)))
-    (among-filters schema cube.vars query.filters is'.filters (λ v low h. there' v low (or-right _ _ h)))) is there in
+    (each-named (λ v. list_any (λ w. w == v) cube.vars ≡ true) schema query is' there').dimensions
+    (each-named (λ v. list_any (λ w. w == v) cube.vars ≡ true) schema query is' there').filters) is there in
     rolled schema query e ∙ ap (rolled_up schema query cube.shape cube.vars) from ∙ law
 
 -- as many empty cells as there are places are all empty

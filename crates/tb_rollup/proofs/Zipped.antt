@@ -7,7 +7,7 @@ use Rattle.std.proofs.lemmas.List.Sums.{sum_by-cons}
 use Rattle.tb_base.specs.declared.cells.Cell.{Cell}
 use Rattle.tb_model.specs.Cubes.{category_lists}
 use Rattle.tb_model.proofs.SumLemmas.{sum_by-ext}
-use Rattle.tb_grid.specs.Totals.{Part, part, part_at}
+use Rattle.tb_base.specs.Parts.{Part, part, part_at}
 use Rattle.tb_cube.proofs.Grid.{length-lists}
 use Rattle.tb_plan.specs.Plans.{PlanValue}
 use Rattle.tb_plan.specs.Steps.{step_at}

@@ -1,23 +1,12 @@
 // Runs of a cube's cells, added to the cells of a table.
 
 ghost use Rattle.std.specs.Prelude.{◌≡◌, ℕ, ◌+◌, ◌*◌, ◌%◌, ◌<◌, ◌≤◌, ◌^◌, length};
-ghost use Rattle.tb_grid.specs.Totals.{modulus, part, part_at, Part};
+ghost use Rattle.tb_base.specs.Parts.{modulus, part, part_at, Part};
 ghost use Rattle.tb_grid.specs.declared.products.TheConstants.{MOST_CELLS};
 ghost use Rattle.tb_query.specs.declared.limits.TheConstants.{MOST_PLACES};
 ghost use Rattle.tb_rollup.specs.Rolling.{run_sum, runs_at};
 
 use tb_base::Cell;
-use tb_grid::plus;
-
-// Adds a cell to another. The two numbers are changed apart, so the unused bytes of a cell aren't
-// written.
-#[inline]
-fn add(cell: &mut Cell, more: Cell)
-    ensures { (p : Part) → part p cell.new ≡ (part p cell.old + part p more) % modulus p }
-{
-    cell.count = cell.count.wrapping_add(more.count);
-    cell.key = cell.key.wrapping_add(more.key);
-}
 
 // The cell of a run of cells' records.
 #[inline]
@@ -29,7 +18,7 @@ fn sum_of(all: &[Cell], from: usize, run: usize) -> Cell
 {
     let mut sum = Cell::empty();
     for r in 0..run {
-        sum = plus(sum, all[from + r]);
+        sum.add(all[from + r]);
     }
     sum
 }
@@ -49,7 +38,8 @@ fn add_cells(all: &[Cell], from: usize, steps: &[u32], base: usize, cells: &mut 
     for c in 0..steps.len() {
         let to = base + steps[c] as usize;
         if to < cells.len() {
-            add(&mut cells[to], all[from + c]);
+            let more = all[from + c];
+            cells[to].add(more);
         }
     }
 }
@@ -79,7 +69,7 @@ pub fn add_runs(
     for c in 0..steps.len() {
         let to = base + steps[c] as usize;
         if to < cells.len() {
-            add(&mut cells[to], sum_of(all, from + c * run, run));
+            cells[to].add(sum_of(all, from + c * run, run));
         }
     }
 }

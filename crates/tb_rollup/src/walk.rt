@@ -11,7 +11,7 @@ ghost use Rattle.tb_base.specs.Cells.{empty_cell};
 ghost use Rattle.tb_base.specs.Records.{AllFit};
 ghost use Rattle.tb_base.specs.Sets.{includes_all};
 ghost use Rattle.tb_cube.specs.Cubes.{Holds};
-ghost use Rattle.tb_grid.specs.Totals.{modulus, part_at, Part};
+ghost use Rattle.tb_base.specs.Parts.{modulus, part_at, Part};
 ghost use Rattle.tb_model.specs.Cubes.{rolled_up};
 ghost use Rattle.tb_model.specs.Places.{cells_of};
 ghost use Rattle.tb_model.specs.Queries.{QueryValue};
@@ -22,9 +22,9 @@ ghost use Rattle.tb_query.specs.declared.limits.TheConstants.{MOST_PLACES};
 ghost use Rattle.tb_rollup.specs.Rolling.{spread, AreUnused, IsLast, Stands};
 
 use crate::runs::add_runs;
-use tb_base::Cell;
+use tb_base::{Cell, know_cells};
 use tb_cube::Cube;
-use tb_grid::{cells_over, know_cells};
+use tb_grid::cells_over;
 use tb_plan::Plan;
 
 /// The last variable of a cube that a plan uses: its place among the cube's variables, the steps of

@@ -1,38 +1,34 @@
 -- Cells that hold some records.
-use Rattle.std.proofs.Common.{◌≡◌, ℕ, ◌+◌, ◌%◌, ◌^◌, ◌<◌, ◌≤◌, Bool, cond, List, [], ◌++◌, length, map, get_or, replicate, refl, ap, sym, subst, ◌∙◌, arith}
+use Rattle.std.proofs.Common.{◌≡◌, ℕ, ◌+◌, ◌%◌, ◌<◌, ◌≤◌, Bool, cond, List, [], ◌++◌, length, map, get_or, replicate, ap, sym, subst, ◌∙◌, arith}
 use Rattle.std.specs.Prelude.{All, ◌==◌}
 use Rattle.std.specs.List.{sum_by, filter}
-use Rattle.std.proofs.Math.Nat.{mod-eq_of_lt, mod-add-mod}
+use Rattle.std.proofs.Math.Nat.{mod-add-mod}
 use Rattle.std.proofs.lemmas.Nat.{mod_below}
 use Rattle.std.proofs.lemmas.List.{length-map, get_or-map, get_or-replicate, length-replicate, ext_get_or}
 use Rattle.std.proofs.lemmas.List.Sums.{sum_by-append}
 use Rattle.tb_base.specs.declared.cells.Cell.{Cell}
-use Rattle.tb_base.specs.declared.cells.TheConstants.{KEY_RANGE}
 use Rattle.tb_base.specs.declared.people.TheConstants.{MOST_PERSONS}
 use Rattle.tb_base.specs.declared.records.Record.{Record}
 use Rattle.tb_base.specs.Cells.{empty_cell, cell_of}
 use Rattle.tb_base.specs.Records.{category_at, Fits}
 use Rattle.tb_base.proofs.CellLemmas.{count-le-length}
+use Rattle.tb_base.proofs.PartLemmas.{empty-part, part-small, same-cell}
 use Rattle.tb_model.specs.Schemas.{SchemaValue, shape_of}
 use Rattle.tb_model.specs.Queries.{QueryValue}
 use Rattle.tb_model.specs.Places.{Place, places_of, belongs, own_records, cells_of}
 use Rattle.tb_model.specs.RowMajor.{product}
 use Rattle.tb_model.proofs.TableLemmas.{size_of, place_at, length-places, get_or-places}
-use Rattle.tb_grid.specs.Totals.{Part, part, part_at, modulus}
-use Rattle.tb_grid.specs.Totals.Part.{counts, keys}
+use Rattle.tb_base.specs.Parts.{modulus, part, part_at, weight, Part}
+use Rattle.tb_base.specs.Parts.Part.{counts, keys}
 use Rattle.tb_plan.specs.Plans.{PlanValue, plan_of, place_count, sizes}
 use Rattle.tb_plan.specs.Steps.{number_at}
 use Rattle.tb_plan.specs.Whole.{IsPlan}
 use Rattle.tb_plan.proofs.Places.{sizes-plan_of}
 use Rattle.tb_plan.proofs.Parts.{place_count-plan_of}
-use Rattle.tb_scan.specs.Scanning.{weight, added, ArePut, Hold}
-use Rattle.tb_scan.proofs.Scans.{belonging, part-of, reached_by, same-cell}
+use Rattle.tb_scan.specs.Scanning.{added, ArePut, Hold}
+use Rattle.tb_scan.proofs.Scans.{belonging, part-of, reached_by}
 
 -- empty cells hold no record
-empty-part : (p : Part) → part p empty_cell ≡ 0
-empty-part counts = refl
-empty-part keys = refl
-
 pub hold-nothing : (plan : PlanValue) (n : ℕ) → Hold plan (replicate n empty_cell) []
 hold-nothing plan n p i below =
     let low : i < n = omega (arith, below, length-replicate n empty_cell) in
@@ -46,7 +42,7 @@ room-empty n k few i d below =
 
 -- cells that held some records hold these too
 added-append : (plan : PlanValue) (p : Part) (xs ys : List Record) (i : ℕ) → added plan p (xs ++ ys) i ≡ added plan p xs i + added plan p ys i
-added-append plan p xs ys i = sum_by-append (λ r. cond (number_at plan (category_at r) == i) (weight p r) 0) xs ys
+added-append plan p xs ys i = sum_by-append (λ r. cond (number_at plan (category_at r) == i) (weight p r.key) 0) xs ys
 
 pub hold-more : (plan : PlanValue) (old new : List Cell) (before piece : List Record) → length new ≡ length old → ArePut plan old piece new → Hold plan old before → Hold plan new (before ++ piece)
 hold-more plan old new before piece long put held p i below =
@@ -55,11 +51,6 @@ hold-more plan old new before piece long put held p i below =
     let x : ℕ = added plan p before i in
     let y : ℕ = added plan p piece i in
     put p i low ∙ sym (mod-add-mod (part_at p old i) k y) ∙ ap (λ s. (s + y) % k) (held p i low) ∙ mod-add-mod x k y ∙ ap (λ s. s % k) (sym (added-append plan p before piece i))
-
--- a part of a cell that is small is itself modulo its modulus
-part-small : (p : Part) (c : Cell) → c.count < 2 ^ 32 → c.key < KEY_RANGE → part p c % modulus p ≡ part p c
-part-small counts c few small = mod-eq_of_lt few
-part-small keys c few small = mod-eq_of_lt small
 
 -- cells whose parts are what the records add are the table's cells
 pub counted : (schema : SchemaValue) (query : QueryValue) (rs : List Record) (new : List Cell) → IsPlan (plan_of schema query) → All (Fits (shape_of schema)) rs → length new ≡ length (places_of schema query)
@@ -74,8 +65,9 @@ counted schema query rs new is fit long few value =
     let place : Place = place_at schema query query.dimensions i in
     let test : Record → Bool = λ r. belongs schema query place (category_at r) in
     let here : get_or (cells_of schema query rs) i empty_cell ≡ cell_of_place place = get_or-map cell_of_place (places_of schema query) i [] empty_cell inside ∙ ap cell_of_place (get_or-places schema query i [] low) in
-    let small : (cell_of_place place).count < 2 ^ 32 = omega (arith, few, count-le-length test rs) in
-    let key : (cell_of_place place).key < KEY_RANGE = mod_below (sum_by (λ (r : Record). r.key) (filter test rs)) KEY_RANGE (omega arith) in
+    let small : (cell_of_place place).count < modulus counts = omega (arith, few, count-le-length test rs) in
+    let key : (cell_of_place place).key < modulus keys = mod_below (sum_by (λ (r : Record). r.key) (filter test rs)) (modulus keys)
+    (omega arith) in
     same-cell (get_or new i empty_cell) (get_or (cells_of schema query rs) i empty_cell) (λ p.
     let reached : ℕ = reached_by (plan_of schema query) query.totals (map (size_of schema query) query.dimensions) p rs i in
     let plain : 0 + reached ≡ reached = omega arith in

@@ -1,11 +1,10 @@
 -- The steps of the variables that a plan uses.
-use Rattle.std.proofs.Common.{◌≡◌, ℕ, ◌+◌, ◌<◌, true, List, [], ◌∷◌, length, get_or, ap, sym, subst, ◌∙◌, arith}
+use Rattle.std.proofs.Common.{◌≡◌, ℕ, ◌+◌, ◌<◌, true, List, length, get_or, ap, ◌∙◌, arith}
 use Rattle.std.specs.Prelude.{slice_index}
-use Rattle.std.specs.List.{sum_by}
-use Rattle.std.proofs.lemmas.List.Sums.{sum_by-cons}
 use Rattle.std.proofs.lemmas.List.FromFn.{length-map-range_with_len, get_or-map-range_with_len}
 use Rattle.tb_base.specs.declared.records.Record.{Record}
-use Rattle.tb_base.specs.Records.{category_at, AllFit, Fits}
+use Rattle.tb_base.specs.Records.{category_at, Fits}
+use Rattle.tb_grid.proofs.Sums.{sum-one, sum-three, sum-two}
 use Rattle.tb_plan.specs.Plans.{PlanValue, uses, vars_of}
 use Rattle.tb_plan.specs.Steps.{step_at, steps_of, number_at}
 use Rattle.tb_plan.proofs.Sets.{filter-below, filter-passes}
@@ -42,32 +41,17 @@ has-step plan steps v r made below fits =
           ∙ get_or-map-range_with_len (step_at plan v) 0 (slice_index plan.shape v) (category_at r v) (category_at r v) 0 (fits.below v below) (omega arith);
     }
 
-sum-one : (f : ℕ → ℕ) (xs : List ℕ) → length xs ≡ 1 → f (get_or xs 0 0) ≡ sum_by f xs
-sum-one f [] e = absurd (omega (arith, e))
-sum-one f (x ∷ []) e = let z : f x + 0 ≡ f x = omega arith in sym (sum_by-cons f x [] ∙ z)
-sum-one f (x ∷ y ∷ ys) e = absurd (omega (arith, e))
-
-sum-two : (f : ℕ → ℕ) (xs : List ℕ) → length xs ≡ 2 → f (get_or xs 0 0) + f (get_or xs 1 0) ≡ sum_by f xs
-sum-two f [] e = absurd (omega (arith, e))
-sum-two f (x ∷ ys) e = ap (λ s. f x + s) (sum-one f ys (omega (arith, e))) ∙ sym (sum_by-cons f x ys)
-
-sum-three : (f : ℕ → ℕ) (xs : List ℕ) → length xs ≡ 3 → f (get_or xs 0 0) + f (get_or xs 1 0) + f (get_or xs 2 0) ≡ sum_by f xs
-sum-three f [] e = absurd (omega (arith, e))
-sum-three f (x ∷ ys) e =
-    let turn : f x + f (get_or ys 0 0) + f (get_or ys 1 0) ≡ f x + (f (get_or ys 0 0) + f (get_or ys 1 0)) = omega arith in
-    turn ∙ ap (λ s. f x + s) (sum-two f ys (omega (arith, e))) ∙ sym (sum_by-cons f x ys)
-
 -- the number of a record by the steps of one variable, of two and of three
 pub number-one : (plan : PlanValue) (at : ℕ → ℕ) (v step : ℕ) → length (vars_of plan) ≡ 1 → v ≡ get_or (vars_of plan) 0 0 → step ≡ step_at plan v (at v) → step ≡ number_at plan at
 number-one plan at v step long is made =
     let f : ℕ → ℕ = λ w. step_at plan w (at w) in
-    made ∙ ap f is ∙ sum-one f (vars_of plan) long
+    made ∙ ap f is ∙ sum-one f (vars_of plan) 0 long
 
 pub number-two : (plan : PlanValue) (at : ℕ → ℕ) (v w step more : ℕ) → length (vars_of plan) ≡ 2 → v ≡ get_or (vars_of plan) 0 0 → w ≡ get_or (vars_of plan) 1 0
     → step ≡ step_at plan v (at v) → more ≡ step_at plan w (at w) → step + more ≡ number_at plan at
 number-two plan at v w step more long is is' made made' =
     let f : ℕ → ℕ = λ x. step_at plan x (at x) in
-    ap (λ x. x + more) (made ∙ ap f is) ∙ ap (λ x. f (get_or (vars_of plan) 0 0) + x) (made' ∙ ap f is') ∙ sum-two f (vars_of plan) long
+    ap (λ x. x + more) (made ∙ ap f is) ∙ ap (λ x. f (get_or (vars_of plan) 0 0) + x) (made' ∙ ap f is') ∙ sum-two f (vars_of plan) 0 long
 
 pub number-three : (plan : PlanValue) (at : ℕ → ℕ) (v w x step more last : ℕ) → length (vars_of plan) ≡ 3
     → v ≡ get_or (vars_of plan) 0 0 → w ≡ get_or (vars_of plan) 1 0 → x ≡ get_or (vars_of plan) 2 0
@@ -76,4 +60,5 @@ number-three plan at v w x step more last long is is' is'' made made' made'' =
     let f : ℕ → ℕ = λ y. step_at plan y (at y) in
     let a : ℕ = f (get_or (vars_of plan) 0 0) in
     let b : ℕ = f (get_or (vars_of plan) 1 0) in
-    ap (λ y. y + more + last) (made ∙ ap f is) ∙ ap (λ y. a + y + last) (made' ∙ ap f is') ∙ ap (λ y. a + b + y) (made'' ∙ ap f is'') ∙ sum-three f (vars_of plan) long
+    ap (λ y. y + more + last) (made ∙ ap f is) ∙ ap (λ y. a + y + last) (made' ∙ ap f is') ∙ ap (λ y. a + b + y) (made'' ∙ ap f is'')
+    ∙ sum-three f (vars_of plan) 0 long

@@ -4,20 +4,14 @@ use Rattle.std.specs.List.{sum_by}
 use Rattle.tb_base.specs.declared.cells.Cell.{Cell}
 use Rattle.tb_base.specs.declared.records.Record.{Record}
 use Rattle.tb_base.specs.Records.{category_at}
-use Rattle.tb_grid.specs.Totals.{Part, modulus, part_at}
-use Rattle.tb_grid.specs.Totals.Part.{counts, keys}
+use Rattle.tb_base.specs.Parts.{modulus, part_at, weight, Part}
 use Rattle.tb_plan.specs.Plans.{PlanValue}
 use Rattle.tb_plan.specs.Steps.{number_at}
-
--- what a record adds to each part of its cell: one, and its key
-abbrev pub weight : Part → Record → ℕ
-weight counts r = 1
-weight keys r = r.key
 
 -- what records add at the number of a place: those that lead there
 abbrev pub added : PlanValue → Part → List Record → ℕ → ℕ
 added plan p records i =
-    sum_by (λ r. cond (number_at plan (category_at r) == i) (weight p r) 0) records
+    sum_by (λ r. cond (number_at plan (category_at r) == i) (weight p r.key) 0) records
 
 -- the new cells are the old ones with these records, each put in at its place without Total
 abbrev pub ArePut : PlanValue → List Cell → List Record → List Cell → Type 0

@@ -5,6 +5,9 @@
 //! `empty_cells`, calls `put_all` for each piece and `put_totals` once at the end. Its contracts
 //! cite `Places.cells_of` of `tb_model` (a table's cells, counted from scratch) and here
 //! `specs/Scanning` (what records add at a place without Total).
+//!
+//! Lemmas: `proofs/Scans` (the cells of a table from what records add at each number), `Holding`
+//! (cells that hold some records) and `Used` (the steps of the variables that a plan uses).
 #![tactic(auto)]
 
 mod put;

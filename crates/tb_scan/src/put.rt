@@ -5,33 +5,23 @@ ghost use Rattle.std.specs.Prelude.{◌≡◌, ℕ, List, ◌+◌, ◌++◌, ◌
 ghost use Rattle.std.specs.Prelude.{◌==◌, ◌^◌};
 ghost use Rattle.tb_base.specs.declared.records.Record.{Record as AnyRecord};
 ghost use Rattle.tb_base.specs.Records.{category_at, AllFit, Fits};
-ghost use Rattle.tb_grid.specs.Totals.{modulus, part, part_at, Part};
+ghost use Rattle.tb_base.specs.Parts.{modulus, part_at, weight, Part};
 ghost use Rattle.tb_plan.specs.Plans.{vars_of};
 ghost use Rattle.tb_plan.specs.Steps.{number_at, step_at, steps_of};
-ghost use Rattle.tb_scan.specs.Scanning.{weight, ArePut, Hold};
+ghost use Rattle.tb_scan.specs.Scanning.{ArePut, Hold};
 
 use tb_base::{Cell, Record};
 use tb_plan::Plan;
-
-// Counts a record in a cell. The two numbers are changed apart: a whole cell that is stored has some
-// unused bytes, which take time too.
-#[inline]
-fn count_in(cell: &mut Cell, one: &Record)
-    ensures { (p : Part) → part p cell.new ≡ (part p cell.old + weight p one.now) % modulus p }
-{
-    cell.count = cell.count.wrapping_add(1);
-    cell.key = cell.key.wrapping_add(one.key);
-}
 
 // Puts a record into the cell of a number; past the cells it does nothing.
 #[inline]
 fn put_at(cells: &mut [Cell], number: usize, one: &Record)
     ensures { (p : Part) (i : ℕ) → i < length cells.old
         → part_at p cells.new i % modulus p
-        ≡ (part_at p cells.old i + cond (number == i) (weight p one.now) 0) % modulus p }
+        ≡ (part_at p cells.old i + cond (number == i) (weight p one.now.key) 0) % modulus p }
 {
     if number < cells.len() {
-        count_in(&mut cells[number], one);
+        cells[number].put(one.key);
     }
 }
 

@@ -13,8 +13,7 @@ ghost use Rattle.tb_scan.specs.Scanning.{Hold};
 
 use crate::put::put_all;
 use std::alloc::Global;
-use tb_base::{Cell, Memory, Record};
-use tb_grid::know_cells;
+use tb_base::{Cell, Memory, Record, know_cells};
 use tb_plan::Plan;
 
 /// The cells of no record, one for each place of the table. It takes memory for them alone.

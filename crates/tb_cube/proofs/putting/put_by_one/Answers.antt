@@ -1,35 +1,36 @@
-use Rattle.std.proofs.Common.{◌≡◌, ℕ, ◌*◌, ◌<◌, length, ◌∙◌, arith}
-use Rattle.tb_base.specs.Records.{category_at}
-use Rattle.tb_cube.specs.declared.axes.Axis.{Axis}
-use Rattle.tb_cube.specs.Axes.{number_by, LeadsBelow}
-use Rattle.tb_cube.proofs.Grid.{no_axis, sum-one}
-use Rattle.tb_cube.proofs.Adding.{at-item, turn}
+use Rattle.std.proofs.Common.{length, arith}
+use Rattle.tb_cube.specs.Axes.{LeadsBelow}
+use Rattle.tb_cube.proofs.Grid.{no_axis}
+use Rattle.tb_cube.proofs.Adding.{at-item, number-one, turn}
 use Rattle.tb_cube.proofs.putting.put_by_one.Goals as goal
 
 pub offset_of-by_v-requires : goal.offset_of-by_v-requires
-offset_of-by_v-requires c =
-    let lead = at-item (LeadsBelow (length c.args.cells.now) c.args.axes.now) c.args.piece.now c.loop-one.one-index c.one-item.result c.requires.lead c.loop-one-test.true c.one-item.is in
-    lead.there 0 no_axis (omega (arith, c.requires.axes))
+offset_of-by_v-requires c = (at-item (LeadsBelow (length c.args.cells.now) c.args.axes.now) c.args.piece.now c.loop-one.one-index
+    c.one-item.result c.requires.lead c.loop-one-test.true c.one-item.is).there 0 no_axis (omega (arith, c.requires.axes))
 
 pub offset_bounds-cells-by_v : goal.offset_bounds-cells-by_v
-offset_bounds-cells-by_v c =
-    let lead = at-item (LeadsBelow (length c.args.cells.now) c.args.axes.now) c.args.piece.now c.loop-one.one-index c.one-item.result c.requires.lead c.loop-one-test.true c.one-item.is in
-    let g : Axis → ℕ = λ a. category_at c.one-item.result a.variable * a.stride in
-    let number : c.offset_of-by_v.result ≡ number_by c.args.axes.now (category_at c.one-item.result) = c.offset_of-by_v.ensures ∙ sum-one g c.args.axes.now no_axis c.requires.axes in
-    omega (arith, lead.low, number, c.requires.few)
+offset_bounds-cells-by_v c = omega (
+  arith,
+  (number-one c.args.axes.now c.args.cells.now c.loop-one.cells c.args.piece.now
+      c.loop-one.one-index c.one-item.result c.requires.lead c.loop-one-test.true c.one-item.is c.loop-one.auto.cells c.offset_of-by_v.result
+      c.requires.axes c.offset_of-by_v.ensures).there,
+  c.requires.few,
+  c.loop-one.auto.cells,
+)
 
 pub bounds-cells-by_v : goal.bounds-cells-by_v
-bounds-cells-by_v c =
-    let lead = at-item (LeadsBelow (length c.args.cells.now) c.args.axes.now) c.args.piece.now c.loop-one.one-index c.one-item.result c.requires.lead c.loop-one-test.true c.one-item.is in
-    let g : Axis → ℕ = λ a. category_at c.one-item.result a.variable * a.stride in
-    let number : c.offset_of-by_v.result ≡ number_by c.args.axes.now (category_at c.one-item.result) = c.offset_of-by_v.ensures ∙ sum-one g c.args.axes.now no_axis c.requires.axes in
-    omega (arith, lead.low, number, c.loop-one.auto.cells)
+bounds-cells-by_v c = omega (
+  arith,
+  (number-one c.args.axes.now c.args.cells.now c.loop-one.cells c.args.piece.now c.loop-one.one-index
+      c.one-item.result c.requires.lead c.loop-one-test.true c.one-item.is c.loop-one.auto.cells c.offset_of-by_v.result c.requires.axes
+      c.offset_of-by_v.ensures).there,
+)
 
 pub loop-one-preserved : goal.loop-one-preserved
 loop-one-preserved c =
-    let lead = at-item (LeadsBelow (length c.args.cells.now) c.args.axes.now) c.args.piece.now c.loop-one.one-index c.one-item.result c.requires.lead c.loop-one-test.true c.one-item.is in
-    let g : Axis → ℕ = λ a. category_at c.one-item.result a.variable * a.stride in
-    let number : c.offset_of-by_v.result ≡ number_by c.args.axes.now (category_at c.one-item.result) = c.offset_of-by_v.ensures ∙ sum-one g c.args.axes.now no_axis c.requires.axes in
-    let within : c.offset_of-by_v.result < length c.loop-one.cells = omega (arith, lead.low, number, c.loop-one.auto.cells) in
-    let next = turn c.args.axes.now c.args.cells.now c.loop-one.cells c.args.piece.now c.loop-one.one-index (c.offset_of-by_v.result) c.one-item.result c.put.new.self c.loop-one-test.true c.one-item.is number within c.loop-one.invariant.with_them c.loop-one.invariant.room c.put.ensures in
+    let next = turn c.args.axes.now c.args.cells.now c.loop-one.cells c.args.piece.now c.loop-one.one-index (c.offset_of-by_v.result)
+    c.one-item.result c.put.new.self c.loop-one-test.true c.one-item.is
+    (number-one c.args.axes.now c.args.cells.now c.loop-one.cells c.args.piece.now c.loop-one.one-index c.one-item.result c.requires.lead
+    c.loop-one-test.true c.one-item.is c.loop-one.auto.cells c.offset_of-by_v.result c.requires.axes c.offset_of-by_v.ensures)
+    c.loop-one.invariant.with_them c.loop-one.invariant.room c.put.ensures.exact in
     record { with_them = next.with_them; room = next.room }

@@ -2,9 +2,10 @@ use Rattle.std.proofs.Common.{ℕ, List, ◌+◌, ◌*◌, ◌%◌, ◌<◌, len
 use Rattle.std.specs.Prelude.{◌==◌, slice_index}
 use Rattle.tb_base.specs.declared.cells.Cell.{Cell}
 use Rattle.tb_base.specs.Cells.{empty_cell}
-use Rattle.tb_grid.specs.Totals.{part_at, modulus}
+use Rattle.tb_base.specs.Parts.{part_at, modulus}
 use Rattle.tb_rollup.specs.Rolling.{run_sum}
-use Rattle.tb_rollup.proofs.Added.{added-at, one-run, past-at, run-one}
+use Rattle.tb_base.proofs.PartLemmas.{added-at, past-at}
+use Rattle.tb_rollup.proofs.Added.{one-run, run-one, sum-added}
 use Rattle.tb_rollup.proofs.runs.add_cells.Goals as goal
 use Rattle.tb_rollup.proofs.runs.add_cells.Goals.{then-to-cells, else-to-cells}
 
@@ -18,7 +19,10 @@ loop-c-preserved c = λ p i below.
     (elim c.if-to-cells.branch [
       | then-to-cells w ↦
           ap (λ (cells : List Cell). part_at p cells i % modulus p) w.cells-is
-          ∙ added-at p c.loop-c.cells (to c.loop-c.c) i w.add.new.cell (get_or c.args.all.now (c.args.from + c.loop-c.c) empty_cell) (sum c.loop-c.c) w.if-to-cells.true (w.add.ensures p) (ap (λ x. x % modulus p) (run-one f c.args.from c.loop-c.c))
+          ∙ added-at p c.loop-c.cells (to c.loop-c.c) i w.add.new.self (sum c.loop-c.c) w.if-to-cells.true
+          (sum-added p (get_or c.loop-c.cells (to c.loop-c.c) empty_cell) w.add.new.self
+          (get_or c.args.all.now (c.args.from + c.loop-c.c) empty_cell) (sum c.loop-c.c) (w.add.ensures.parts p)
+          (ap (λ x. x % modulus p) (run-one f c.args.from c.loop-c.c)))
       | else-to-cells w ↦
           ap (λ (cells : List Cell). part_at p cells i % modulus p) w.cells-is
           ∙ past-at p c.loop-c.cells (to c.loop-c.c) i (sum c.loop-c.c) (omega (arith, before, w.if-to-cells.false))

@@ -1,7 +1,7 @@
 use Rattle.std.proofs.Common.{◌≡◌, ℕ, ◌+◌, ◌*◌, ◌%◌, ◌<◌, cond, length}
 use Rattle.std.specs.Prelude.{◌==◌, slice_index}
 use Rattle.std.specs.List.{sum_by, range_with_len}
-use Rattle.tb_grid.specs.Totals.{Part, part_at, modulus}
+use Rattle.tb_base.specs.Parts.{Part, part_at, modulus}
 use Rattle.tb_rollup.specs.Rolling.{run_sum}
 use Rattle.tb_rollup.proofs.runs.add_cells.Given as goal
 

@@ -1,10 +1,12 @@
-use Rattle.std.proofs.Common.{ℕ, List, ◌+◌, ◌*◌, ◌%◌, ◌<◌, ◌≤◌, length, cond, ap, sym, ◌∙◌, arith}
+use Rattle.std.proofs.Common.{ℕ, List, ◌+◌, ◌*◌, ◌%◌, ◌<◌, ◌≤◌, length, get_or, cond, ap, sym, ◌∙◌, arith}
 use Rattle.std.specs.Prelude.{◌==◌, slice_index}
 use Rattle.std.proofs.lemmas.Nat.{mul-le}
 use Rattle.tb_base.specs.declared.cells.Cell.{Cell}
-use Rattle.tb_grid.specs.Totals.{part_at, modulus}
+use Rattle.tb_base.specs.Cells.{empty_cell}
+use Rattle.tb_base.specs.Parts.{part_at, modulus}
 use Rattle.tb_rollup.specs.Rolling.{run_sum, runs_at}
-use Rattle.tb_rollup.proofs.Added.{added-at, one-run, past-at}
+use Rattle.tb_base.proofs.PartLemmas.{added-at, past-at}
+use Rattle.tb_rollup.proofs.Added.{one-run, sum-added}
 use Rattle.tb_rollup.proofs.runs.add_runs.Goals as goal
 use Rattle.tb_rollup.proofs.runs.add_runs.Goals.{then-to-cells, else-to-cells}
 
@@ -18,7 +20,9 @@ loop-c-preserved c = λ p i below.
     (elim c.if-to-cells.branch [
       | then-to-cells w ↦
           ap (λ (cells : List Cell). part_at p cells i % modulus p) w.cells-is
-          ∙ added-at p c.loop-c.cells (to c.loop-c.c) i w.add.new.cell w.sum_of.result (sum c.loop-c.c) w.if-to-cells.true (w.add.ensures p) (w.sum_of.ensures p)
+          ∙ added-at p c.loop-c.cells (to c.loop-c.c) i w.add.new.self (sum c.loop-c.c) w.if-to-cells.true
+          (sum-added p (get_or c.loop-c.cells (to c.loop-c.c) empty_cell) w.add.new.self w.sum_of.result (sum c.loop-c.c)
+          (w.add.ensures.parts p) (w.sum_of.ensures p))
       | else-to-cells w ↦
           ap (λ (cells : List Cell). part_at p cells i % modulus p) w.cells-is
           ∙ past-at p c.loop-c.cells (to c.loop-c.c) i (sum c.loop-c.c) (omega (arith, before, w.if-to-cells.false))

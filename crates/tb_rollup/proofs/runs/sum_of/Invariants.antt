@@ -1,5 +1,5 @@
 use Rattle.std.proofs.Common.{◌≡◌, ◌%◌}
-use Rattle.tb_grid.specs.Totals.{Part, part, part_at, modulus}
+use Rattle.tb_base.specs.Parts.{Part, part, part_at, modulus}
 use Rattle.tb_rollup.specs.Rolling.{run_sum}
 use Rattle.tb_rollup.proofs.runs.sum_of.Given as goal
 

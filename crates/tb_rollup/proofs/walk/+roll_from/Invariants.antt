@@ -1,6 +1,6 @@
 use Rattle.std.proofs.Common.{◌≡◌, ℕ, ◌+◌, ◌-◌, ◌*◌, ◌%◌, ◌<◌, length, drop}
 use Rattle.std.specs.List.{sum_by, range_with_len}
-use Rattle.tb_grid.specs.Totals.{Part, part_at, modulus}
+use Rattle.tb_base.specs.Parts.{Part, part_at, modulus}
 use Rattle.tb_plan.specs.Steps.{step_at}
 use Rattle.tb_rollup.specs.Rolling.{spread}
 use Rattle.tb_rollup.proofs.walk.+roll_from.Given as goal

@@ -1,11 +1,12 @@
 use Rattle.std.proofs.Common.{◌≡◌, ℕ, List, ◌+◌, ◌-◌, ◌%◌, ◌<◌, [], ◌∷◌, length, drop, get_or, ap, sym, ◌∙◌, arith}
 use Rattle.tb_base.specs.declared.cells.Cell.{Cell}
 use Rattle.tb_cube.specs.Cubes.{cell_count}
-use Rattle.tb_grid.specs.Totals.{part_at, modulus}
+use Rattle.tb_base.specs.Parts.{part_at, modulus}
 use Rattle.tb_grid.specs.Products.{cells_over}
 use Rattle.tb_plan.specs.Steps.{steps_of}
 use Rattle.tb_rollup.specs.Rolling.{runs_at, AreUnused}
-use Rattle.tb_rollup.proofs.Spread.{count_of, spread-none, suffix-le, nothing}
+use Rattle.tb_base.proofs.PartLemmas.{nothing}
+use Rattle.tb_rollup.proofs.Spread.{count_of, spread-none, suffix-le}
 use Rattle.tb_rollup.proofs.Added.{whole-run}
 use Rattle.tb_rollup.proofs.walk.roll.Goals as goal
 

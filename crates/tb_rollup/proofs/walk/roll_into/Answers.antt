@@ -3,13 +3,13 @@ use Rattle.std.specs.Prelude.{slice_index}
 use Rattle.tb_base.specs.declared.cells.Cell.{Cell}
 use Rattle.tb_base.specs.Cells.{empty_cell}
 use Rattle.tb_model.specs.RowMajor.{product}
-use Rattle.tb_grid.specs.Totals.{Part, part, part_at, modulus}
+use Rattle.tb_base.specs.Parts.{Part, part, part_at, modulus}
 use Rattle.tb_grid.proofs.Factors.{product-some}
 use Rattle.tb_plan.specs.Plans.{sizes}
 use Rattle.tb_plan.proofs.Parts.{sizes-some}
 use Rattle.tb_rollup.proofs.Spread.{count_of}
-use Rattle.tb_rollup.proofs.Added.{empty-part}
-use Rattle.tb_rollup.proofs.Tables.{rolled-plan, counted-plan, plain-value, total-value}
+use Rattle.tb_base.proofs.PartLemmas.{empty-part}
+use Rattle.tb_rollup.proofs.Tables.{counted-plan, plain-part, rolled-plan, total-part}
 use Rattle.tb_rollup.proofs.walk.roll_into.Goals as goal
 use Rattle.tb_rollup.proofs.walk.roll_into.Goals.{then-totals, else-totals}
 
@@ -33,12 +33,14 @@ returns-clause-rolled c =
           let totals : c.args.plan.now.totals ≡ true = sym c.totals.ensures ∙ w.if-totals.true in
           let within : (j : ℕ) → j < product ns → j < length c.args.cells.now = λ j h. omega (arith, h, c.requires.long) in
           let there : i < length c.roll.new.cells = omega (arith, before, c.roll.auto.cells) in
-          total-value c.args.plan.now c.args.plan.now.totals ns c.args.cube.now.vars p c.args.cube.now.cells i (part_at p c.if-totals.cells i) (part_at p c.args.cells.now) (part_at p c.roll.new.cells) totals low count
+          total-part c.args.plan.now c.args.plan.now.totals ns c.args.cube.now.vars p c.args.cube.now.cells count i low
+          (part_at p c.if-totals.cells i) (part_at p c.args.cells.now) (part_at p c.roll.new.cells) totals
           (λ j h. none p j (within j h)) (λ j h. c.roll.ensures p j (within j h))
           (ap (λ (cells : List Cell). part_at p cells i % modulus p) w.cells-is ∙ w.add_totals.ensures p i there) small
       | else-totals w ↦
           let totals : c.args.plan.now.totals ≡ false = sym c.totals.ensures ∙ w.if-totals.false in
-          plain-value c.args.plan.now c.args.plan.now.totals ns c.args.cube.now.vars p c.args.cube.now.cells i (part_at p c.args.cells.now i) (part_at p c.if-totals.cells i) totals low count
+          plain-part c.args.plan.now c.args.plan.now.totals ns c.args.cube.now.vars p c.args.cube.now.cells count i low
+          (part_at p c.args.cells.now i) (part_at p c.if-totals.cells i) totals
           (none p i before) (ap (λ (cells : List Cell). part_at p cells i % modulus p) w.cells-is ∙ c.roll.ensures p i before) small
     ])
 

@@ -1,6 +1,6 @@
 use Rattle.std.proofs.Common.{List, ◌+◌, ◌*◌, ◌%◌, ◌≤◌, length, ap, sym, subst, ◌∙◌, arith}
 use Rattle.tb_base.specs.declared.cells.Cell.{Cell}
-use Rattle.tb_grid.specs.Totals.{part_at, modulus}
+use Rattle.tb_base.specs.Parts.{part_at, modulus}
 use Rattle.tb_rollup.specs.Rolling.{runs_at}
 use Rattle.tb_rollup.proofs.Added.{last-runs}
 use Rattle.tb_rollup.proofs.walk.roll_last.Goals as goal

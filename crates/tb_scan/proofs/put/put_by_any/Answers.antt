@@ -1,5 +1,5 @@
-use Rattle.std.proofs.Common.{ℕ, ◌<◌, length, arith}
-use Rattle.tb_grid.specs.Totals.{part_at}
+use Rattle.std.proofs.Common.{◌<◌, length, arith}
+use Rattle.tb_base.specs.Parts.{part_at}
 use Rattle.tb_scan.proofs.Scans.{put-more}
 use Rattle.tb_scan.proofs.put.put_by_any.Goals as goal
 

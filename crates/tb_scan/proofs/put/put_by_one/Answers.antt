@@ -1,6 +1,6 @@
-use Rattle.std.proofs.Common.{◌≡◌, ℕ, ◌+◌, ◌<◌, length, arith}
+use Rattle.std.proofs.Common.{◌<◌, length, arith}
 use Rattle.tb_base.specs.Records.{category_at}
-use Rattle.tb_grid.specs.Totals.{part_at}
+use Rattle.tb_base.specs.Parts.{part_at}
 use Rattle.tb_scan.proofs.Scans.{put-more}
 use Rattle.tb_scan.proofs.Used.{number-one}
 use Rattle.tb_scan.proofs.put.put_by_one.Goals as goal

@@ -1,4 +1,4 @@
-use Rattle.std.proofs.Common.{◌≡◌, get_or, ap, ◌∙◌, arith}
+use Rattle.std.proofs.Common.{get_or, ap, ◌∙◌, arith}
 use Rattle.tb_scan.proofs.Used.{has-step}
 use Rattle.tb_scan.proofs.put.step_of.Goals as goal
 

@@ -1,4 +1,3 @@
-use Rattle.std.proofs.Common.{◌≡◌, sym, ◌∙◌}
 use Rattle.tb_scan.proofs.Used.{is-used}
 use Rattle.tb_scan.proofs.put.used.Goals as goal
 

@@ -1,10 +1,11 @@
 use Rattle.std.proofs.Common.{◌≡◌, ℕ, List, true, false, ◌%◌, ◌<◌, length, ap, sym, ◌∙◌, arith}
 use Rattle.tb_base.specs.declared.cells.Cell.{Cell}
 use Rattle.tb_model.specs.RowMajor.{product}
-use Rattle.tb_grid.specs.Totals.{part_at, modulus}
+use Rattle.tb_base.specs.Parts.{modulus, part_at, weight}
 use Rattle.tb_grid.proofs.Sums.{total-zero}
 use Rattle.tb_plan.specs.Plans.{sizes}
-use Rattle.tb_scan.proofs.Scans.{plain-value, total-value}
+use Rattle.tb_grid.proofs.Reached.{plain-value, total-value}
+use Rattle.tb_scan.proofs.Scans.{number_of}
 use Rattle.tb_scan.proofs.Holding.{counted-plan, held-part}
 use Rattle.tb_scan.proofs.scan.put_totals.Goals as goal
 use Rattle.tb_scan.proofs.scan.put_totals.Goals.{then-totals, else-totals}
@@ -21,12 +22,14 @@ returns c = λ schema query records is fit few held.
     elim c.if-totals.branch [
       | then-totals w ↦
           let totals : c.args.plan.now.totals ≡ true = sym c.totals.ensures ∙ w.if-totals.true in
-          total-value c.args.plan.now c.args.plan.now.totals ns p records i 0 (part_at p c.if-totals.cells i) (λ _. 0) (part_at p c.args.cells.now) totals low
+          total-value ns (number_of c.args.plan.now) (λ r. weight p r.key) records i low c.args.plan.now.totals (modulus p) 0
+          (part_at p c.if-totals.cells i) (λ _. 0) (part_at p c.args.cells.now) totals
           (ap (λ x. x % modulus p) (sym (total-zero ns i)))
           (λ j h. held-part c.args.plan.now p records j (part_at p c.args.cells.now j) (held p j (omega (arith, h, c.requires))))
           (ap (λ (cells : List Cell). part_at p cells i % modulus p) w.cells-is ∙ w.add_totals.ensures p i before) small
       | else-totals w ↦
           let totals : c.args.plan.now.totals ≡ false = sym c.totals.ensures ∙ w.if-totals.false in
-          plain-value c.args.plan.now c.args.plan.now.totals ns p records i 0 (part_at p c.if-totals.cells i) totals low
+          plain-value ns (number_of c.args.plan.now) (λ r. weight p r.key) records i low c.args.plan.now.totals (modulus p) 0
+          (part_at p c.if-totals.cells i) totals
           (ap (λ (cells : List Cell). part_at p cells i % modulus p) w.cells-is ∙ held-part c.args.plan.now p records i (part_at p c.args.cells.now i) (held p i before)) small
     ]) schema query is

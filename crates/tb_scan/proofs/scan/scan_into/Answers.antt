@@ -1,9 +1,10 @@
 use Rattle.std.proofs.Common.{◌≡◌, ℕ, List, true, false, ◌%◌, ◌<◌, length, ap, sym, ◌∙◌, arith}
 use Rattle.tb_base.specs.declared.cells.Cell.{Cell}
 use Rattle.tb_model.specs.RowMajor.{product}
-use Rattle.tb_grid.specs.Totals.{part_at, modulus}
+use Rattle.tb_base.specs.Parts.{modulus, part_at, weight}
 use Rattle.tb_plan.specs.Plans.{sizes}
-use Rattle.tb_scan.proofs.Scans.{scanned-plan, plain-value, total-value}
+use Rattle.tb_grid.proofs.Reached.{plain-value, total-value}
+use Rattle.tb_scan.proofs.Scans.{number_of, scanned-plan}
 use Rattle.tb_scan.proofs.scan.scan_into.Goals as goal
 use Rattle.tb_scan.proofs.scan.scan_into.Goals.{then-totals, else-totals}
 
@@ -21,11 +22,14 @@ returns c =
           let totals : c.args.plan.now.totals ≡ true = sym c.totals.ensures ∙ w.if-totals.true in
           let taken : length w.take_totals.new.cells ≡ length c.args.cells.now = w.take_totals.auto.cells in
           let put : length w.put_all.new.cells ≡ length w.take_totals.new.cells = w.put_all.auto.cells in
-          total-value c.args.plan.now c.args.plan.now.totals ns p c.args.piece.now i (part_at p c.args.cells.now i) (part_at p c.if-totals.cells i) (part_at p w.take_totals.new.cells) (part_at p w.put_all.new.cells) totals low
+          total-value ns (number_of c.args.plan.now) (λ r. weight p r.key) c.args.piece.now i low c.args.plan.now.totals (modulus p)
+          (part_at p c.args.cells.now i) (part_at p c.if-totals.cells i) (part_at p w.take_totals.new.cells)
+          (part_at p w.put_all.new.cells) totals
           (w.take_totals.ensures p i below) (λ j h. w.put_all.ensures.put p j (omega (arith, h, taken, c.requires.long)))
           (ap (λ (cells : List Cell). part_at p cells i % modulus p) w.cells-is ∙ w.add_totals.ensures p i (omega (arith, below, taken, put))) small
       | else-totals w ↦
           let totals : c.args.plan.now.totals ≡ false = sym c.totals.ensures ∙ w.if-totals.false in
-          plain-value c.args.plan.now c.args.plan.now.totals ns p c.args.piece.now i (part_at p c.args.cells.now i) (part_at p c.if-totals.cells i) totals low
+          plain-value ns (number_of c.args.plan.now) (λ r. weight p r.key) c.args.piece.now i low c.args.plan.now.totals (modulus p)
+          (part_at p c.args.cells.now i) (part_at p c.if-totals.cells i) totals
           (ap (λ (cells : List Cell). part_at p cells i % modulus p) w.cells-is ∙ w.put_all-else-totals.ensures.put p i below) small
     ])

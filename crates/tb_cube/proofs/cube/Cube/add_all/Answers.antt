@@ -5,7 +5,7 @@ use Rattle.tb_base.specs.declared.cells.Cell.{Cell}
 use Rattle.tb_base.specs.Cells.{merged_all}
 use Rattle.tb_base.specs.Records.{Fits}
 use Rattle.tb_model.specs.Cubes.{cube_of}
-use Rattle.tb_grid.specs.Totals.Part.{keys}
+use Rattle.tb_base.specs.Parts.Part.{keys}
 use Rattle.tb_cube.specs.declared.axes.Axis.{Axis}
 use Rattle.tb_cube.specs.Cubes.{CubeValue}
 use Rattle.tb_cube.specs.Axes.{with_all}

@@ -1,52 +1,21 @@
-use Rattle.std.proofs.Common.{◌≡◌, List, Option, Bor, ap, sym, subst, refl, ◌∙◌, arith}
-use Rattle.std.specs.Option.{ForSome, option_copied}
+use Rattle.std.proofs.Common.{Option, Bor, ap, sym, ◌∙◌}
+use Rattle.std.specs.Option.{option_copied}
 use Rattle.tb_base.specs.declared.cells.Cell.{Cell}
 use Rattle.tb_base.specs.declared.records.Record.{Record}
 use Rattle.tb_base.specs.Cells.{without_key}
-use Rattle.tb_base.specs.Records.{category_at}
-use Rattle.tb_cube.specs.declared.axes.Axis.{Axis}
-use Rattle.tb_cube.specs.Axes.{number_by}
-use Rattle.tb_cube.specs.Cubes.{changed_for, taken_out, CubeValue, CanTakeOut}
-use Rattle.tb_cube.proofs.Grid.{leads-in}
-use Rattle.tb_cube.proofs.Changes.{change-at}
+use Rattle.tb_cube.specs.Cubes.{taken_out, CubeValue, CanTakeOut}
+use Rattle.tb_cube.proofs.Changes.{change-at, of-given}
 use Rattle.tb_cube.proofs.cube.Cube.take_out.Goals as goal
 
-pub number_of-number-requires : goal.number_of-number-requires
-number_of-number-requires c =
-    let old : CubeValue = record { shape = c.self.inside.shape; vars = c.self.inside.vars; cells = c.self.inside.cells.items } in
-    let one : Record = c.in-Some.gone.now in
-    let f : Cell → Cell = λ cell. without_key cell one.key in
-    let can : CanTakeOut old one = subst (λ (v : CubeValue). CanTakeOut v one) (sym c.self.view_is) (subst (λ (o : Option (Bor Record)). ForSome (option_copied o) (CanTakeOut c.args.self.now)) c.in-Some.is c.requires one refl) in
-    rw c.deref.ensures.value (leads-in old c.self.inside.axes.items one c.self.invariant can.fits).low
-
-pub index_mut-requires : goal.index_mut-requires
-index_mut-requires c =
-    let old : CubeValue = record { shape = c.self.inside.shape; vars = c.self.inside.vars; cells = c.self.inside.cells.items } in
-    let one : Record = c.in-Some.gone.now in
-    let f : Cell → Cell = λ cell. without_key cell one.key in
-    let can : CanTakeOut old one = subst (λ (v : CubeValue). CanTakeOut v one) (sym c.self.view_is) (subst (λ (o : Option (Bor Record)). ForSome (option_copied o) (CanTakeOut c.args.self.now)) c.in-Some.is c.requires one refl) in
-    let number : c.number_of-number.result ≡ number_by c.self.inside.axes.items (category_at one) = c.number_of-number.ensures ∙ ap (λ (xs : List Axis). number_by xs (category_at one)) c.deref.ensures.value in
-    let change = change-at f old c.self.inside.axes.items one c.number_of-number.result c.self.invariant can.fits number in
-    omega (arith, change.within, c.self.inside.cells.ok.0)
-
-pub take_out-requires : goal.take_out-requires
-take_out-requires c =
-    let old : CubeValue = record { shape = c.self.inside.shape; vars = c.self.inside.vars; cells = c.self.inside.cells.items } in
-    let one : Record = c.in-Some.gone.now in
-    let f : Cell → Cell = λ cell. without_key cell one.key in
-    let can : CanTakeOut old one = subst (λ (v : CubeValue). CanTakeOut v one) (sym c.self.view_is) (subst (λ (o : Option (Bor Record)). ForSome (option_copied o) (CanTakeOut c.args.self.now)) c.in-Some.is c.requires one refl) in
-    let number : c.number_of-number.result ≡ number_by c.self.inside.axes.items (category_at one) = c.number_of-number.ensures ∙ ap (λ (xs : List Axis). number_by xs (category_at one)) c.deref.ensures.value in
-    let change = change-at f old c.self.inside.axes.items one c.number_of-number.result c.self.invariant can.fits number in
-    omega (arith, change.count c.index_mut.result.now c.index_mut.ensures.value, can.counted)
+pub place_for-place-requires : goal.place_for-place-requires
+place_for-place-requires c = (of-given (CanTakeOut c.args.self.now) c.args.gone c.in-Some.gone c.in-Some.is c.requires).fits
 
 pub returns-in-Some : goal.returns-in-Some
 returns-in-Some c =
     let old : CubeValue = record { shape = c.self.inside.shape; vars = c.self.inside.vars; cells = c.self.inside.cells.items } in
     let one : Record = c.in-Some.gone.now in
-    let f : Cell → Cell = λ cell. without_key cell one.key in
-    let can : CanTakeOut old one = subst (λ (v : CubeValue). CanTakeOut v one) (sym c.self.view_is) (subst (λ (o : Option (Bor Record)). ForSome (option_copied o) (CanTakeOut c.args.self.now)) c.in-Some.is c.requires one refl) in
-    let number : c.number_of-number.result ≡ number_by c.self.inside.axes.items (category_at one) = c.number_of-number.ensures ∙ ap (λ (xs : List Axis). number_by xs (category_at one)) c.deref.ensures.value in
-    let change = change-at f old c.self.inside.axes.items one c.number_of-number.result c.self.invariant can.fits number in
-    change.gives c.index_mut.result.now c.take_out.new.self c.index_mut.ensures.value c.take_out.ensures
-    ∙ ap (changed_for f one) c.self.view_is
+    let can = of-given (CanTakeOut c.args.self.now) c.args.gone c.in-Some.gone c.in-Some.is c.requires in
+    change-at old c.args.self.now c.self.view_is one c.place_for-place.result c.place_for-place.ensures.place
+    c.place_for-place.ensures.there c.index_mut.result.now c.index_mut.ensures.value (λ (cell : Cell). without_key cell one.key)
+    c.take_out.new.self c.place_for-place.ensures.cube can.fits c.take_out.ensures
     ∙ sym (ap (λ (o : Option (Bor Record)). taken_out (option_copied o) c.args.self.now) c.in-Some.is)
