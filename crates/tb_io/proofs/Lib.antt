@@ -2,3 +2,8 @@ pub mod FaultLemmas
 pub mod HeldLemmas
 pub mod Taking
 pub mod TakenLemmas
+pub mod Copying
+pub mod LineLemmas
+pub mod RoomLemmas
+pub mod NextLemmas
+pub mod Written

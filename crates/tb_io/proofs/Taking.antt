@@ -10,6 +10,10 @@ concat-take_suc [] i h = absurd (omega arith)
 concat-take_suc (xs ∷ xss) zero h = rw append-nil refl
 concat-take_suc (xs ∷ xss) (suc i) h = ap (λ ys. xs ++ ys) (concat-take_suc xss i (omega arith)) ∙ sym (append_assoc xs (concat (take i xss)) (get_or xss i []))
 
+-- a text that was put after those before it
+pub put-more : (xss : List (List ℕ)) (i : ℕ) (x before now : List ℕ) → i < length xss → get_or xss i [] ≡ x → before ≡ concat (take i xss) → now ≡ before ++ x → now ≡ concat (take (i + 1) xss)
+put-more xss i x before now h e so_far put = put ∙ rw (add-one, concat-take_suc xss i h, e, so_far) refl
+
 -- all the texts are those up to one and some more
 concat-rest : (xss : List (List ℕ)) (i : ℕ) → i < length xss → (more : List ℕ) × (concat xss ≡ (concat (take i xss) ++ get_or xss i []) ++ more)
 concat-rest [] i h = absurd (omega arith)

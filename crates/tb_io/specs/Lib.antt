@@ -3,3 +3,9 @@ pub mod Taken
 pub mod FileAnswers
 pub mod HeldFiles
 pub mod BoundedSink
+pub mod Sources
+pub mod PiecedSource
+pub mod Lines
+pub mod Rooms
+pub mod Readers
+pub mod NextLines

@@ -1,7 +1,7 @@
 use Rattle.std.proofs.Common.{◌≤◌, map, take}
 use Rattle.std.specs.List.{concat}
 use Rattle.tb_io.specs.Taken.{Took}
-use Rattle.tb_io.proofs.pieces.write_all.Given as goal
+use Rattle.tb_io.proofs.pieces.write_each.Given as goal
 
 -- the pieces so far were taken
 abbrev pub invariant-loop-piece : goal.invariant-loop-piece
