@@ -1,14 +1,15 @@
 -- How a line's texts are cut from its front.
-use Rattle.std.proofs.Common.{◌≡◌, ℕ, suc, ◌+◌, ◌<◌, ◌&&◌, Bool, true, false, not, cond, List, [], ◌∷◌, length, get_or, take, drop, sym, refl, ap, ◌∙◌, arith, length-drop}
+use Rattle.std.proofs.Common.{◌≡◌, ℕ, suc, ◌+◌, ◌<◌, ◌&&◌, Bool, true, false, not, cond, List, [], ◌∷◌, length, get_or, take, drop, sym}
+use Rattle.std.proofs.Common.{refl, ap, ◌∙◌, arith, length-drop, ◌≤◌, inl, inr}
+use Rattle.std.proofs.lemmas.Bool.{cases_Bool}
 use Rattle.std.specs.List.{position_or_len}
-use Rattle.tb_query.specs.Bytes.{is_blank, is_word_byte}
+use Rattle.tb_base.specs.Bytes.{is_blank, begins_blank, after_blanks}
+use Rattle.tb_base.proofs.WordLemmas.{after-shorter, none-after}
+use Rattle.tb_query.specs.Bytes.{is_word_byte}
 use Rattle.tb_query.specs.Tokens.{begins_word, with_first, cut}
-use Rattle.tb_query.specs.Cutting.{begins_blank, NoBlank, IsFirst}
+use Rattle.tb_query.specs.Cutting.{IsFirst}
 
--- how many blanks, and how many bytes of a word, stand in front
-abbrev pub blanks : List ℕ → ℕ
-blanks bs = position_or_len (λ b. not (is_blank b)) bs
-
+-- how many bytes of a word stand in front
 abbrev pub word : List ℕ → ℕ
 word bs = position_or_len (λ b. not (is_word_byte b)) bs
 
@@ -20,22 +21,12 @@ unfolding cut
 cut-cons b bs = refl
 
 -- blanks only separate
-blank_first : (b : ℕ) (bs : List ℕ) (v : Bool) → is_blank b ≡ v → cut bs ≡ cut (drop (blanks bs) bs) → cut (b ∷ bs) ≡ cut (drop (blanks (b ∷ bs)) (b ∷ bs))
-blank_first b bs true e rest = cut-cons b bs ∙ rw (e, one_more (blanks bs)) rest
-blank_first b bs false e rest = let n : blanks (b ∷ bs) ≡ 0 = rw e refl in rw n refl
-
-pub cut-blanks : (bs : List ℕ) → cut bs ≡ cut (drop (blanks bs) bs)
+pub cut-blanks : (bs : List ℕ) → cut bs ≡ cut (after_blanks bs)
 cut-blanks [] = refl
-cut-blanks (b ∷ bs) = blank_first b bs (is_blank b) refl (cut-blanks bs)
-
--- no blank stands behind the blanks in front
-not_blank_first : (b : ℕ) (bs : List ℕ) (v : Bool) → is_blank b ≡ v → begins_blank (drop (blanks bs) bs) ≡ false → begins_blank (drop (blanks (b ∷ bs)) (b ∷ bs)) ≡ false
-not_blank_first b bs true e rest = rw (e, one_more (blanks bs)) rest
-not_blank_first b bs false e rest = let n : blanks (b ∷ bs) ≡ 0 = rw e refl in rw (n, e) refl
-
-pub begins_blank-drop : (bs : List ℕ) → begins_blank (drop (blanks bs) bs) ≡ false
-begins_blank-drop [] = refl
-begins_blank-drop (b ∷ bs) = not_blank_first b bs (is_blank b) refl (begins_blank-drop bs)
+cut-blanks (b ∷ bs) = elim (cases_Bool (is_blank b)) [
+  | inl t ↦ cut-cons b bs ∙ rw t (cut-blanks bs)
+  | inr t ↦ rw t refl
+]
 
 -- no byte of a word is a blank
 pub word_byte_is_no_blank : (b : ℕ) → is_word_byte b ≡ true → is_blank b ≡ false
@@ -67,21 +58,28 @@ pub cut-mark : (b : ℕ) (bs : List ℕ) → is_blank b ≡ false → is_word_by
 unfolding cut
 cut-mark b bs blank w = rw (blank, w) refl
 
-pub without_blanks : (bs : List ℕ) → NoBlank bs (drop (blanks bs) bs)
-without_blanks bs = record { same = cut-blanks bs; length_le = omega (arith, length-drop (blanks bs) bs); none = begins_blank-drop bs }
-
-pub none_left : (bs rest : List ℕ) → NoBlank bs rest → length rest ≡ 0 → cut bs ≡ []
+pub none_left : (bs rest : List ℕ) → rest ≡ after_blanks bs → length rest ≡ 0 → cut bs ≡ []
 unfolding cut
-none_left bs [] h e = h.same
+none_left bs [] h e = cut-blanks bs ∙ ap cut (sym h)
 none_left bs (b ∷ rest) h e = absurd (omega arith)
 
-pub word_first : (bs rest : List ℕ) → NoBlank bs rest → 0 < length rest → is_word_byte (get_or rest 0 0) ≡ true → IsFirst bs (take (word rest) rest) (drop (word rest) rest)
-word_first bs [] h l w = absurd (omega arith)
-word_first bs (b ∷ rest) h l w = record { cut_there = h.same ∙ cut-word b rest w; shorter = let n = word_len_suc b rest w in omega (arith, length-drop (word (b ∷ rest)) (b ∷ rest), h.length_le, n) }
+-- the texts of a line are those of what stands after its blanks
+from-rest : (bs rest text after : List ℕ) → rest ≡ after_blanks bs → cut rest ≡ text ∷ cut after → length after < length rest
+    → IsFirst bs text after
+from-rest bs rest text after h e l =
+    let le : length rest ≤ length bs = rw h (after-shorter bs) in
+    record { cut_there = cut-blanks bs ∙ ap cut (sym h) ∙ e; shorter = omega arith }
 
-pub mark_first : (bs rest : List ℕ) → NoBlank bs rest → 0 < length rest → is_word_byte (get_or rest 0 0) ≡ false → IsFirst bs (take 1 rest) (drop 1 rest)
+pub word_first : (bs rest : List ℕ) → rest ≡ after_blanks bs → 0 < length rest → is_word_byte (get_or rest 0 0) ≡ true
+    → IsFirst bs (take (word rest) rest) (drop (word rest) rest)
+word_first bs [] h l w = absurd (omega arith)
+word_first bs (b ∷ rest) h l w = let n = word_len_suc b rest w in from-rest bs (b ∷ rest) _ _ h (cut-word b rest w)
+    (omega (arith, length-drop (word (b ∷ rest)) (b ∷ rest), n))
+
+pub mark_first : (bs rest : List ℕ) → rest ≡ after_blanks bs → 0 < length rest → is_word_byte (get_or rest 0 0) ≡ false
+    → IsFirst bs (take 1 rest) (drop 1 rest)
 mark_first bs [] h l w = absurd (omega arith)
-mark_first bs (b ∷ rest) h l w = record { cut_there = h.same ∙ cut-mark b rest h.none w; shorter = omega (arith, h.length_le) }
+mark_first bs (b ∷ rest) h l w = from-rest bs (b ∷ rest) _ _ h (cut-mark b rest (ap begins_blank h ∙ none-after bs) w) (omega arith)
 
 -- the two parts of the rest, cut at n
 pub first_part : (bs rest : List ℕ) (n : ℕ) {m : ℕ} (front back : List ℕ) → IsFirst bs (take m rest) (drop m rest) → n ≡ m → front ≡ take n rest → back ≡ drop n rest → IsFirst bs front back

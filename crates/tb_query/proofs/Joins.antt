@@ -5,7 +5,8 @@ use Rattle.std.specs.List.{AllByRecursion, position_or_len}
 use Rattle.std.specs.Option.{option_map}
 use Rattle.std.proofs.lemmas.Bool.{ltb-false, le-ltb}
 use Rattle.std.proofs.lemmas.Slice.Eq.{bytes_eq-Decides}
-use Rattle.tb_query.specs.Bytes.{is_text_byte, is_blank, is_word_byte, first_not_text}
+use Rattle.tb_base.specs.Bytes.{is_text_byte, is_blank}
+use Rattle.tb_query.specs.Bytes.{is_word_byte, first_not_text}
 use Rattle.tb_query.specs.Tokens.{begins_word, with_first, cut}
 use Rattle.tb_query.specs.Canonical.{gap, join, join_after}
 use Rattle.tb_query.proofs.Cuts.{cut-cons, word_byte_is_no_blank, cut-mark}

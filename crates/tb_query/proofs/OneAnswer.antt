@@ -1,6 +1,6 @@
 -- A line has exactly one answer.
 use Rattle.std.proofs.Common.{◌≡◌, ◌≢◌, ◌⊎◌, inl, inr, ℕ, ◌+◌, Bool, true, false, List, length, Option, Some, None, Result, Ok, Err, sym, refl, ap, subst, ◌∙◌}
-use Rattle.std.specs.Prelude.{IfOk, IfErr, MatchResult, nat_lt}
+use Rattle.std.specs.Prelude.{nat_lt}
 use Rattle.std.specs.Option.{option_map, option_or}
 use Rattle.tb_model.specs.Schemas.{SchemaValue}
 use Rattle.tb_model.specs.Queries.{QueryValue}
@@ -116,26 +116,15 @@ by_bytes schema line (Some i) e = inr (faults.NotText i, (λ m. absurd (cc)), e)
 by_bytes schema line None e = by_reading schema line (read_from start (tokens_of line)) e refl
 
 pub one_answer : OneAnswer
-one_answer = record {
-  some_answer = λ schema line. by_bytes schema line (first_not_text line) refl;
-  one_query = λ schema line p q hp hq. sym hp.means ∙ ap (query_meant schema) (one_query (tokens_of line) hp.named hq.named hp.grammar hq.grammar) ∙ hq.means;
-  one_fault = λ schema line f g mf mg hf hg. same_fault schema line f g (why schema line f mf hf) (why schema line g mg hg);
-  not_both = λ schema line q f m hq hf. no_fault schema line q f hq (why schema line f m hf);
+one_answer schema line = record {
+  some_answer = by_bytes schema line (first_not_text line) refl;
+  one_value = λ p q hp hq. sym hp.means ∙ ap (query_meant schema) (one_query (tokens_of line) hp.named hq.named hp.grammar hq.grammar)
+      ∙ hq.means;
+  one_fault = λ f g mf mg hf hg. same_fault schema line f g (why schema line f mf hf) (why schema line g mg hg);
+  not_both = λ q f m hq hf. no_fault schema line q f hq (why schema line f m hf);
 }
 
--- what a result that is right must be
-by_memory : (schema : SchemaValue) (line : List ℕ) (query : QueryValue) (f : QueryFault) → IsRefused schema line f → Reads schema line query → f ≡ faults.Memory
-by_memory schema line query (faults.NotText i) h is = absurd (no_fault schema line query _ is (why schema line (faults.NotText i) (λ e. absurd (cc)) h))
-by_memory schema line query (faults.Syntax i) h is = absurd (no_fault schema line query _ is (why schema line (faults.Syntax i) (λ e. absurd (cc)) h))
-by_memory schema line query faults.Memory h is = refl
-by_memory schema line query (faults.UnknownName i) h is = absurd (no_fault schema line query _ is (why schema line (faults.UnknownName i) (λ e. absurd (cc)) h))
-by_memory schema line query (faults.UnknownCode i) h is = absurd (no_fault schema line query _ is (why schema line (faults.UnknownCode i) (λ e. absurd (cc)) h))
-by_memory schema line query (faults.RepeatedDimension i) h is = absurd (no_fault schema line query _ is (why schema line (faults.RepeatedDimension i) (λ e. absurd (cc)) h))
-by_memory schema line query faults.TooManyDimensions h is = absurd (no_fault schema line query _ is (why schema line faults.TooManyDimensions (λ e. absurd (cc)) h))
-by_memory schema line query faults.TooManyFilters h is = absurd (no_fault schema line query _ is (why schema line faults.TooManyFilters (λ e. absurd (cc)) h))
-by_memory schema line query faults.TooLarge h is = absurd (no_fault schema line query _ is (why schema line faults.TooLarge (λ e. absurd (cc)) h))
-
-pub only_query : (schema : SchemaValue) (line : List ℕ) (answer : Result QueryValue QueryFault) → IfOk answer (Reads schema line) → IfErr answer (IsRefused schema line)
-    → (query : QueryValue) → Reads schema line query → MatchResult answer (λ q. q ≡ query) (λ f. f ≡ faults.Memory)
-only_query schema line (Ok q) ok err query h = one_answer.one_query schema line q query ok h
-only_query schema line (Err f) ok err query h = by_memory schema line query f err h
+-- whether a fault is want of memory
+pub is_memory : (f : QueryFault) → (f ≡ faults.Memory) ⊎ (f ≢ faults.Memory)
+is_memory faults.Memory = inl refl
+is_memory _ = inr (λ e. absurd (cc))

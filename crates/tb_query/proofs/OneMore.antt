@@ -1,13 +1,12 @@
 -- One more element of a list that is gone through, where each is seen as something else; and the
 -- ways to end early.
 use Rattle.std.proofs.Common.{◌≡◌, ◌<◌, ◌+◌, ℕ, List, [], ◌∷◌, ◌++◌, length, map, take, drop, get_or, Option, Some, None, Result, Ok, Err, sym, ap, subst, ◌∙◌}
-use Rattle.std.specs.Prelude.{IfOk, IfErr}
 use Rattle.std.specs.Option.{option_map, option_or}
 use Rattle.std.specs.Result.{IsErrAnd}
 use Rattle.std.proofs.lemmas.List.{drop_more, map_more, map-append}
 use Rattle.tb_query.specs.declared.fault.QueryFault.{QueryFault}
 use Rattle.tb_query.specs.declared.fault.QueryFault.TheVariants as faults
-use Rattle.tb_query.specs.Faults.{RefusesBy}
+use Rattle.tb_query.specs.Faults.{IsMade, RefusesBy}
 
 module _ {X Y : Type 0} (view : X → Y) (xs : List X) (i : ℕ) (x : X) (lt : i < length xs) (is : x ≡ get_or xs i x) where
   pub made_more : {Z : Type 0} (g : Y → Z) (made after : List Z) → made ≡ map g (map view (take i xs)) → after ≡ made ++ g (view x) ∷ [] → after ≡ map g (map view (take (i + 1) xs))
@@ -40,19 +39,15 @@ pub refuses_first : (e : QueryFault) (named : ℕ → QueryFault) (one rest all 
 refuses_first e named None rest all so_far by = of_none e (option_map named all) by
 refuses_first e named (Some a) rest all so_far by = subst (λ x. RefusesBy e (option_map named x)) so_far by
 
-module _ {T : Type 0} where
-  pub no_ok : (Q : QueryFault → Type 0) (r : Result T QueryFault) → IsErrAnd r Q → (P : T → Type 0) → IfOk r P
-  no_ok Q (Ok x) by P = absurd by
-  no_ok Q (Err e) by P = tt
-
-  pub its_err : (Q : QueryFault → Type 0) (r : Result T QueryFault) → IsErrAnd r Q → (P : QueryFault → Type 0) → ((e : QueryFault) → Q e → P e) → IfErr r P
-  its_err Q (Ok x) by P so = absurd by
-  its_err Q (Err e) by P so = so e by
+module _ {T : Type 0} (r : Result T QueryFault) (Told : T → Type 0) (named : ℕ → QueryFault) (unknown : Option ℕ) where
+  -- a fault that is passed on
+  pub passed_on : (of : QueryFault) → IsErrAnd r (λ e. e ≡ of) → RefusesBy of (option_map named unknown) → IsMade r Told named unknown
+  passed_on of by refuses = at r by
+    where
+      at : (r : Result T QueryFault) → IsErrAnd r (λ e. e ≡ of) → IsMade r Told named unknown
+      at (Ok x) by = absurd by
+      at (Err e) by = record { told = tt; no_fault = tt; refused = subst (λ x. RefusesBy x (option_map named unknown)) (sym by) refuses }
 
   -- want of memory names no fault
-  pub no_memory : (r : Result T QueryFault) → IsErrAnd r (λ e. e ≡ faults.Memory) → (fault : Option QueryFault) → IfErr r (λ e. RefusesBy e fault)
-  no_memory r by fault = its_err _ r by (λ e. RefusesBy e fault) (λ e is. subst (λ x. RefusesBy x fault) (sym is) tt)
-
-  -- a fault that is passed on
-  pub passed_on : (r : Result T QueryFault) (of : QueryFault) → IsErrAnd r (λ e. e ≡ of) → (fault : Option QueryFault) → RefusesBy of fault → IfErr r (λ e. RefusesBy e fault)
-  passed_on r of by fault refuses = its_err _ r by (λ e. RefusesBy e fault) (λ e is. subst (λ x. RefusesBy x fault) (sym is) refuses)
+  pub no_memory : IsErrAnd r (λ e. e ≡ faults.Memory) → IsMade r Told named unknown
+  no_memory by = passed_on faults.Memory by tt

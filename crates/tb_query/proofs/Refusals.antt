@@ -2,11 +2,12 @@
 use Rattle.std.proofs.Common.{◌≡◌, ◌≤◌, ◌<◌, ℕ, Bool, true, false, [], ◌∷◌, List, length, map, Option, Some, None, Result, Ok, Err, refl, sym, subst, arith}
 use Rattle.std.specs.Prelude.{All, IfOk, bytes_eq, nat_lt}
 use Rattle.std.specs.List.{AllByRecursion}
-use Rattle.std.specs.Option.{option_map, option_or}
+use Rattle.std.specs.Option.{option_map}
 use Rattle.std.proofs.lemmas.Bool.{ltb-false}
 use Rattle.std.proofs.lemmas.List.{length-map}
 use Rattle.std.proofs.lemmas.List.Elements.{All-from_recursion}
 use Rattle.std.proofs.lemmas.List.Quantifiers.{position-Some}
+use Rattle.tb_base.proofs.Options.{none_both}
 use Rattle.tb_model.specs.declared.names.NameOf.{NameOf}
 use Rattle.tb_model.specs.declared.names.NameOf.TheVariants as name_of
 use Rattle.tb_model.specs.Schemas.{SchemaValue, category_count, codes_of}
@@ -22,10 +23,6 @@ use Rattle.tb_query.specs.Meanings.{name_of_token, code_of_token, name_meant, co
 use Rattle.tb_query.specs.Faults.{unknown_in, unknown_name, unknown_among, unknown_code_in, unknown_code, first_repeat, fault_if, is_too_large, refusal, Reads}
 use Rattle.tb_query.specs.Over.{IsFilterOver, IsOver}
 use Rattle.tb_query.proofs.Found.{all_found}
-
-pub none_both : {A : Type 0} (x y : Option A) → option_or x y ≡ None → (x ≡ None) × (y ≡ None)
-none_both None y h = (refl, h)
-none_both (Some a) y h = absurd (cc)
 
 pub none_inside : (o : Option ℕ) (f : ℕ → QueryFault) → option_map f o ≡ None → o ≡ None
 none_inside None f h = refl

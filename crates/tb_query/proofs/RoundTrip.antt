@@ -22,7 +22,8 @@ use Rattle.tb_query.specs.Canonical.{code_text, piece_text, texts_of, join, name
 use Rattle.tb_query.specs.Meanings.{name_of_token, code_of_token, name_meant, code_meant, filter_meant, query_meant}
 use Rattle.tb_query.specs.Faults.{unknown_in, unknown_name, unknown_among, unknown_code_in, unknown_code, refusal, Reads}
 use Rattle.tb_query.proofs.Found.{all_found}
-use Rattle.tb_query.proofs.Refusals.{none_both, none_inside}
+use Rattle.tb_base.proofs.Options.{none_both}
+use Rattle.tb_query.proofs.Refusals.{none_inside}
 use Rattle.tb_query.proofs.Joins.{cut_texts, cut-join, AreText-join, cut_text, text_of_none, none_of_text}
 use Rattle.tb_query.proofs.Texts.{query_texts}
 

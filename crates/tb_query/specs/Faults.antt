@@ -1,6 +1,7 @@
 -- The faults of a query line, in their order, and what a line reads as.
 use Rattle.std.specs.Prelude.{◌≡◌, ℕ, ◌+◌, nat_lt, Bool, if◌then◌else◌, List, [], ◌∷◌, ◌++◌}
 use Rattle.std.specs.Prelude.{length, map, find, Option, Some, None, is_none, bytes_eq}
+use Rattle.std.specs.Prelude.{Result, IfOk, IfErr}
 use Rattle.std.specs.List.{list_any}
 use Rattle.std.specs.Option.{option_map, option_or}
 use Rattle.tb_model.specs.declared.names.NameOf.{NameOf}
@@ -99,3 +100,11 @@ IsRefused schema line fault =
 abbrev pub RefusesBy : QueryFault → Option QueryFault → Type 0
 RefusesBy faults.Memory fault = Unit {0}
 RefusesBy by fault = fault ≡ Some by
+
+-- what was made of a part of a query: it is as told, and nothing of the part is unknown; or the
+-- first that is unknown refuses it, unless memory ran out
+pub record IsMade {A : Type 0} (made : Result A QueryFault) (AsTold : A → Type 0)
+    (named : ℕ → QueryFault) (unknown : Option ℕ) : Type 0 where
+  pub told : IfOk made AsTold
+  pub no_fault : IfOk made (λ _. unknown ≡ None)
+  pub refused : IfErr made (λ e. RefusesBy e (option_map named unknown))

@@ -1,8 +1,8 @@
 -- Laws of the grammar, the table of steps and what a line reads as.
-use Rattle.std.specs.Prelude.{◌≡◌, ◌≢◌, ◌⊎◌, ℕ, List}
+use Rattle.std.specs.Prelude.{◌≡◌, ℕ, List}
+use Rattle.tb_base.specs.OneAnswer.{HasOneAnswer}
 use Rattle.tb_model.specs.Schemas.{SchemaValue}
 use Rattle.tb_model.specs.Queries.{QueryValue}
-use Rattle.tb_query.specs.declared.fault.QueryFault.{QueryFault}
 use Rattle.tb_query.specs.declared.fault.QueryFault.TheVariants as faults
 use Rattle.tb_query.specs.Faults.{Reads, IsRefused}
 use Rattle.tb_query.specs.Canonical.{canonical_text}
@@ -22,21 +22,10 @@ abbrev pub OneQuery : Type 0
 OneQuery = (tokens : List Token) (p q : NamedQuery) → IsQuery tokens p → IsQuery tokens q → p ≡ q
 
 -- a line reads as exactly one query, or is refused by exactly one fault
-pub record OneAnswer : Type 0 where
-  pub some_answer :
-      (schema : SchemaValue) (line : List ℕ)
-      → ((q : QueryValue) × Reads schema line q)
-      ⊎ ((f : QueryFault) × (f ≢ faults.Memory) × IsRefused schema line f)
-  pub one_query :
-      (schema : SchemaValue) (line : List ℕ) (p q : QueryValue)
-      → Reads schema line p → Reads schema line q → p ≡ q
-  pub one_fault :
-      (schema : SchemaValue) (line : List ℕ) (f g : QueryFault)
-      → f ≢ faults.Memory → g ≢ faults.Memory
-      → IsRefused schema line f → IsRefused schema line g → f ≡ g
-  pub not_both :
-      (schema : SchemaValue) (line : List ℕ) (q : QueryValue) (f : QueryFault)
-      → f ≢ faults.Memory → Reads schema line q → ¬ IsRefused schema line f
+abbrev pub OneAnswer : Type 0
+OneAnswer =
+    (schema : SchemaValue) (line : List ℕ)
+    → HasOneAnswer faults.Memory (Reads schema line) (IsRefused schema line)
 
 -- a query's canonical text reads as the same query, over the schema over which it was read
 abbrev pub ReadsAgain : Type 0

@@ -82,6 +82,12 @@ abbrev pub NotNext : Kind → List Token → Type 0
 NotNext k [] = Unit {0}
 NotNext k (t ∷ ts) = t.kind ≢ k
 
+-- the next token is of this kind, and the others stand after it
+pub record IsNext (k : Kind) (tokens rest : List Token) : Type 0 where
+  pub token : Token
+  pub is : tokens ≡ token ∷ rest
+  pub kind : token.kind ≡ k
+
 -- a whole query as what its tokens stand for
 abbrev pub tail_of : NamedQuery → Tail
 tail_of q = tail q.dimensions false [] q.filters q.totals q.labels

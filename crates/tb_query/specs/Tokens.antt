@@ -1,7 +1,8 @@
 -- The tokens of a line.
 use Rattle.std.specs.Prelude.{ℕ, ◌+◌, ◌==◌, ◌&&◌, Bool, false, if◌then◌else◌, List, [], ◌∷◌}
 use Rattle.std.specs.Prelude.{bytes_eq, codes}
-use Rattle.tb_query.specs.Bytes.{is_blank, is_word_byte}
+use Rattle.tb_base.specs.Bytes.{is_blank}
+use Rattle.tb_query.specs.Bytes.{is_word_byte}
 use Rattle.tb_query.specs.declared.tokens.Kind.{Kind}
 use Rattle.tb_query.specs.declared.tokens.Kind.TheVariants as kind
 

@@ -1,9 +1,8 @@
 // What the filters of a query stand for, and the first code that stands for nothing.
 
-ghost use Rattle.std.specs.Prelude.{◌≡◌, IfErr, IfOk, IsSome, MatchResult, None, Some, map};
-ghost use Rattle.std.specs.Option.{option_map};
+ghost use Rattle.std.specs.Prelude.{◌≡◌, IsSome, MatchResult, None, Some, map};
 ghost use Rattle.tb_schema.specs.Names.{IsName};
-ghost use Rattle.tb_query.specs.Faults.{RefusesBy, unknown_among, unknown_code, unknown_code_in};
+ghost use Rattle.tb_query.specs.Faults.{IsMade, unknown_among, unknown_code, unknown_code_in};
 ghost use Rattle.tb_query.specs.Faults.{unknown_in};
 ghost use Rattle.tb_query.specs.Meanings.{code_meant, code_of_token, filter_meant};
 ghost use Rattle.tb_query.specs.Meanings.{name_of_token};
@@ -41,13 +40,9 @@ fn codes_meant(
     codes: &[Token],
 ) -> Result<Codes, QueryFault>
     requires { IsName schema.now of }
-    ensures meant { IfOk result
-        (λ numbers. numbers ≡ map (code_meant schema.now of) (token_views codes.now)) }
-    ensures no_fault { IfOk result
-        (λ _. unknown_among schema.now of (token_views codes.now) ≡ None) }
-    ensures refused { IfErr result (λ e. RefusesBy e
-        (option_map QueryFault.UnknownCode
-        (unknown_among schema.now of (token_views codes.now)))) }
+    ensures { IsMade result
+        (λ numbers. numbers ≡ map (code_meant schema.now of) (token_views codes.now))
+        QueryFault.UnknownCode (unknown_among schema.now of (token_views codes.now)) }
 {
     let mut numbers = Vec::new(alloc);
     for t in codes {
@@ -63,12 +58,8 @@ fn codes_meant(
 // What a filter stands for, whose name is there.
 fn filter_meant(alloc: Global, schema: &Schema, filter: &FilterTokens) -> Result<Filter, QueryFault>
     requires { IsSome (name_of_token schema.now (filter_view filter.now).name) }
-    ensures meant { IfOk result (λ f. f ≡ filter_meant schema.now (filter_view filter.now)) }
-    ensures no_fault { IfOk result
-        (λ _. unknown_code_in schema.now (filter_view filter.now) ≡ None) }
-    ensures refused { IfErr result (λ e. RefusesBy e
-        (option_map QueryFault.UnknownCode
-        (unknown_code_in schema.now (filter_view filter.now)))) }
+    ensures { IsMade result (λ f. f ≡ filter_meant schema.now (filter_view filter.now))
+        QueryFault.UnknownCode (unknown_code_in schema.now (filter_view filter.now)) }
 {
     let of = name_meant(schema, &filter.name)?;
     let codes = codes_meant(alloc, schema, of, &filter.codes)?;
@@ -86,13 +77,9 @@ pub fn filters_meant(
     filters: &[FilterTokens],
 ) -> Result<Vec<Filter>, QueryFault>
     requires { unknown_in schema.now (map (λ f. f.name) (filter_views filters.now)) ≡ None }
-    ensures meant { IfOk result
-        (λ fs. fs.items ≡ map (filter_meant schema.now) (filter_views filters.now)) }
-    ensures no_fault { IfOk result
-        (λ _. unknown_code schema.now (filter_views filters.now) ≡ None) }
-    ensures refused { IfErr result (λ e. RefusesBy e
-        (option_map QueryFault.UnknownCode
-        (unknown_code schema.now (filter_views filters.now)))) }
+    ensures { IsMade result
+        (λ fs. fs.items ≡ map (filter_meant schema.now) (filter_views filters.now))
+        QueryFault.UnknownCode (unknown_code schema.now (filter_views filters.now)) }
 {
     let mut meant = Vec::new(alloc);
     for f in filters {

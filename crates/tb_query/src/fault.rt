@@ -3,7 +3,7 @@
 ghost use Rattle.std.specs.Prelude.{◌≡◌};
 ghost use Rattle.tb_query.specs.FaultNames.{fault_name, fault_position};
 
-use std::alloc::{AllocError, AllocFailed};
+use std::alloc::AllocFailed;
 use tb_base::Memory;
 use tb_rows::FaultName;
 use thiserror::Error;
@@ -72,16 +72,6 @@ impl From<Memory> for QueryFault {
     ghost from_gives = { λ _ e. e ≡ faults.Memory };
 
     fn from(_e: Memory) -> QueryFault {
-        QueryFault::Memory
-    }
-}
-
-impl From<AllocError> for QueryFault {
-    ghost use Rattle.tb_query.specs.declared.fault.QueryFault.TheVariants as faults;
-
-    ghost from_gives = { λ _ e. e ≡ faults.Memory };
-
-    fn from(_e: AllocError) -> QueryFault {
         QueryFault::Memory
     }
 }

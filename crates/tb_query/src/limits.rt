@@ -9,5 +9,5 @@ pub const MOST_FILTERS: usize = 16;
 /// How many places a table has at most.
 pub const MOST_PLACES: usize = 1_000_000;
 
-/// How many bytes a line has at most that is read.
-pub const MOST_LINE_BYTES: usize = 65_536;
+/// How many bytes a query line has at most.
+pub const MOST_QUERY_BYTES: usize = 65_536;

@@ -1,11 +1,10 @@
 // What the names of a query stand for, and the first that stands for nothing or stands twice.
 
-ghost use Rattle.std.specs.Prelude.{◌≡◌, All, IfErr, IfOk, IfSome, MatchResult, None, Some};
+ghost use Rattle.std.specs.Prelude.{◌≡◌, All, IfSome, MatchResult, None, Some};
 ghost use Rattle.std.specs.Prelude.{bytes_eq, map};
 ghost use Rattle.std.specs.List.{list_any};
-ghost use Rattle.std.specs.Option.{option_map};
 ghost use Rattle.tb_schema.specs.Names.{IsName};
-ghost use Rattle.tb_query.specs.Faults.{RefusesBy, first_repeat, unknown_in};
+ghost use Rattle.tb_query.specs.Faults.{IsMade, first_repeat, unknown_in};
 ghost use Rattle.tb_query.specs.Meanings.{name_meant, name_of_token};
 ghost use Rattle.tb_query.specs.Views.{filter_views, token_view, token_views};
 
@@ -44,12 +43,10 @@ pub fn names_meant(
     schema: &Schema,
     names: &[Token],
 ) -> Result<Vec<NameOf>, QueryFault>
-    ensures meant { IfOk result
-        (λ v. v.items ≡ map (name_meant schema.now) (token_views names.now)) }
-    ensures names { IfOk result (λ v. All (IsName schema.now) v.items) }
-    ensures no_fault { IfOk result (λ _. unknown_in schema.now (token_views names.now) ≡ None) }
-    ensures refused { IfErr result (λ e. RefusesBy e
-        (option_map QueryFault.UnknownName (unknown_in schema.now (token_views names.now)))) }
+    ensures { IsMade result
+        (λ v. (v.items ≡ map (name_meant schema.now) (token_views names.now))
+        × All (IsName schema.now) v.items)
+        QueryFault.UnknownName (unknown_in schema.now (token_views names.now)) }
 {
     let mut meant = Vec::new(alloc);
     for t in names {

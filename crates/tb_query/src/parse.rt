@@ -18,7 +18,7 @@ use dimensions::dimensions;
 use ends::ending;
 use filters::filters;
 use std::alloc::Global;
-use tree::first;
+use tree::{after, expect};
 pub use tree::{FilterTokens, QueryTokens, Stop};
 
 // `table`.
@@ -28,13 +28,7 @@ fn table<'t, 'a>(tokens: &'t [Token<'a>]) -> Result<&'t [Token<'a>], Stop>
         (λ rest. Leads (λ r. r) start (token_views tokens.now) dimension (token_views rest.now))
         (StopsBy start (token_views tokens.now)) }
 {
-    match first(tokens) {
-        None => Err(Stop::Syntax(tokens.len())),
-        Some((t, rest)) => match t.kind {
-            Kind::Table => Ok(rest),
-            _ => Err(Stop::Syntax(tokens.len())),
-        },
-    }
+    expect(Kind::Table, tokens)
 }
 
 // `where` before the first filter.
@@ -44,13 +38,7 @@ fn where_<'t, 'a>(tokens: &'t [Token<'a>]) -> Option<&'t [Token<'a>]>
         (λ rest. Leads (λ r. r) dimensions_read (token_views tokens.now)
         name_due (token_views rest.now)) }
 {
-    match first(tokens) {
-        None => None,
-        Some((t, rest)) => match t.kind {
-            Kind::Where => Some(rest),
-            _ => None,
-        },
-    }
+    after(Kind::Where, tokens)
 }
 
 // The whole query.

@@ -7,7 +7,7 @@ ghost use Rattle.tb_query.specs.Over.{IsOver};
 
 use crate::check::query_meant;
 use crate::fault::QueryFault;
-use crate::limits::MOST_LINE_BYTES;
+use crate::limits::MOST_QUERY_BYTES;
 use crate::parse::{Stop, parse};
 use crate::query::Query;
 use crate::tokens::{first_not_text, tokens};
@@ -16,7 +16,7 @@ use tb_schema::Schema;
 
 // The query of a line, or the line's first fault.
 fn read(alloc: Global, schema: &Schema, line: &[u8]) -> Result<Query, QueryFault>
-    requires { length line.now ≤ MOST_LINE_BYTES }
+    requires { length line.now ≤ MOST_QUERY_BYTES }
     ensures read { IfOk result (Reads schema.now line.now) }
     ensures refused { IfErr result (IsRefused schema.now line.now) }
 {
@@ -41,7 +41,7 @@ fn read(alloc: Global, schema: &Schema, line: &[u8]) -> Result<Query, QueryFault
 /// repeated in a list, and a variable may stand beside a recode of it. It takes memory for the
 /// line's tokens and for the query.
 pub fn read_query(alloc: Global, schema: &Schema, line: &[u8]) -> Result<Query, QueryFault>
-    requires { length line.now ≤ MOST_LINE_BYTES }
+    requires { length line.now ≤ MOST_QUERY_BYTES }
     // The line reads as the query that is returned.
     ensures read { IfOk result (Reads schema.now line.now) }
     // Where it reads as a query, that is returned, or the run is out of memory.

@@ -3,13 +3,14 @@
 ghost use Rattle.std.specs.Prelude.{◌≡◌, ◌<◌, ◌≤◌, ◌^◌, [], IfOk, MatchOption, length, not};
 ghost use Rattle.std.specs.Prelude.{position, vec_len};
 ghost use Rattle.std.specs.List.{position_or_len};
-ghost use Rattle.tb_query.specs.Bytes.{first_not_text, is_blank, is_text_byte, is_word_byte};
-ghost use Rattle.tb_query.specs.Cutting.{IsFirst, NoBlank};
+ghost use Rattle.tb_base.specs.Bytes.{is_text_byte};
+ghost use Rattle.tb_query.specs.Bytes.{first_not_text, is_word_byte};
+ghost use Rattle.tb_query.specs.Cutting.{IsFirst};
 ghost use Rattle.tb_query.specs.Tokens.{cut, kind_of, mark_kind, tokens_of, word_kind};
 ghost use Rattle.tb_query.specs.Views.{token_views};
 
 use std::alloc::Global;
-use tb_base::Memory;
+use tb_base::{Memory, is_text_byte, skip_blanks};
 
 /// What a token is to the grammar. A name is a word that is none of the nine before it.
 #[derive(Clone, Copy, Debug, PartialEq, Eq)]
@@ -36,20 +37,6 @@ pub struct Token<'a> {
     pub number: u32,
     pub kind: Kind,
     pub text: &'a [u8],
-}
-
-#[tactic(auto, unfolding(crate::specs::Bytes::is_text_byte))]
-fn is_text_byte(b: u8) -> bool
-    ensures { result ≡ is_text_byte b }
-{
-    b == b'\t' || (0x20 <= b && b <= 0x7e)
-}
-
-#[tactic(auto, unfolding(crate::specs::Bytes::is_blank))]
-fn is_blank(b: u8) -> bool
-    ensures { result ≡ is_blank b }
-{
-    b == b' ' || b == b'\t'
 }
 
 #[tactic(auto, unfolding(crate::specs::Bytes::is_word_byte))]
@@ -130,38 +117,15 @@ fn kind_of(text: &[u8]) -> Kind
     }
 }
 
-// How many bytes at the front are blanks.
-fn blanks_len(bytes: &[u8]) -> usize
-    ensures count { result ≡ position_or_len (λ b. not (is_blank b)) bytes.now }
-    ensures within { result ≤ length bytes.now }
-{
-    for (i, b) in bytes.iter().enumerate() {
-        if !is_blank(*b) {
-            return i;
-        }
-    }
-    bytes.len()
-}
-
 // How many bytes at the front are bytes of a word.
 fn word_len(bytes: &[u8]) -> usize
     ensures count { result ≡ position_or_len (λ b. not (is_word_byte b)) bytes.now }
     ensures within { result ≤ length bytes.now }
 {
-    for (i, b) in bytes.iter().enumerate() {
-        if !is_word_byte(*b) {
-            return i;
-        }
-    }
-    bytes.len()
-}
-
-// The bytes without the blanks in front.
-fn skip_blanks(bytes: &[u8]) -> &[u8]
-    ensures { NoBlank bytes.now result.now }
-{
-    let n = blanks_len(bytes);
-    &bytes[n..]
+    bytes
+        .iter()
+        .position(|b| !is_word_byte(*b))
+        .unwrap_or(bytes.len())
 }
 
 // The text of the first token, and the bytes after it.

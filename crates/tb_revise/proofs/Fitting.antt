@@ -11,8 +11,8 @@ use Rattle.tb_base.specs.Numbers.{number_of}
 use Rattle.tb_base.specs.Records.{Fits}
 use Rattle.tb_base.specs.declared.cells.TheConstants.{KEY_RANGE}
 use Rattle.tb_base.proofs.AllThere.{first-some, length-all_some}
+use Rattle.tb_base.proofs.Options.{none_both}
 use Rattle.tb_model.specs.Schemas.{CategoryValue, SchemaValue, VariableValue, shape_of, variable_at}
-use Rattle.tb_query.proofs.Refusals.{none_both}
 use Rattle.tb_schema.specs.Names.{place_in}
 use Rattle.tb_release.specs.Laws.{EditFits}
 use Rattle.tb_revise.specs.declared.fault.EditTextFault.{EditTextFault}

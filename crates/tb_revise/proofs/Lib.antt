@@ -1,4 +1,3 @@
-pub mod Parts
 pub mod Categories
 pub mod Spelled
 pub mod SyntaxRules

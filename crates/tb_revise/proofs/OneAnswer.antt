@@ -1,10 +1,10 @@
 -- A line has exactly one answer.
-use Rattle.std.proofs.Common.{◌≡◌, ◌≢◌, ◌⊎◌, inl, inr, ℕ, Bool, true, false, List, Option, Some, None, Result, Ok, Err, sym, refl, ap, subst, ◌∙◌}
-use Rattle.std.specs.Prelude.{IfOk, IfErr, MatchResult, if◌then◌else◌}
+use Rattle.std.proofs.Common.{◌≡◌, ◌≢◌, ◌⊎◌, inl, inr, ℕ, Bool, true, false, List, Option, Some, None, sym, refl, ap, subst, ◌∙◌}
+use Rattle.std.specs.Prelude.{if◌then◌else◌}
 use Rattle.std.specs.List.{list_all}
 use Rattle.std.specs.Option.{option_or}
 use Rattle.tb_model.specs.Schemas.{SchemaValue}
-use Rattle.tb_query.specs.Bytes.{is_text_byte}
+use Rattle.tb_base.specs.Bytes.{is_text_byte}
 use Rattle.tb_release.specs.declared.edits.Edit.{Edit}
 use Rattle.tb_revise.specs.declared.fault.EditTextFault.{EditTextFault}
 use Rattle.tb_revise.specs.declared.fault.EditTextFault.TheVariants as faults
@@ -12,7 +12,7 @@ use Rattle.tb_revise.specs.Faults.{fault_if, has_bad_number, has_unknown_name, h
 use Rattle.tb_revise.specs.Grammar.{NamedSetting, NamedEdit, Spells, settings_of}
 use Rattle.tb_revise.specs.Meanings.{edit_meant, sets_meant}
 use Rattle.tb_revise.specs.Reading.{read_words}
-use Rattle.tb_revise.specs.Words.{words_of}
+use Rattle.tb_base.specs.Words.{words_of}
 use Rattle.tb_revise.specs.Laws.{OneAnswer}
 use Rattle.tb_revise.proofs.Spelled.{is-edit, no-edit, one_edit}
 
@@ -106,24 +106,14 @@ by_bytes schema line false e = inr (faults.Syntax, (λ m. absurd (cc)), (λ name
 by_bytes schema line true e = by_words schema line (read_words (words_of line)) e refl
 
 pub one_answer : OneAnswer
-one_answer = record {
-  some_answer = λ schema line. by_bytes schema line (list_all is_text_byte line) refl;
-  one_edit = λ schema line d e hd he. sym hd.means ∙ ap (edit_meant schema) (same-named line hd.named he.named hd.spelled he.spelled) ∙ he.means;
-  one_fault = λ schema line f g mf mg hf hg. same_fault schema line f g (why schema line f mf hf) (why schema line g mg hg);
-  not_both = λ schema line e f m he hf. no_fault schema line e f he (why schema line f m hf);
+one_answer schema line = record {
+  some_answer = by_bytes schema line (list_all is_text_byte line) refl;
+  one_value = λ d e hd he. sym hd.means ∙ ap (edit_meant schema) (same-named line hd.named he.named hd.spelled he.spelled) ∙ he.means;
+  one_fault = λ f g mf mg hf hg. same_fault schema line f g (why schema line f mf hf) (why schema line g mg hg);
+  not_both = λ e f m he hf. no_fault schema line e f he (why schema line f m hf);
 }
 
--- what a result that is right must be
-by_memory : (schema : SchemaValue) (line : List ℕ) (e : Edit) (f : EditTextFault) → IsRefused schema line f → Reads schema line e → f ≡ faults.Memory
-by_memory schema line e faults.Syntax h is = absurd (no_fault schema line e _ is (why schema line faults.Syntax (λ e. absurd (cc)) h))
-by_memory schema line e faults.BadNumber h is = absurd (no_fault schema line e _ is (why schema line faults.BadNumber (λ e. absurd (cc)) h))
-by_memory schema line e faults.UnknownName h is = absurd (no_fault schema line e _ is (why schema line faults.UnknownName (λ e. absurd (cc)) h))
-by_memory schema line e faults.UnknownCode h is = absurd (no_fault schema line e _ is (why schema line faults.UnknownCode (λ e. absurd (cc)) h))
-by_memory schema line e faults.Repeated h is = absurd (no_fault schema line e _ is (why schema line faults.Repeated (λ e. absurd (cc)) h))
-by_memory schema line e faults.Missing h is = absurd (no_fault schema line e _ is (why schema line faults.Missing (λ e. absurd (cc)) h))
-by_memory schema line e faults.Memory h is = refl
-
-pub only_edit : (schema : SchemaValue) (line : List ℕ) (answer : Result Edit EditTextFault) → IfOk answer (Reads schema line) → IfErr answer (IsRefused schema line)
-    → (e : Edit) → Reads schema line e → MatchResult answer (λ d. d ≡ e) (λ f. f ≡ faults.Memory)
-only_edit schema line (Ok d) ok err e h = one_answer.one_edit schema line d e ok h
-only_edit schema line (Err f) ok err e h = by_memory schema line e f err h
+-- whether a fault is want of memory
+pub is_memory : (f : EditTextFault) → (f ≡ faults.Memory) ⊎ (f ≢ faults.Memory)
+is_memory faults.Memory = inl refl
+is_memory _ = inr (λ e. absurd (cc))

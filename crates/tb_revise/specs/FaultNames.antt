@@ -13,3 +13,7 @@ fault_name faults.UnknownCode = Some (record { number = 4; word = codes "Unknown
 fault_name faults.Repeated = Some (record { number = 5; word = codes "Repeated" })
 fault_name faults.Missing = Some (record { number = 6; word = codes "Missing" })
 fault_name faults.Memory = None
+
+-- that of an edit by which more would be held than may be: it follows those of a line
+abbrev pub too_many : FaultNameValue
+too_many = record { number = 7; word = codes "TooMany" }

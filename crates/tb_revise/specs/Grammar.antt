@@ -5,10 +5,11 @@
 --   drop PERSON
 -- An amend has a setting or more, and an add may have none: whether it sets every variable is asked
 -- of what it means.
-use Rattle.std.specs.Prelude.{◌≡◌, ◌==◌, ℕ, Bool, true, false, List, [], ◌∷◌, ◌++◌, map, codes}
+use Rattle.std.specs.Prelude.{◌≡◌, ◌==◌, ◌||◌, ℕ, Bool, true, false, List, [], ◌∷◌, ◌++◌, map}
+use Rattle.std.specs.Prelude.{bytes_eq, codes}
 use Rattle.std.specs.List.{AllByRecursion, list_all, list_any}
-use Rattle.tb_query.specs.Bytes.{is_text_byte}
-use Rattle.tb_revise.specs.Words.{words_of}
+use Rattle.tb_base.specs.Bytes.{is_text_byte}
+use Rattle.tb_base.specs.Words.{words_of}
 
 -- a setting by the text of its variable's name and of its code
 pub record NamedSetting : Type 0 where
@@ -36,6 +37,12 @@ edit_words (NamedAdd person key settings) =
     codes "add" ∷ person ∷ key ∷ map setting_word settings
 edit_words (NamedDrop person) = codes "drop" ∷ person ∷ []
 edit_words (NamedAmend person settings) = codes "amend" ∷ person ∷ map setting_word settings
+
+-- whether a word is one with which an edit begins
+abbrev pub begins_edit : List ℕ → Bool
+begins_edit word =
+    bytes_eq word (codes "add") || bytes_eq word (codes "drop")
+    || bytes_eq word (codes "amend")
 
 -- a name ends at the first `=` of its setting
 abbrev pub is_equals : ℕ → Bool

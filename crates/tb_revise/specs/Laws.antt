@@ -1,11 +1,11 @@
 -- Laws of the grammar and of what a line reads as.
-use Rattle.std.specs.Prelude.{◌≡◌, ◌≢◌, ◌⊎◌, ◌↔◌, ◌||◌, ◌==◌, not, nat_lt, ℕ, Bool, true}
+use Rattle.std.specs.Prelude.{◌≡◌, ◌↔◌, ◌||◌, ◌==◌, not, nat_lt, ℕ, Bool, true}
 use Rattle.std.specs.Prelude.{if◌then◌else◌, List, [], ◌∷◌, length, drop, bytes_eq, codes}
 use Rattle.std.specs.List.{list_any}
+use Rattle.tb_base.specs.OneAnswer.{HasOneAnswer}
 use Rattle.tb_model.specs.Schemas.{SchemaValue, shape_of}
 use Rattle.tb_release.specs.Laws.{EditFits}
 use Rattle.tb_release.specs.declared.edits.Edit.{Edit}
-use Rattle.tb_revise.specs.declared.fault.EditTextFault.{EditTextFault}
 use Rattle.tb_revise.specs.declared.fault.EditTextFault.TheVariants as faults
 use Rattle.tb_revise.specs.Faults.{Reads, IsRefused}
 use Rattle.tb_revise.specs.Grammar.{NamedEdit, IsEdit, is_equals}
@@ -39,21 +39,10 @@ SyntaxByRules =
     → ((edit : NamedEdit) → ¬ IsEdit words edit) ↔ (has_syntax_fault words ≡ true)
 
 -- a line reads as exactly one edit, or is refused by exactly one fault
-pub record OneAnswer : Type 0 where
-  pub some_answer :
-      (schema : SchemaValue) (line : List ℕ)
-      → ((e : Edit) × Reads schema line e)
-      ⊎ ((f : EditTextFault) × (f ≢ faults.Memory) × IsRefused schema line f)
-  pub one_edit :
-      (schema : SchemaValue) (line : List ℕ) (d e : Edit)
-      → Reads schema line d → Reads schema line e → d ≡ e
-  pub one_fault :
-      (schema : SchemaValue) (line : List ℕ) (f g : EditTextFault)
-      → f ≢ faults.Memory → g ≢ faults.Memory
-      → IsRefused schema line f → IsRefused schema line g → f ≡ g
-  pub not_both :
-      (schema : SchemaValue) (line : List ℕ) (e : Edit) (f : EditTextFault)
-      → f ≢ faults.Memory → Reads schema line e → ¬ IsRefused schema line f
+abbrev pub OneAnswer : Type 0
+OneAnswer =
+    (schema : SchemaValue) (line : List ℕ)
+    → HasOneAnswer faults.Memory (Reads schema line) (IsRefused schema line)
 
 -- an edit that a line reads as fits the classification's shape
 abbrev pub ReadEditsFit : Type 0

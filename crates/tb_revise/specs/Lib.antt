@@ -5,4 +5,3 @@ pub mod Laws
 pub mod Meanings
 pub mod Reading
 pub mod Views
-pub mod Words

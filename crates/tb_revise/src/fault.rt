@@ -1,7 +1,7 @@
 // Why an edit line is refused.
 
 ghost use Rattle.std.specs.Prelude.{◌≡◌};
-ghost use Rattle.tb_revise.specs.FaultNames.{fault_name};
+ghost use Rattle.tb_revise.specs.FaultNames.{fault_name, too_many};
 
 use std::alloc::{AllocError, AllocFailed};
 use tb_base::Memory;
@@ -45,6 +45,14 @@ impl EditTextFault {
         };
         Some(name)
     }
+}
+
+/// The number and the word with which an edit is refused by which more would be held than may be.
+/// It follows the faults of an edit line.
+pub fn too_many() -> FaultName
+    ensures { result ≡ too_many }
+{
+    FaultName::new(7, "TooMany")
 }
 
 impl From<Memory> for EditTextFault {

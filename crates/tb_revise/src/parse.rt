@@ -2,15 +2,22 @@
 
 ghost use Rattle.std.specs.Prelude.{◌≡◌, ◌<◌, IfSome, MatchOption, MatchResult, None, Some};
 ghost use Rattle.std.specs.Prelude.{length, position};
-ghost use Rattle.tb_revise.specs.Grammar.{IsEdit, is_equals};
+ghost use Rattle.tb_base.specs.Words.{words_of};
+ghost use Rattle.tb_revise.specs.Grammar.{IsEdit, begins_edit, is_equals};
 ghost use Rattle.tb_revise.specs.Reading.{ParsesNone, StopsBy, read_add, read_amend, read_drop};
 ghost use Rattle.tb_revise.specs.Reading.{read_setting, read_settings, read_words};
 ghost use Rattle.tb_revise.specs.Views.{edit_view, setting_view, setting_views};
-ghost use Rattle.tb_revise.specs.Words.{words_of};
 
 use crate::fault::EditTextFault;
-use crate::words::first_word;
 use std::alloc::Global;
+use tb_base::first_word;
+
+/// Whether a word is one with which an edit begins: `add`, `drop` or `amend`.
+pub fn begins_edit(word: &[u8]) -> bool
+    ensures { result ≡ begins_edit word.now }
+{
+    word == b"add".as_slice() || word == b"drop".as_slice() || word == b"amend".as_slice()
+}
 
 /// A setting, by the text of its variable's name and of its code.
 #[derive(Clone, Copy)]

@@ -1,8 +1,7 @@
 // Reading an edit line over a schema.
 
-ghost use Rattle.std.specs.Prelude.{◌≡◌, ◌≤◌, IfErr, IfOk, MatchResult, length};
+ghost use Rattle.std.specs.Prelude.{◌≡◌, IfErr, IfOk, MatchResult};
 ghost use Rattle.tb_model.specs.Schemas.{shape_of};
-ghost use Rattle.tb_query.specs.declared.limits.TheConstants.{MOST_LINE_BYTES};
 ghost use Rattle.tb_release.specs.Laws.{EditFits};
 ghost use Rattle.tb_release.specs.declared.edits.Edit.{Edit as EditValue};
 ghost use Rattle.tb_revise.specs.Faults.{IsRefused, Reads};
@@ -10,15 +9,13 @@ ghost use Rattle.tb_revise.specs.Faults.{IsRefused, Reads};
 use crate::fault::EditTextFault;
 use crate::meaning::edit_meant;
 use crate::parse::parse;
-use crate::words::is_text;
 use std::alloc::Global;
-use tb_query::MOST_LINE_BYTES;
+use tb_base::is_text;
 use tb_release::Edit;
 use tb_schema::Schema;
 
 // The edit of a line, or the line's first fault.
 fn read(alloc: Global, schema: &Schema, line: &[u8]) -> Result<Edit, EditTextFault>
-    requires { length line.now ≤ MOST_LINE_BYTES }
     ensures read { IfOk result (Reads schema.now line.now) }
     ensures refused { IfErr result (IsRefused schema.now line.now) }
 {
@@ -40,7 +37,6 @@ fn read(alloc: Global, schema: &Schema, line: &[u8]) -> Result<Edit, EditTextFau
 /// of its codes, compared as bytes. Whether the edit is possible on a release isn't asked here. It
 /// takes memory for the line's settings and for the edit.
 pub fn read_edit(alloc: Global, schema: &Schema, line: &[u8]) -> Result<Edit, EditTextFault>
-    requires { length line.now ≤ MOST_LINE_BYTES }
     // The line reads as the edit that is returned.
     ensures read { IfOk result (Reads schema.now line.now) }
     // Where it reads as an edit, that is returned, or the run is out of memory.

@@ -7,6 +7,9 @@
 //! a file), `specs/Columns` (where names stand in a header) and `specs/FaultNames` (how a kind of
 //! fault is printed). The laws of the readers cite `specs/WholeFiles`: what that means for all
 //! records of a file at once.
+//!
+//! Of the lemmas, `proofs/Left` serves the reading of records, `Names` and `FieldIndices` the
+//! search for columns, and `WholeFiles` and `Meaning` the laws of the readers.
 #![tactic(auto)]
 
 mod columns;

@@ -6,7 +6,7 @@ ghost use Rattle.tb_query.specs.Reading.{Leads, NotNext, StopsBy, with_dimension
 ghost use Rattle.tb_query.specs.Steps.{dimension, dimensions as dimensions_read};
 ghost use Rattle.tb_query.specs.Views.{token_views};
 
-use super::tree::{Stop, first, name};
+use super::tree::{Stop, after, name};
 use crate::tokens::{Kind, Token};
 use std::alloc::Global;
 
@@ -18,13 +18,7 @@ fn by<'t, 'a>(tokens: &'t [Token<'a>]) -> Option<&'t [Token<'a>]>
         dimension (token_views rest.now)) }
     ensures shorter { IfSome result (λ rest. length rest.now < length tokens.now) }
 {
-    match first(tokens) {
-        None => None,
-        Some((t, rest)) => match t.kind {
-            Kind::By => Some(rest),
-            _ => None,
-        },
-    }
+    after(Kind::By, tokens)
 }
 
 /// The dimensions.

@@ -1,14 +1,14 @@
 // The end of a query: whether it has totals and labels.
 
 ghost use Rattle.std.specs.Prelude.{◌≡◌, [], MatchResult, Ok, false, true};
-ghost use Rattle.tb_query.specs.declared.tokens.Kind.TheVariants.{And, By, Where};
+ghost use Rattle.tb_query.specs.declared.tokens.Kind.TheVariants.{And, By, Totals, Where};
 ghost use Rattle.tb_query.specs.Reading.{Ends, NotNext, StopsBy, no_more, read_from, tail};
 ghost use Rattle.tb_query.specs.Steps.{dimensions as dimensions_read, filters as filters_read};
 ghost use Rattle.tb_query.specs.Steps.{first_with as first_with_due, labels as labels_read};
 ghost use Rattle.tb_query.specs.Steps.{second_with as second_with_due, totals as totals_read};
 ghost use Rattle.tb_query.specs.Views.{token_views};
 
-use super::tree::{Stop, first};
+use super::tree::{Stop, after, expect, first};
 use crate::tokens::{Kind, Token};
 
 // The end of the line.
@@ -24,21 +24,20 @@ fn end(tokens: &[Token]) -> Result<(), Stop>
     }
 }
 
-// `labels` after `with`, where there were totals.
+// `labels` after `with`, and the end.
 #[tactic(auto, unfolding(crate::specs::Reading::read_from))]
-fn second_with(tokens: &[Token]) -> Result<(), Stop>
-    ensures { MatchResult result
+fn labels(tokens: &[Token]) -> Result<(), Stop>
+    ensures second { MatchResult result
         (λ _. read_from second_with_due (token_views tokens.now)
         ≡ Ok (tail [] false [] [] false true))
         (StopsBy second_with_due (token_views tokens.now)) }
+    ensures first { NotNext Totals (token_views tokens.now) → MatchResult result
+        (λ _. read_from first_with_due (token_views tokens.now)
+        ≡ Ok (tail [] false [] [] false true))
+        (StopsBy first_with_due (token_views tokens.now)) }
 {
-    match first(tokens) {
-        None => Err(Stop::Syntax(tokens.len())),
-        Some((t, rest)) => match t.kind {
-            Kind::Labels => end(rest),
-            _ => Err(Stop::Syntax(tokens.len())),
-        },
-    }
+    let rest = expect(Kind::Labels, tokens)?;
+    end(rest)
 }
 
 // Whether labels are asked for after totals.
@@ -49,16 +48,12 @@ fn after_totals(tokens: &[Token]) -> Result<bool, Stop>
         ≡ Ok (tail [] false [] [] false lab))
         (StopsBy totals_read (token_views tokens.now)) }
 {
-    match first(tokens) {
-        None => Ok(false),
-        Some((t, rest)) => match t.kind {
-            Kind::With => {
-                second_with(rest)?;
-                Ok(true)
-            }
-            _ => Err(Stop::Syntax(tokens.len())),
-        },
+    if tokens.is_empty() {
+        return Ok(false);
     }
+    let rest = expect(Kind::With, tokens)?;
+    labels(rest)?;
+    Ok(true)
 }
 
 // Whether totals and labels are asked for, after the first `with`.
@@ -69,20 +64,12 @@ fn first_with(tokens: &[Token]) -> Result<(bool, bool), Stop>
         ≡ Ok (tail [] false [] [] x.0 x.1))
         (StopsBy first_with_due (token_views tokens.now)) }
 {
-    match first(tokens) {
-        None => Err(Stop::Syntax(tokens.len())),
-        Some((t, rest)) => match t.kind {
-            Kind::Totals => {
-                let labels = after_totals(rest)?;
-                Ok((true, labels))
-            }
-            Kind::Labels => {
-                end(rest)?;
-                Ok((false, true))
-            }
-            _ => Err(Stop::Syntax(tokens.len())),
-        },
+    if let Some(rest) = after(Kind::Totals, tokens) {
+        let labels = after_totals(rest)?;
+        return Ok((true, labels));
     }
+    labels(tokens)?;
+    Ok((false, true))
 }
 
 /// Whether totals and labels are asked for, after the dimensions and filters.
@@ -94,11 +81,9 @@ pub fn ending(tokens: &[Token]) -> Result<(bool, bool), Stop>
     ensures after_filters { NotNext And (token_views tokens.now)
         → Ends filters_read (token_views tokens.now) result }
 {
-    match first(tokens) {
-        None => Ok((false, false)),
-        Some((t, rest)) => match t.kind {
-            Kind::With => first_with(rest),
-            _ => Err(Stop::Syntax(tokens.len())),
-        },
+    if tokens.is_empty() {
+        return Ok((false, false));
     }
+    let rest = expect(Kind::With, tokens)?;
+    first_with(rest)
 }

@@ -2,7 +2,7 @@
 
 ghost use Rattle.std.specs.Prelude.{◌∷◌, ◌<◌, [], IfOk, IfSome, MatchOption, MatchResult, false};
 ghost use Rattle.std.specs.Prelude.{length};
-ghost use Rattle.tb_query.specs.declared.tokens.Kind.TheVariants.{And, Comma};
+ghost use Rattle.tb_query.specs.declared.tokens.Kind.TheVariants.{And, Comma, Not};
 ghost use Rattle.tb_query.specs.Reading.{Leads, NotNext, StopsBy, before, last_codes};
 ghost use Rattle.tb_query.specs.Reading.{with_filters, with_negated};
 ghost use Rattle.tb_query.specs.Steps.{code as code_due, codes as codes_read};
@@ -10,7 +10,7 @@ ghost use Rattle.tb_query.specs.Steps.{filters as filters_read, name as name_due
 ghost use Rattle.tb_query.specs.Steps.{negated as negated_due, opening as opening_due, test};
 ghost use Rattle.tb_query.specs.Views.{filter_view, filter_views, token_view, token_views};
 
-use super::tree::{FilterTokens, Stop, first, name};
+use super::tree::{FilterTokens, Stop, after, expect, first, name};
 use crate::tokens::{Kind, Token};
 use std::alloc::Global;
 
@@ -23,31 +23,24 @@ fn opening<'t, 'a>(tokens: &'t [Token<'a>]) -> Result<&'t [Token<'a>], Stop>
         (StopsBy opening_due (token_views tokens.now)) }
     ensures shorter { IfOk result (λ rest. length rest.now < length tokens.now) }
 {
-    match first(tokens) {
-        None => Err(Stop::Syntax(tokens.len())),
-        Some((t, rest)) => match t.kind {
-            Kind::Open => Ok(rest),
-            _ => Err(Stop::Syntax(tokens.len())),
-        },
-    }
+    expect(Kind::Open, tokens)
 }
 
-// `in (` of a negated filter.
+// `in (` of a filter.
 #[tactic(auto, unfolding(crate::specs::Reading::read_from))]
-fn after_not<'t, 'a>(tokens: &'t [Token<'a>]) -> Result<&'t [Token<'a>], Stop>
+fn list_opening<'t, 'a>(tokens: &'t [Token<'a>]) -> Result<&'t [Token<'a>], Stop>
     ensures negated { MatchResult result
         (λ rest. Leads (with_negated false) negated_due (token_views tokens.now)
         code_due (token_views rest.now))
         (StopsBy negated_due (token_views tokens.now)) }
+    ensures plain { NotNext Not (token_views tokens.now) → MatchResult result
+        (λ rest. Leads (with_negated false) test (token_views tokens.now)
+        code_due (token_views rest.now))
+        (StopsBy test (token_views tokens.now)) }
     ensures shorter { IfOk result (λ rest. length rest.now < length tokens.now) }
 {
-    match first(tokens) {
-        None => Err(Stop::Syntax(tokens.len())),
-        Some((t, rest)) => match t.kind {
-            Kind::In => opening(rest),
-            _ => Err(Stop::Syntax(tokens.len())),
-        },
-    }
+    let rest = expect(Kind::In, tokens)?;
+    opening(rest)
 }
 
 // `in (` or `not in (` of a filter, and whether it is negated.
@@ -59,20 +52,12 @@ fn membership<'t, 'a>(tokens: &'t [Token<'a>]) -> Result<(bool, &'t [Token<'a>])
         (StopsBy test (token_views tokens.now)) }
     ensures shorter { IfOk result (λ x. length x.1.now < length tokens.now) }
 {
-    match first(tokens) {
-        None => Err(Stop::Syntax(tokens.len())),
-        Some((t, rest)) => match t.kind {
-            Kind::Not => {
-                let after = after_not(rest)?;
-                Ok((true, after))
-            }
-            Kind::In => {
-                let after = opening(rest)?;
-                Ok((false, after))
-            }
-            _ => Err(Stop::Syntax(tokens.len())),
-        },
+    if let Some(rest) = after(Kind::Not, tokens) {
+        let codes = list_opening(rest)?;
+        return Ok((true, codes));
     }
+    let codes = list_opening(tokens)?;
+    Ok((false, codes))
 }
 
 // A code.
@@ -103,13 +88,7 @@ fn comma<'t, 'a>(tokens: &'t [Token<'a>]) -> Option<&'t [Token<'a>]>
         code_due (token_views rest.now)) }
     ensures shorter { IfSome result (λ rest. length rest.now < length tokens.now) }
 {
-    match first(tokens) {
-        None => None,
-        Some((t, rest)) => match t.kind {
-            Kind::Comma => Some(rest),
-            _ => None,
-        },
-    }
+    after(Kind::Comma, tokens)
 }
 
 // `)` after the last code.
@@ -121,13 +100,7 @@ fn closing<'t, 'a>(tokens: &'t [Token<'a>]) -> Result<&'t [Token<'a>], Stop>
         (StopsBy codes_read (token_views tokens.now)) }
     ensures shorter { IfOk result (λ rest. length rest.now < length tokens.now) }
 {
-    match first(tokens) {
-        None => Err(Stop::Syntax(tokens.len())),
-        Some((t, rest)) => match t.kind {
-            Kind::Close => Ok(rest),
-            _ => Err(Stop::Syntax(tokens.len())),
-        },
-    }
+    expect(Kind::Close, tokens)
 }
 
 // The codes of a filter, and `)`.
@@ -183,13 +156,7 @@ fn and<'t, 'a>(tokens: &'t [Token<'a>]) -> Option<&'t [Token<'a>]>
         name_due (token_views rest.now)) }
     ensures shorter { IfSome result (λ rest. length rest.now < length tokens.now) }
 {
-    match first(tokens) {
-        None => None,
-        Some((t, rest)) => match t.kind {
-            Kind::And => Some(rest),
-            _ => None,
-        },
-    }
+    after(Kind::And, tokens)
 }
 
 /// The filters after `where`.

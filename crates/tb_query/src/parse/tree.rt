@@ -1,13 +1,13 @@
 // What the parser makes of tokens, and why it stops.
 
-ghost use Rattle.std.specs.Prelude.{◌≡◌, ◌∷◌, ◌<◌, [], IfOk, MatchOption, MatchResult, length};
-ghost use Rattle.tb_query.specs.Reading.{Leads, StopsBy, before};
+ghost use Rattle.std.specs.Prelude.{◌≡◌, ◌∷◌, ◌<◌, [], IfOk, IfSome, MatchOption, MatchResult, length};
+ghost use Rattle.tb_query.specs.Reading.{IsNext, Leads, NotNext, StopsBy, before};
 ghost use Rattle.tb_query.specs.Steps.{dimension, dimensions as dimensions_read, name as name_due};
 ghost use Rattle.tb_query.specs.Steps.{test};
 ghost use Rattle.tb_query.specs.Views.{token_view, token_views};
 
 use crate::tokens::{Kind, Token};
-use std::alloc::{AllocError, AllocFailed};
+use std::alloc::AllocFailed;
 
 /// Why the parser stopped: the tokens are no query, and so many are left from the first that may
 /// not stand there; or want of memory.
@@ -34,16 +34,6 @@ pub struct QueryTokens<'a> {
     pub labels: bool,
 }
 
-impl From<AllocError> for Stop {
-    ghost use Rattle.tb_query.specs.declared.parse.tree.Stop.TheVariants.{Memory};
-
-    ghost from_gives = { λ _ e. e ≡ Memory };
-
-    fn from(_e: AllocError) -> Stop {
-        Stop::Memory
-    }
-}
-
 impl<T: Drop> From<AllocFailed<T>> for Stop {
     ghost use Rattle.tb_query.specs.declared.parse.tree.Stop.TheVariants.{Memory};
 
@@ -63,6 +53,28 @@ pub fn first<'t, 'a>(tokens: &'t [Token<'a>]) -> Option<(Token<'a>, &'t [Token<'
         [] => None,
         [t, rest @ ..] => Some((*t, rest)),
     }
+}
+
+/// The tokens after the first, if that is of this kind.
+pub fn after<'t, 'a>(kind: Kind, tokens: &'t [Token<'a>]) -> Option<&'t [Token<'a>]>
+    ensures next { MatchOption result (NotNext kind (token_views tokens.now))
+        (λ rest. IsNext kind (token_views tokens.now) (token_views rest.now)) }
+    ensures shorter { IfSome result (λ rest. length rest.now < length tokens.now) }
+{
+    match first(tokens) {
+        Some((t, rest)) if t.kind == kind => Some(rest),
+        _ => None,
+    }
+}
+
+/// The tokens after the first, which must be of this kind.
+pub fn expect<'t, 'a>(kind: Kind, tokens: &'t [Token<'a>]) -> Result<&'t [Token<'a>], Stop>
+    ensures next { MatchResult result
+        (λ rest. IsNext kind (token_views tokens.now) (token_views rest.now))
+        (λ e. NotNext kind (token_views tokens.now) × (e ≡ Stop.Syntax (length tokens.now))) }
+    ensures shorter { IfOk result (λ rest. length rest.now < length tokens.now) }
+{
+    after(kind, tokens).ok_or(Stop::Syntax(tokens.len()))
 }
 
 /// A name, of a dimension or of a filter.

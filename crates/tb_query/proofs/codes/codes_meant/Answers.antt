@@ -5,7 +5,7 @@ use Rattle.tb_query.specs.Faults.{RefusesBy, unknown_among}
 use Rattle.tb_query.specs.Meanings.{code_of_token}
 use Rattle.tb_query.specs.Views.{token_views}
 use Rattle.tb_query.proofs.Found.{found_more, rest_more, unknown_here}
-use Rattle.tb_query.proofs.OneMore.{no_memory, no_ok, passed_on}
+use Rattle.tb_query.proofs.OneMore.{no_memory, passed_on}
 use Rattle.tb_query.proofs.codes.codes_meant.Goals as goal
 
 pub loop-t-preserved : goal.loop-t-preserved
@@ -20,21 +20,12 @@ loop-t-preserved c =
 
 pub returns-in_err-number : goal.returns-in_err-number
 returns-in_err-number c =
-    let schema = c.args.schema.now in
-    let fault = option_map faults.UnknownCode (unknown_among schema c.args.of (token_views c.args.codes.now)) in
-    let unknown = unknown_here (code_of_token schema c.args.of) c.args.codes.now c.loop-t.t-index _ c.loop-t-test.true c.in_err-number.ensures.0 c.loop-t.invariant.rest in
-    let ended = c.from_residual in
-    record {
-      meant = no_ok _ ended.result ended.ensures.1 _;
-      no_fault = no_ok _ ended.result ended.ensures.1 _;
-      refused = passed_on ended.result c.in_err-number.field-0.0 ended.ensures.1 fault (subst (λ e. RefusesBy e fault) (sym c.in_err-number.ensures.1) (ap (option_map faults.UnknownCode) unknown));
-    }
+    let look_up = code_of_token c.args.schema.now c.args.of in
+    let unknown = unknown_here look_up c.args.codes.now c.loop-t.t-index _ c.loop-t-test.true
+    c.in_err-number.ensures.0 c.loop-t.invariant.rest in
+    let fault = option_map faults.UnknownCode (unknown_among c.args.schema.now c.args.of (token_views c.args.codes.now)) in
+    passed_on _ _ _ _ c.in_err-number.field-0.0 c.from_residual.ensures.1
+    (subst (λ e. RefusesBy e fault) (sym c.in_err-number.ensures.1) (ap (option_map faults.UnknownCode) unknown))
 
 pub returns-in_err-push : goal.returns-in_err-push
-returns-in_err-push c =
-    let ended = c.from_residual-in_err-push in
-    record {
-      meant = no_ok _ ended.result ended.ensures.1 _;
-      no_fault = no_ok _ ended.result ended.ensures.1 _;
-      refused = no_memory ended.result ended.ensures.1 (option_map faults.UnknownCode (unknown_among c.args.schema.now c.args.of (token_views c.args.codes.now)));
-    }
+returns-in_err-push c = no_memory _ _ _ _ c.from_residual-in_err-push.ensures.1

@@ -9,7 +9,7 @@ use Rattle.tb_query.specs.Faults.{RefusesBy, unknown_in}
 use Rattle.tb_query.specs.Meanings.{name_of_token}
 use Rattle.tb_query.specs.Views.{token_views}
 use Rattle.tb_query.proofs.Found.{found_more, rest_more, unknown_here}
-use Rattle.tb_query.proofs.OneMore.{no_memory, no_ok, passed_on}
+use Rattle.tb_query.proofs.OneMore.{no_memory, passed_on}
 use Rattle.tb_query.proofs.names.names_meant.Goals as goal
 
 pub loop-t-preserved : goal.loop-t-preserved
@@ -26,23 +26,11 @@ loop-t-preserved c =
 
 pub returns-in_err-of : goal.returns-in_err-of
 returns-in_err-of c =
-    let schema = c.args.schema.now in
-    let fault = option_map faults.UnknownName (unknown_in schema (token_views c.args.names.now)) in
-    let unknown = unknown_here (name_of_token schema) c.args.names.now c.loop-t.t-index _ c.loop-t-test.true c.in_err-of.ensures.0 c.loop-t.invariant.rest in
-    let ended = c.from_residual in
-    record {
-      meant = no_ok _ ended.result ended.ensures.1 _;
-      names = no_ok _ ended.result ended.ensures.1 _;
-      no_fault = no_ok _ ended.result ended.ensures.1 _;
-      refused = passed_on ended.result c.in_err-of.field-0.0 ended.ensures.1 fault (subst (λ e. RefusesBy e fault) (sym c.in_err-of.ensures.1) (ap (option_map faults.UnknownName) unknown));
-    }
+    let unknown = unknown_here (name_of_token c.args.schema.now) c.args.names.now c.loop-t.t-index _ c.loop-t-test.true
+    c.in_err-of.ensures.0 c.loop-t.invariant.rest in
+    let fault = option_map faults.UnknownName (unknown_in c.args.schema.now (token_views c.args.names.now)) in
+    passed_on _ _ _ _ c.in_err-of.field-0.0 c.from_residual.ensures.1
+    (subst (λ e. RefusesBy e fault) (sym c.in_err-of.ensures.1) (ap (option_map faults.UnknownName) unknown))
 
 pub returns-in_err-push : goal.returns-in_err-push
-returns-in_err-push c =
-    let ended = c.from_residual-in_err-push in
-    record {
-      meant = no_ok _ ended.result ended.ensures.1 _;
-      names = no_ok _ ended.result ended.ensures.1 _;
-      no_fault = no_ok _ ended.result ended.ensures.1 _;
-      refused = no_memory ended.result ended.ensures.1 (option_map faults.UnknownName (unknown_in c.args.schema.now (token_views c.args.names.now)));
-    }
+returns-in_err-push c = no_memory _ _ _ _ c.from_residual-in_err-push.ensures.1

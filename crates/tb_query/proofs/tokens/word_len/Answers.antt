@@ -1,10 +1,12 @@
-use Rattle.std.proofs.Common.{not, sym, ap, ◌∙◌, arith, rules}
-use Rattle.std.proofs.lemmas.List.Sums.{position_or_len_is}
+use Rattle.std.proofs.Common.{◌∙◌, not, rules}
+use Rattle.std.proofs.lemmas.Iterator.{YieldsList-from_slice}
+use Rattle.std.proofs.lemmas.Iterator.Search.{position_from_yields_List}
+use Rattle.tb_base.proofs.WordLemmas.{place-or-length}
 use Rattle.tb_query.specs.Bytes.{is_word_byte}
 use Rattle.tb_query.proofs.tokens.word_len.Goals as goal
 
-pub returns-then-not-is_word_byte-clause-count : goal.returns-then-not-is_word_byte-clause-count
-returns-then-not-is_word_byte-clause-count c = sym (position_or_len_is (λ b. not (is_word_byte b)) c.args.bytes.now _ 0 (omega arith) (λ k h. ap not (c.loop-i.invariant k h)) (λ h. ap not (sym c.is_word_byte.ensures) ∙ search (rules, c.if-not-is_word_byte.ensures)))
-
 pub returns-clause-count : goal.returns-clause-count
-returns-clause-count c = sym (position_or_len_is (λ b. not (is_word_byte b)) c.args.bytes.now _ 0 (omega arith) (λ k h. ap not (c.loop-i.invariant k (omega arith))) (λ h. absurd (omega arith)))
+returns-clause-count c =
+    c.unwrap_or.ensures ∙ place-or-length (λ b. not (is_word_byte b)) c.args.bytes.now c.position.result
+    (position_from_yields_List (λ b. not (is_word_byte b)) _ _ _ c.position.ensures.ran (YieldsList-from_slice c.args.bytes.now cc)
+    (λ x b q k. search rules))

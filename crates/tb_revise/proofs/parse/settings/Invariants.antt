@@ -2,7 +2,7 @@ use Rattle.std.proofs.Common.{◌≡◌, length}
 use Rattle.tb_base.proofs.AllThere.{then_all}
 use Rattle.tb_revise.specs.Reading.{read_settings}
 use Rattle.tb_revise.specs.Views.{setting_views}
-use Rattle.tb_revise.specs.Words.{words_of}
+use Rattle.tb_base.specs.Words.{words_of}
 use Rattle.tb_revise.proofs.parse.settings.Given as goal
 
 -- the settings so far, with those to come, are all the settings
