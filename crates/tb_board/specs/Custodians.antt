@@ -4,7 +4,7 @@ use Rattle.std.specs.Coded.{Coded, code_by, coded×}
 use Rattle.tb_base.specs.Records.{AllFit}
 use Rattle.tb_front.specs.Holders.{Name, holder}
 use Rattle.tb_model.specs.Releases.{ReleaseValue, release_code}
-use Rattle.tb_release.specs.Batches.{BatchValue, Follows, batch_code, changes_of, next_release}
+use Rattle.tb_release.specs.Batches.{BatchValue, Follows, batch_code, batch_of, next_release}
 use Rattle.tb_release.specs.Chains.{after_batch}
 use Rattle.tb_release.specs.Results.{ChangeFits}
 use Rattle.tb_release.specs.declared.edits.Edit.{Edit}
@@ -49,7 +49,7 @@ abbrev pub next_publication : ReleaseValue → List Edit → PublicationValue
 next_publication release edits =
     record {
       release = next_release release edits;
-      batch = record { changes = changes_of release edits };
+      batch = batch_of release edits;
     }
 
 -- a publication follows a release, and all its records fit a shape

@@ -1,8 +1,6 @@
 -- What the turns of a board return.
-use Rattle.std.specs.Prelude.{◌≡◌, ◌<◌, ◌≤◌, ℕ, List, length, Option, Some, None, option_map}
+use Rattle.std.specs.Prelude.{◌≡◌, ℕ, List, length, Option, Some, None, option_map}
 use Rattle.tb_base.specs.Records.{AllFit}
-use Rattle.tb_cache.specs.declared.TheConstants.{MOST_ENTRIES}
-use Rattle.tb_core.specs.declared.desk.Stats.{Stats}
 use Rattle.tb_core.specs.declared.desk.Taken.{Taken}
 use Rattle.tb_core.specs.Takes.{number_of, release_in, IsTaken}
 use Rattle.tb_core.specs.Views.{hit_of}
@@ -22,11 +20,3 @@ pub record IsTakenAt (seen : HolderValue) (vars : Option (List ℕ)) (taken : Ta
   pub number : number_of taken ≡ length seen.list
   pub fit : AllFit seen.start.shape (release_in taken).records
   pub hit : IsHitFor seen vars taken
-
--- the numbers of a desk with so many batches
-pub record AreStats (batches : ℕ) (stats : Stats) : Type 0 where
-  pub release : stats.release ≡ batches
-  pub hits : stats.hits ≤ stats.looks
-  pub entries : stats.entries ≤ stats.capacity
-  pub some : 0 < stats.capacity
-  pub few : stats.capacity ≤ MOST_ENTRIES

@@ -4,13 +4,14 @@ ghost use Rattle.std.specs.Arc.{arc_value};
 ghost use mathlib.Core.List.{IsPrefix};
 ghost use Rattle.tb_cache.specs.declared.TheConstants.{MOST_ENTRIES};
 ghost use Rattle.tb_core.specs.Desks.{IsCubeAt};
+ghost use Rattle.tb_core.specs.Turns.{AreStats};
 ghost use Rattle.tb_front.specs.Holders.{holder, longer, IsLater};
 ghost use Rattle.tb_release.specs.Batches.{CanFollow, batch_refusal};
 ghost use Rattle.tb_release.specs.Laws.{EditFits};
 ghost use Rattle.tb_release.specs.Results.{IsWhy};
 ghost use Rattle.tb_board.specs.Custodians.{after_publishing, first_custodian, IsWhole};
 ghost use Rattle.tb_board.specs.Holders.{release_seen, IsChainSeen};
-ghost use Rattle.tb_board.specs.Turns.{AreStats, IsTakenAt};
+ghost use Rattle.tb_board.specs.Turns.{IsTakenAt};
 
 use crate::custodian::Custodian;
 use crate::locked::Locked;
@@ -72,6 +73,8 @@ impl<B: Named> Board<B> {
     ) -> Result<Taken, Memory>
         requires { pass.old.name ≡ B.name }
         ensures later { IsLater pass.old pass.new }
+        // Also where the call is out of memory.
+        ensures chain { IsChainSeen pass.new }
         ensures taken { IfOk result (IsTakenAt pass.new (option_copied vars.entry)) }
     {
         let mut guard = self.locked.lock(rt);
@@ -169,12 +172,13 @@ impl<B: Named> Board<B> {
     }
 
     /// Tells that the pass has the custodian's start, and has seen a beginning of what the
-    /// custodian's writer wrote. It changes nothing.
+    /// custodian's writer wrote, which is a chain too. It changes nothing.
     pub fn confirm(&self, custodian: &mut Custodian, pass: &mut Pass<Step>)
         requires custodian { custodian.old.writer.name ≡ B.name }
         requires pass { pass.old.name ≡ B.name }
         ensures same { (custodian.new ≡ custodian.old) × (pass.new ≡ pass.old) }
         ensures behind { IsLater pass.old custodian.old.writer }
+        ensures chain { IsChainSeen pass.new }
     {
         custodian.writer.confirm(&self.front, pass);
     }

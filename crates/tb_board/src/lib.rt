@@ -8,6 +8,9 @@
 //! (the base of a board's chain), `specs/Holders` (what a holder of the front has seen),
 //! `specs/Custodians` (when a custodian is whole, and what a publication makes of it) and
 //! `specs/Turns` (what the turns return).
+//!
+//! Of the lemmas `Chains` (what was seen is a chain) and `Meeting` serve each turn, `Whole` serves
+//! a publication, and `Taking` a take, and callers who offer what they made of one.
 #![tactic(auto)]
 
 mod board;
@@ -24,6 +27,3 @@ pub use locked::Locked;
 pub use named::Named;
 pub use opening::Opening;
 pub use step::{Start, Step};
-
-#[cfg(test)]
-mod tests;

@@ -5,11 +5,11 @@ ghost use Rattle.std.specs.Option.{option_copied};
 ghost use Rattle.std.specs.Arc.{arc_value};
 ghost use Rattle.tb_cache.specs.declared.TheConstants.{MOST_ENTRIES};
 ghost use Rattle.tb_core.specs.Desks.{IsCubeAt};
-ghost use Rattle.tb_core.specs.Turns.{after_clear, after_look, after_resize, IsOffered};
+ghost use Rattle.tb_core.specs.Turns.{after_clear, after_look, after_resize, AreStats, IsOffered};
 ghost use Rattle.tb_front.specs.Holders.{IsLater};
 ghost use Rattle.tb_board.specs.Custodians.{IsWhole};
 ghost use Rattle.tb_board.specs.Holders.{holder_at, IsChainSeen};
-ghost use Rattle.tb_board.specs.Turns.{AreStats, IsTakenAt};
+ghost use Rattle.tb_board.specs.Turns.{IsTakenAt};
 
 use crate::custodian::Custodian;
 use crate::named::Named;
@@ -77,6 +77,7 @@ impl<B: Named> Locked<B> {
         requires pass { pass.old.name ≡ B.name }
         ensures pass { pass.new ≡ holder_at B.name self.old }
         ensures later { IsLater pass.old pass.new }
+        ensures chain { IsChainSeen pass.new }
         ensures taken { IfOk result (IsTakenAt pass.new (option_copied vars.entry)) }
         ensures ok { OnOk result (self.new ≡ after_look (option_copied vars.entry) self.old) }
         ensures err { OnErr result (self.new ≡ self.old) }

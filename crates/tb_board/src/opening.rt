@@ -62,6 +62,7 @@ impl Opening {
         let (front, writer, mut keeper) = Front::new(alloc, &start)?;
         let pass = keeper.pass(&front);
         let desk = Desk::new(alloc, shape, Arc::try_clone(&start.base)?, capacity)?;
+        desk.soundness();
         let Start { shape, base } = start;
         let custodian = Custodian {
             writer,

@@ -2,12 +2,12 @@
 
 ghost use Rattle.std.specs.Prelude.{◌≡◌, ◌<◌, All, IfOk, IfErr, OnOk, OnErr, length};
 ghost use Rattle.tb_front.specs.declared.front.TheConstants.{LONGEST_CHAIN};
-ghost use Rattle.tb_release.specs.Batches.{CanFollow, batch_refusal};
+ghost use Rattle.tb_release.specs.Batches.{CanFollow, Follows, batch_refusal};
 ghost use Rattle.tb_release.specs.Laws.{EditFits};
-ghost use Rattle.tb_release.specs.Results.{IsWhy};
+ghost use Rattle.tb_release.specs.Results.{ChangeFits, IsWhy};
 ghost use Rattle.tb_board.specs.Custodians.{after_publication, next_publication, CanPublish};
 ghost use Rattle.tb_board.specs.Custodians.{IsWhole};
-ghost use Rattle.tb_board.specs.Holders.{with_batch};
+ghost use Rattle.tb_board.specs.Holders.{release_seen, with_batch};
 
 use crate::custodian::Custodian;
 use crate::locked::Locked;
@@ -77,6 +77,8 @@ fn hand_on(front: &Front<Step>, keeper: &mut Keeper<Step>, custodian: &mut Custo
     requires met { custodian.old.writer ≡ keeper.old }
     requires whole { custodian.old.pass ≡ keeper.old }
     requires room { length keeper.old.list < LONGEST_CHAIN }
+    requires follows { Follows (release_seen keeper.old) step.now }
+    requires fit { All (ChangeFits keeper.old.start.shape) step.now.changes }
     ensures keeper { keeper.new ≡ with_batch keeper.old step.now }
     ensures writer { custodian.new.writer ≡ with_batch keeper.old step.now }
     ensures pass { custodian.new.pass ≡ with_batch keeper.old step.now }

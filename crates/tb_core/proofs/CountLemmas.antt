@@ -1,40 +1,42 @@
 -- Each reply's cells are counted from scratch, over a release of the chain whose records fit.
 use Rattle.std.proofs.Common.{◌≡◌, ℕ, ◌≤◌, Bool, true, false, List, [], ◌∷◌, ◌++◌, length, length-append, take, Option, Some, None, inl, inr, refl, sym, ap, ◌∙◌, subst, arith}
-use Rattle.std.specs.Prelude.{◌&&◌, fold, if◌then◌else◌, not, slice_get}
+use Rattle.std.specs.Prelude.{◌&&◌, if◌then◌else◌, not, slice_get}
 use Rattle.std.proofs.lemmas.Bool.{and_parts}
 use Rattle.std.proofs.lemmas.List.{take-append-le}
 use Rattle.tb_base.specs.declared.cells.Cell.{Cell}
 use Rattle.tb_model.specs.Cubes.{cube_of}
 use Rattle.tb_model.specs.Releases.{ReleaseValue}
-use Rattle.tb_release.specs.Batches.{BatchValue, changes_of, next_release}
+use Rattle.tb_release.specs.Batches.{BatchValue, batch_of, next_release}
 use Rattle.tb_release.specs.Chains.{release_after}
 use Rattle.tb_release.specs.Results.{IsNext}
 use Rattle.tb_release.specs.declared.edits.Edit.{Edit}
 use Rattle.tb_release.proofs.Runs.{batch_fits}
 use Rattle.tb_core.specs.declared.events.Event.{Event}
-use Rattle.tb_core.specs.declared.events.Event.TheVariants.{Take, Work, Offer, Answer, Publish, Clear, Resize, Stats}
+use Rattle.tb_core.specs.declared.events.Event.TheVariants.{Take, Work, Answer}
 use Rattle.tb_core.specs.declared.events.Outcome.{Outcome}
 use Rattle.tb_core.specs.declared.events.Outcome.TheVariants.{Got, Memory}
 use Rattle.tb_core.specs.declared.events.Reply.{Reply}
 use Rattle.tb_core.specs.Callers.{Stage}
 use Rattle.tb_core.specs.Callers.Stage.{Idle, Took, Works}
 use Rattle.tb_core.specs.Desks.{release_at, HasCube, IsRevised}
-use Rattle.tb_core.specs.Fitting.{can_follow, edits_fit, has_cube}
+use Rattle.tb_core.specs.Fitting.{can_follow, has_cube}
+use Rattle.tb_release.specs.Fitting.{edits_fit}
 use Rattle.tb_core.specs.Runs.{run_of, start}
-use Rattle.tb_core.specs.Laws.{bare, bare_after, bare_by, bare_goes_on, bare_of, bare_published, bare_replied, got, BareState, IsCounted}
+use Rattle.tb_core.specs.Laws.{bare, bare_by, bare_goes_on, bare_of, bare_published, bare_replied, got, BareState, IsCounted}
 use Rattle.tb_core.proofs.ChainLemmas.{after_all, revised_on}
-use Rattle.tb_core.proofs.FitLemmas.{fits_all, follow_told, has_told}
-use Rattle.tb_core.proofs.LawLemmas.{bare-run}
+use Rattle.tb_core.proofs.FitLemmas.{follow_told, has_told}
+use Rattle.tb_release.proofs.FitTests.{fits_all}
+use Rattle.tb_core.proofs.LawLemmas.{bare-run, kept_in_run, IsKept}
 use Rattle.tb_core.proofs.NumberLemmas.{get-push, get-replicate, get-set}
 use Rattle.tb_core.proofs.SystemLemmas.{map-replicate}
 
 -- ---- the chain
 -- the batch of edits that fit and can follow
 revised-next : (shape : List ℕ) (base : ReleaseValue) (chain : List BatchValue) (edits : List Edit) → IsRevised shape base chain → edits_fit shape edits ≡ true → can_follow (release_after base chain) edits ≡ true
-    → IsRevised shape base (chain ++ record { changes = changes_of (release_after base chain) edits } ∷ [])
+    → IsRevised shape base (chain ++ batch_of (release_after base chain) edits ∷ [])
 revised-next shape base chain edits h fits can =
     let old : ReleaseValue = release_after base chain in
-    let batch : BatchValue = record { changes = changes_of old edits } in
+    let batch : BatchValue = batch_of old edits in
     let follows = follow_told old edits can in
     let next : IsNext old edits (next_release old edits) batch = record { can = follows; release = refl; changes = refl } in
     revised_on shape base chain batch h (record { edits = edits; can = follows; theirs = refl })
@@ -111,7 +113,7 @@ module _ (shape : List ℕ) (base : ReleaseValue) where
   counted-published : (b : BareState) (edits : List Edit) (refused : Bool) → AreCounted shape base b → AreCounted shape base (if refused then b else bare_published edits b)
   counted-published b edits true h = h
   counted-published b edits false h =
-      let batch : BatchValue = record { changes = changes_of (release_after b.base b.chain) edits } in
+      let batch : BatchValue = batch_of (release_after b.base b.chain) edits in
       (elim (edits_fit b.shape edits && can_follow (release_after b.base b.chain) edits)
       as (λ t. (edits_fit b.shape edits && can_follow (release_after b.base b.chain) edits) ≡ t → AreCounted shape base (if t then record b { chain = b.chain ++ batch ∷ [] } else b)) [
         | true ↦ λ is.
@@ -178,19 +180,13 @@ module _ (shape : List ℕ) (base : ReleaseValue) where
       let good = h.callers who (Works n vars to_offer) at in
       counted-replied b who (Got n (cube_of b.shape vars (release_at b.base b.chain n).records)) (λ m cells e. own_cells b n m vars cells h good.0 good.1 e) h
 
-  counted-after : (b : BareState) (event : Event) → AreCounted shape base b → AreCounted shape base (bare_after b event)
-  counted-after b (Take who vars refused) h = counted-take b who vars refused (slice_get b.callers who) h
-  counted-after b (Work who refused) h = counted-work b who refused (slice_get b.callers who) refl h
-  counted-after b (Offer who refused) h = h
-  counted-after b (Answer who) h = counted-answer b who (slice_get b.callers who) refl h
-  counted-after b (Publish edits refused) h = counted-published b edits refused h
-  counted-after b Clear h = h
-  counted-after b (Resize capacity refused) h = h
-  counted-after b Stats h = h
-
-  counted-run : (b : BareState) (events : List Event) → AreCounted shape base b → AreCounted shape base (fold bare_after b events)
-  counted-run b [] h = h
-  counted-run b (event ∷ events) h = counted-run (bare_after b event) events (counted-after b event h)
+  counted-kept : IsKept (AreCounted shape base)
+  counted-kept = record {
+    take = λ b who vars refused h. counted-take b who vars refused (slice_get b.callers who) h;
+    work = λ b who refused h. counted-work b who refused (slice_get b.callers who) refl h;
+    answer = λ b who h. counted-answer b who (slice_get b.callers who) refl h;
+    publish = counted-published;
+  }
 
   -- ---- a run
   counted-start : (capacity callers : ℕ) → IsRevised shape base [] → AreCounted shape base (bare_of (start shape base capacity callers))
@@ -207,7 +203,8 @@ module _ (shape : List ℕ) (base : ReleaseValue) where
   counted : (capacity callers : ℕ) (events : List Event) → IsRevised shape base [] → AreCounted shape base (bare_of (run_of (start shape base capacity callers) events))
   counted capacity callers events revised =
       subst (AreCounted shape base) (sym (bare-run (start shape base capacity callers) events))
-      (counted-run (bare_of (start shape base capacity callers)) events (counted-start capacity callers revised))
+      (kept_in_run (AreCounted shape base) counted-kept (bare_of (start shape base capacity callers)) events
+      (counted-start capacity callers revised))
 
 pub chains_follow : (shape : List ℕ) (base : ReleaseValue) (capacity callers : ℕ) (events : List Event) → IsRevised shape base []
     → IsRevised shape base (run_of (start shape base capacity callers) events).desk.chain

@@ -1,25 +1,26 @@
 -- The numbers that a caller gets never fall: each is at most that of the release that it took since.
 use Rattle.std.proofs.Common.{◌≡◌, ℕ, zero, suc, ◌≤◌, ◌⊎◌, Bool, true, false, List, [], ◌∷◌, ◌++◌, length, length-append, set, Option, Some, None, inl, inr, refl, sym, ap, ◌∙◌, subst, arith}
-use Rattle.std.specs.Prelude.{◌&&◌, fold, if◌then◌else◌, not, replicate, slice_get}
+use Rattle.std.specs.Prelude.{◌&&◌, if◌then◌else◌, not, replicate, slice_get}
 use Rattle.std.proofs.lemmas.Option.{slice_get_within}
 use Rattle.tb_base.specs.declared.cells.Cell.{Cell}
 use Rattle.tb_model.specs.Cubes.{cube_of}
 use Rattle.tb_model.specs.Releases.{ReleaseValue}
-use Rattle.tb_release.specs.Batches.{BatchValue, changes_of}
+use Rattle.tb_release.specs.Batches.{BatchValue, batch_of}
 use Rattle.tb_release.specs.Chains.{release_after}
 use Rattle.tb_release.specs.declared.edits.Edit.{Edit}
 use Rattle.tb_core.specs.declared.events.Event.{Event}
-use Rattle.tb_core.specs.declared.events.Event.TheVariants.{Take, Work, Offer, Answer, Publish, Clear, Resize, Stats}
+use Rattle.tb_core.specs.declared.events.Event.TheVariants.{Take, Work, Answer}
 use Rattle.tb_core.specs.declared.events.Outcome.{Outcome}
 use Rattle.tb_core.specs.declared.events.Outcome.TheVariants.{Got, Memory}
 use Rattle.tb_core.specs.declared.events.Reply.{Reply}
 use Rattle.tb_core.specs.Desks.{release_at}
 use Rattle.tb_core.specs.Callers.{Stage}
 use Rattle.tb_core.specs.Callers.Stage.{Idle, Took, Works}
-use Rattle.tb_core.specs.Fitting.{can_follow, edits_fit, has_cube}
+use Rattle.tb_core.specs.Fitting.{can_follow, has_cube}
+use Rattle.tb_release.specs.Fitting.{edits_fit}
 use Rattle.tb_core.specs.Runs.{run_of, start}
-use Rattle.tb_core.specs.Laws.{bare, bare_after, bare_by, bare_goes_on, bare_of, bare_published, bare_replied, got, BareState, NeverFall}
-use Rattle.tb_core.proofs.LawLemmas.{bare-run}
+use Rattle.tb_core.specs.Laws.{bare, bare_by, bare_goes_on, bare_of, bare_published, bare_replied, got, BareState, NeverFall}
+use Rattle.tb_core.proofs.LawLemmas.{bare-run, kept_in_run, IsKept}
 use Rattle.tb_core.proofs.SystemLemmas.{map-replicate}
 
 -- ---- an element of a list that was changed at a place, or has one more
@@ -203,24 +204,18 @@ rising-published : (b : BareState) (edits : List Edit) (refused : Bool) → IsRi
 rising-published b edits true h = h
 rising-published b edits false h =
     elim (edits_fit b.shape edits && can_follow (release_after b.base b.chain) edits)
-    as (λ t. IsRising (if t then record b { chain = b.chain ++ record { changes = changes_of (release_after b.base b.chain) edits } ∷ [] } else b)) [
-      | true ↦ rising-longer b (record { changes = changes_of (release_after b.base b.chain) edits }) h
+    as (λ t. IsRising (if t then record b { chain = b.chain ++ batch_of (release_after b.base b.chain) edits ∷ [] } else b)) [
+      | true ↦ rising-longer b (batch_of (release_after b.base b.chain) edits) h
       | false ↦ h
     ]
 
-rising-after : (b : BareState) (event : Event) → IsRising b → IsRising (bare_after b event)
-rising-after b (Take who vars refused) h = rising-take b who vars refused (slice_get b.callers who) refl h
-rising-after b (Work who refused) h = rising-work b who refused (slice_get b.callers who) refl h
-rising-after b (Offer who refused) h = h
-rising-after b (Answer who) h = rising-answer b who (slice_get b.callers who) refl h
-rising-after b (Publish edits refused) h = rising-published b edits refused h
-rising-after b Clear h = h
-rising-after b (Resize capacity refused) h = h
-rising-after b Stats h = h
-
-rising-run : (b : BareState) (events : List Event) → IsRising b → IsRising (fold bare_after b events)
-rising-run b [] h = h
-rising-run b (event ∷ events) h = rising-run (bare_after b event) events (rising-after b event h)
+rising-kept : IsKept IsRising
+rising-kept = record {
+  take = λ b who vars refused h. rising-take b who vars refused (slice_get b.callers who) refl h;
+  work = λ b who refused h. rising-work b who refused (slice_get b.callers who) refl h;
+  answer = λ b who h. rising-answer b who (slice_get b.callers who) refl h;
+  publish = rising-published;
+}
 
 -- ---- a run
 rising-start : (shape : List ℕ) (base : ReleaseValue) (capacity callers : ℕ) → IsRising (bare_of (start shape base capacity callers))
@@ -234,4 +229,4 @@ rising-start shape base capacity callers = record {
 pub numbers_never_fall : (shape : List ℕ) (base : ReleaseValue) (capacity callers : ℕ) (events : List Event) → NeverFall (run_of (start shape base capacity callers) events).replies
 numbers_never_fall shape base capacity callers events =
     subst (λ (b : BareState). NeverFall b.replies) (sym (bare-run (start shape base capacity callers) events))
-    (rising-run (bare_of (start shape base capacity callers)) events (rising-start shape base capacity callers)).fall
+    (kept_in_run IsRising rising-kept (bare_of (start shape base capacity callers)) events (rising-start shape base capacity callers)).fall

@@ -2,7 +2,7 @@
 use Rattle.std.proofs.Common.{◌≡◌, ℕ, zero, suc, ◌≤◌, List, [], ◌∷◌, take, drop, length, Option, Some, None, refl, sym, ap, ◌∙◌, subst, arith}
 use Rattle.std.specs.Prelude.{option_map}
 use Rattle.std.specs.Arc.{arc_value}
-use Rattle.std.proofs.lemmas.List.{take_all}
+use Rattle.std.proofs.lemmas.List.{length-drop, length-take, take_all}
 use Rattle.tb_base.specs.Records.{AllFit}
 use Rattle.tb_cache.specs.Recency.{found}
 use Rattle.tb_cache.proofs.KeptLemmas.{all_found}
@@ -22,7 +22,7 @@ use Rattle.tb_core.proofs.DeskLemmas.{IsNumbered}
 use Rattle.tb_core.proofs.LeadLemmas.{advanced_to, along, few_changes}
 
 -- ---- of a desk
-number_taken : (desk : DeskValue) (taken : Taken) → IsSound desk → release_in taken ≡ current_of desk → number_of taken ≡ length desk.chain
+pub number_taken : (desk : DeskValue) (taken : Taken) → IsSound desk → release_in taken ≡ current_of desk → number_of taken ≡ length desk.chain
 number_taken desk taken s is = ap (λ (r : ReleaseValue). r.number) is ∙ (after_all desk.shape desk.base desk.chain s.revised).number
 
 hits_for : (desk : DeskValue) (vars : List ℕ) (n : ℕ) (o : Option ℕ) → IsSound desk → n ≡ length desk.chain → found vars desk.entries ≡ o → IsHit desk.shape desk.base desk.chain vars n (option_map (hit_at desk vars) o)
@@ -104,11 +104,23 @@ module _ (shape : List ℕ) (base : ReleaseValue) (chain : List BatchValue) (var
   pub cost_found : (hit : Hit) → taken.hit ≡ Some hit → cost_of taken ≡ change_count hit.pending
   cost_found hit is = ap (λ (o : Option Hit). cost_by (release_in taken) (option_map hit_of o)) is
 
+  -- no batch is missing in it exactly where it is the release's own
+  pub none_pending : (hit : Hit) → taken.hit ≡ Some hit → hit.number ≡ number_of taken → hit.pending ≡ []
+  none_pending hit is same = (is_found hit is).pending ∙ ap (λ m. drop m (take (number_of taken) chain)) same
+      ∙ nothing_after (number_of taken) chain
+
+  pub own_where_none : (hit : Hit) → taken.hit ≡ Some hit → hit.pending ≡ [] → hit.number ≡ number_of taken
+  own_where_none hit is none =
+      let f = is_found hit is in
+      let low = f.low in
+      let there = t.there in
+      let short : length (drop hit.number (take (number_of taken) chain)) ≡ 0 = ap (λ (p : List BatchValue). length p) (sym f.pending
+      ∙ none) in
+      omega (arith, low, there, short, length-drop hit.number (take (number_of taken) chain), length-take (number_of taken) chain)
+
   -- nothing where it is the release's own
   pub cost_own : (hit : Hit) → taken.hit ≡ Some hit → hit.number ≡ number_of taken → cost_of taken ≡ 0
-  cost_own hit is same =
-      cost_found hit is
-      ∙ ap change_count ((is_found hit is).pending ∙ ap (λ m. drop m (take (number_of taken) chain)) same ∙ nothing_after (number_of taken) chain)
+  cost_own hit is same = cost_found hit is ∙ ap change_count (none_pending hit is same)
 
   -- and the records where none was
   pub cost_anew : taken.hit ≡ None → cost_of taken ≡ length (release_in taken).records

@@ -6,8 +6,8 @@ use Rattle.std.specs.Coded.{Coded, code_by, coded×, coded_list, coded_ℕ}
 use Rattle.tb_base.specs.Records.{AllFit}
 use Rattle.tb_cache.specs.Recency.{CacheValue, numbers_of}
 use Rattle.tb_cache.specs.declared.TheConstants.{MOST_ENTRIES}
-use Rattle.tb_cube.specs.Cubes.{CubeValue, cell_count, cube_over}
-use Rattle.tb_grid.specs.declared.products.TheConstants.{MOST_CELLS}
+use Rattle.tb_cube.specs.Cubes.{CubeValue, cube_over}
+pub use Rattle.tb_delta.specs.Counting.{HasCube}
 use Rattle.tb_model.specs.Releases.{ReleaseValue, release_code}
 use Rattle.tb_release.specs.Batches.{BatchValue, batch_code}
 use Rattle.tb_release.specs.Chains.{IsChain, release_after}
@@ -33,11 +33,6 @@ release_at base chain n = release_after base (take n chain)
 -- the current release: release 0 after the whole chain
 abbrev pub current_of : DeskValue → ReleaseValue
 current_of desk = release_after desk.base desk.chain
-
--- there is a cube over some variables: they are the shape's, and its cells are not too many
-pub record HasCube (shape vars : List ℕ) : Type 0 where
-  pub there : All (λ v. v < length shape) vars
-  pub few : cell_count shape vars ≤ MOST_CELLS
 
 -- it is the cube at release n of the chain, counted from scratch
 pub record IsCubeAt (shape : List ℕ) (base : ReleaseValue) (chain : List BatchValue)

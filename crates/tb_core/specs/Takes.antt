@@ -46,8 +46,8 @@ pub record IsTaken (shape : List ℕ) (base : ReleaseValue) (chain : List BatchV
   pub release_is : release_in taken ≡ release_at base chain (number_of taken)
   pub hit : IsHit shape base chain vars (number_of taken) (option_map hit_of taken.hit)
 
--- what a cube of what was taken costs: as many changes as the one that was found is behind, which is
--- none where it is of the release itself; or the release's records where none was found
+-- what a cube of what was taken costs: as many changes as the one that was found is behind, which
+-- is none where it is of the release itself; or the release's records where none was found
 abbrev pub cost_by : ReleaseValue → Option HitValue → ℕ
 cost_by release None = length release.records
 cost_by release (Some hit) = change_count hit.pending

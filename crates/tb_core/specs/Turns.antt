@@ -1,8 +1,10 @@
 -- What each call of a desk returns, and what it leaves.
-use Rattle.std.specs.Prelude.{◌≡◌, ◌+◌, ◌-◌, ◌^◌, ℕ, List, [], ◌∷◌, ◌++◌, take, drop, length}
+use Rattle.std.specs.Prelude.{◌≡◌, ◌<◌, ◌≤◌, ◌+◌, ◌-◌, ◌^◌, ℕ, List, [], ◌∷◌, ◌++◌}
+use Rattle.std.specs.Prelude.{take, drop, length}
 use Rattle.std.specs.Prelude.{if◌then◌else◌, is_some, nat_le, nat_lt}
 use Rattle.std.specs.Prelude.{Option, Some, None, option_map}
 use Rattle.tb_cache.specs.Recency.{found, looked, put_first}
+use Rattle.tb_cache.specs.declared.TheConstants.{MOST_ENTRIES}
 use Rattle.tb_core.specs.Desks.{DeskValue, release_at}
 use Rattle.tb_core.specs.declared.desk.Offered.{Offered}
 use Rattle.tb_core.specs.declared.desk.Offered.TheVariants.{Kept, Older, Memory}
@@ -84,3 +86,11 @@ stats_of desk =
       entries = length desk.entries;
       capacity = desk.capacity;
     }
+
+-- the numbers of a desk with so many batches, whatever was looked for and kept
+pub record AreStats (batches : ℕ) (stats : Stats) : Type 0 where
+  pub release : stats.release ≡ batches
+  pub hits : stats.hits ≤ stats.looks
+  pub entries : stats.entries ≤ stats.capacity
+  pub some : 0 < stats.capacity
+  pub few : stats.capacity ≤ MOST_ENTRIES

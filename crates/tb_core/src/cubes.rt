@@ -1,81 +1,101 @@
 // The cube of a release that was taken.
 
-ghost use Rattle.std.specs.Prelude.{◌≡◌, ◌==◌, ◌+◌, ◌≤◌, List, not, true, length, IfOk};
+ghost use Rattle.std.specs.Prelude.{◌≡◌, ◌==◌, ◌↔◌, ◌+◌, ◌≤◌, ℕ, List, [], not, true, false};
+ghost use Rattle.std.specs.Prelude.{Some, IfOk, OnOk};
 ghost use Rattle.std.specs.Option.{option_map_or};
 ghost use Rattle.std.specs.Arc.{arc_value};
-ghost use Rattle.tb_base.specs.Records.{AllFit};
 ghost use Rattle.tb_core.specs.Advancing.{CanAdvanceAlong};
 ghost use Rattle.tb_core.specs.Desks.{HasCube};
+ghost use Rattle.tb_core.specs.Got.{cube_got, is_made};
 ghost use Rattle.tb_core.specs.Takes.{cost_of, cube_price, found_in, number_of, release_in, IsTaken};
 ghost use Rattle.tb_cube.specs.Cubes.{cube_over};
 ghost use Rattle.tb_model.specs.Releases.{ReleaseValue};
 ghost use Rattle.tb_release.specs.Batches.{BatchValue};
 ghost use Rattle.tb_release.specs.Chains.{change_count, release_after};
 
-use crate::desk::Taken;
+use crate::desk::{Hit, Taken};
 use std::alloc::Global;
 use std::sync::Arc;
 use std::sync::ledger::Ledger;
 use tb_base::{Memory, Shape, Steps, VarSet};
 use tb_cube::Cube;
-use tb_delta::advance;
-use tb_release::{Batches, Release};
+use tb_delta::{advance, count_all};
+use tb_release::Batches;
 
-/// The cube of a release over some variables, counted from its records. They are lent once; it
-/// takes memory for the cube alone.
-pub fn build<L: Ledger>(
-    alloc: Global,
-    shape: &Shape,
-    vars: &VarSet,
-    release: &Release,
-    steps: &mut Steps<L>,
-) -> Result<Cube, Memory>
-    requires has { HasCube shape.now vars.now }
-    requires fit { AllFit shape.now release.now.records }
-    ensures price { steps.new ≤ steps.old + length release.now.records }
-    ensures cost { IfOk result (λ cube. steps.new ≡ steps.old + length release.now.records) }
-    ensures cube { IfOk result (λ cube. cube ≡ cube_over shape.now vars.now release.now.records) }
-{
-    release.soundness();
-    let mut cube = Cube::zero(alloc, shape, vars)?;
-    let lent = release.lend(steps);
-    for i in 0..lent.pieces() {
-        cube.add_all(lent.piece(i));
-    }
-    Ok(cube)
+/// The cube of a release that was taken: the one that is kept, or one that was made, which its
+/// caller may offer.
+#[derive(Drop)]
+pub enum CubeFor {
+    Kept(Arc<Cube>),
+    Made(Arc<Cube>),
 }
 
-/// The cube over some variables of the release that was taken, and whether it was made anew: the
-/// cube that was found, where it is of that release; a copy of it, advanced by the batches that are
-/// missing; or, where none was found, one that is counted from the release's records. So a cube that
-/// was found costs as many changes as it is behind. It takes memory for a cube that is made.
+impl CubeFor {
+    /// The cube.
+    pub fn cube(&self) -> &Arc<Cube>
+        ensures { arc_value result.now ≡ cube_got self.now }
+    {
+        match self {
+            CubeFor::Kept(cube) => cube,
+            CubeFor::Made(cube) => cube,
+        }
+    }
+}
+
+/// The cube over some variables of the release that was taken: `lead_on` where one was found, and
+/// else one that is made by `count_all`. It takes memory for a cube that is made.
 pub fn cube_for<L: Ledger>(
     alloc: Global,
     shape: &Shape,
     vars: &VarSet,
     taken: &Taken,
     steps: &mut Steps<L>,
-) -> Result<(Arc<Cube>, bool), Memory>
+) -> Result<CubeFor, Memory>
     requires has { HasCube shape.now vars.now }
     requires taken { (base : ReleaseValue) × (chain : List BatchValue)
         × IsTaken shape.now base chain vars.now taken.now }
     ensures price { steps.new ≤ steps.old + cube_price (release_in taken.now) }
-    ensures cost { IfOk result (λ made. steps.new ≡ steps.old + cost_of taken.now) }
-    ensures cube { IfOk result (λ made. arc_value made.0
+    ensures cost { OnOk result (steps.new ≡ steps.old + cost_of taken.now) }
+    ensures cube { IfOk result (λ got. cube_got got
         ≡ cube_over shape.now vars.now (release_in taken.now).records) }
-    ensures anew { IfOk result (λ made. made.1
+    ensures made { IfOk result (λ got. is_made got
         ≡ option_map_or (λ m. not (m == number_of taken.now)) (found_in taken.now) true) }
 {
-    let Some(hit) = &taken.hit else {
-        let cube = build(alloc, shape, vars, &taken.release, steps)?;
-        return Ok((Arc::new(alloc, cube)?, true));
-    };
+    if let Some(hit) = &taken.hit {
+        return lead_on(alloc, taken, hit, steps);
+    }
+    let cube = count_all(alloc, shape, vars, &taken.release, steps)?;
+    Ok(CubeFor::Made(Arc::new(alloc, cube)?))
+}
+
+/// The cube of the release that was taken, by the one that was found: that one is kept where it is
+/// of that release, so that no batch is missing; else a copy of it is made, advanced by the batches
+/// that are missing. So it costs as many changes as it is behind. It takes memory for the copy.
+pub fn lead_on<L: Ledger>(
+    alloc: Global,
+    taken: &Taken,
+    hit: &Hit,
+    steps: &mut Steps<L>,
+) -> Result<CubeFor, Memory>
+    requires hit { taken.now.hit ≡ Some hit.now }
+    requires taken { (shape : List ℕ) × (vars : List ℕ) × (base : ReleaseValue)
+        × (chain : List BatchValue) × IsTaken shape base chain vars taken.now }
+    ensures price { steps.new ≤ steps.old + cost_of taken.now }
+    ensures cost { OnOk result (steps.new ≡ steps.old + cost_of taken.now) }
+    // Of whatever chain and variables it was taken.
+    ensures cube { (shape vars : List ℕ) (base : ReleaseValue) (chain : List BatchValue)
+        → IsTaken shape base chain vars taken.now → IfOk result (λ got. cube_got got
+        ≡ cube_over shape vars (release_in taken.now).records) }
+    ensures made { IfOk result (λ got. is_made got
+        ≡ not (hit.now.number == number_of taken.now)) }
+    ensures kept { IfOk result (λ got. (is_made got ≡ false) ↔ (hit.now.pending ≡ [])) }
+{
     if hit.number == taken.release.number() {
-        return Ok((Arc::try_clone(&hit.cube)?, false));
+        return Ok(CubeFor::Kept(Arc::try_clone(&hit.cube)?));
     }
     let mut cube = hit.cube.copy()?;
     advance_along(&mut cube, &hit.pending, steps);
-    Ok((Arc::new(alloc, cube)?, true))
+    Ok(CubeFor::Made(Arc::new(alloc, cube)?))
 }
 
 // Advances a cube by one batch after another.

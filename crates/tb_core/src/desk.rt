@@ -1,6 +1,6 @@
 // The desk: one chain of releases, and the cubes that are kept.
 
-ghost use Rattle.std.specs.Prelude.{◌≡◌, ◌<◌, ◌≤◌, [], All, drop, if◌then◌else◌};
+ghost use Rattle.std.specs.Prelude.{◌≡◌, ◌<◌, ◌≤◌, [], All, drop, length, if◌then◌else◌};
 ghost use Rattle.std.specs.Prelude.{Some, option_map, IfOk, OnOk, OnErr};
 ghost use Rattle.std.specs.Option.{ForSome, option_copied};
 ghost use Rattle.std.specs.Arc.{arc_value};
@@ -11,7 +11,7 @@ ghost use Rattle.tb_core.specs.Desks.{current_of, IsCubeAt, IsSound};
 ghost use Rattle.tb_core.specs.Takes.{IsTaken};
 ghost use Rattle.tb_core.specs.Turns.{after_adoption, after_clear, after_look, after_resize};
 ghost use Rattle.tb_core.specs.Turns.{counted, hit_at, hit_for, no_older as is_no_older};
-ghost use Rattle.tb_core.specs.Turns.{stats_of, IsOffered};
+ghost use Rattle.tb_core.specs.Turns.{stats_of, AreStats, IsOffered};
 ghost use Rattle.tb_core.specs.Views.{hit_of};
 ghost use Rattle.tb_release.specs.Batches.{Follows};
 ghost use Rattle.tb_release.specs.Chains.{after_batch};
@@ -277,6 +277,7 @@ impl Desk {
     /// The numbers of a desk.
     pub fn stats(&self) -> Stats
         ensures stats { result ≡ stats_of self.now }
+        ensures are { AreStats (length self.now.chain) result }
         ensures sound { IsSound self.now }
     {
         Stats {

@@ -3,9 +3,15 @@
 //!
 //! It stands on `tb_base`, `tb_model`, `tb_grid`, `tb_cube`, `tb_release`, `tb_delta` and
 //! `tb_cache`. Its contracts cite `specs/Desks` (what a desk is seen as, and what is true of every
-//! desk), `Turns` (what each call returns, and what it leaves) and `Takes` (what was taken from a
-//! desk, and the price of its cube). `run` cites `Runs` (the run of events, over the chain and the
-//! list of cubes' numbers alone), and `laws` cites `Laws`.
+//! desk), `Turns` (what each call returns, and what it leaves), `Takes` (what was taken from a
+//! desk, and the price of its cube) and `Got` (the cube that its caller gets). `run` cites `Runs`
+//! (the run of events, over the chain and the list of cubes' numbers alone), and `laws` cites
+//! `Laws`.
+//!
+//! Of the lemmas `ChainFits` and `ChainLemmas` (releases along a chain) serve all calls,
+//! `DeskLemmas` the desk's own, `TakeLemmas` and `LeadLemmas` the cube of what was taken;
+//! `FitLemmas` the tests; `SystemLemmas` and `StepLemmas` the run of events; `LawLemmas`,
+//! `NumberLemmas` and `CountLemmas` its laws. `Vectors` has worked runs.
 #![tactic(auto)]
 
 mod cubes;
@@ -17,7 +23,7 @@ mod publishing;
 mod running;
 mod system;
 
-pub use cubes::{build, cube_for};
+pub use cubes::{CubeFor, cube_for, lead_on};
 pub use desk::{Desk, Hit, Offer, Offered, Stats, Taken};
-pub use events::{Cells, Event, Offers, Outcome, Ran, Replies, Reply};
+pub use events::{Cells, Event, InOrder, Offers, Outcome, Ran, Replies, Reply};
 pub use running::run;

@@ -1,3 +1,4 @@
+pub mod Pieces
 pub mod Spots
 pub mod Making
 pub mod UnderWay

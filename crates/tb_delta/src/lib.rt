@@ -1,50 +1,16 @@
-//! Cubes that follow the releases: from the cube of one release to that of the next, by the batch
-//! that leads there.
+//! Cubes that follow the releases: a release's cube, counted from its records, and from the cube of
+//! one release to that of the next, by the batch that leads there.
 //!
-//! It stands on `tb_base`, `tb_model`, `tb_cube` and `tb_release`. Its contracts cite `Cubes` of
-//! `tb_cube` (which records a cube holds, and what becomes of its cells), `Chains` of `tb_release`
-//! (the release after a batch), and here `specs/Advancing` (from which release a cube can advance).
+//! It stands on `tb_base`, `tb_model`, `tb_grid`, `tb_cube` and `tb_release`. Its contracts cite
+//! `Cubes` of `tb_cube` (which records a cube holds, and what becomes of its cells), `Chains` of
+//! `tb_release` (the release after a batch), and here `specs/Counting` (over which variables there
+//! is a cube) and `specs/Advancing` (from which release a cube can advance). Of the lemmas `Pieces`
+//! serve the count; `Spots` (where a change is made among the records), `Making` (one change) and
+//! `UnderWay` (some of a batch) serve the advance.
 #![tactic(auto)]
 
-ghost use Rattle.std.specs.Prelude.{◌≡◌, ◌+◌, All, length};
-ghost use Rattle.tb_model.specs.Releases.{ReleaseValue};
-ghost use Rattle.tb_cube.specs.Cubes.{cube_over};
-ghost use Rattle.tb_release.specs.Chains.{after_batch};
-ghost use Rattle.tb_release.specs.Results.{ChangeFits};
-ghost use Rattle.tb_delta.specs.Advancing.{with_change, CanAdvance, CanMake};
+mod advancing;
+mod counting;
 
-use std::sync::ledger::Ledger;
-use tb_base::Steps;
-use tb_cube::Cube;
-use tb_release::{Batch, Change};
-
-// Makes a change in a cube.
-fn make(cube: &mut Cube, change: &Change)
-    requires { CanMake cube.old change.now }
-    ensures { cube.new ≡ with_change cube.old change.now }
-{
-    cube.apply(change.before.as_ref(), change.after.as_ref());
-}
-
-/// Leads the cube of a release to that of the next, over the same variables: each change of the
-/// batch takes the person's record before it out of its cell, and puts the one after it into its
-/// cell. So the work grows with the batch alone, however many records the release has.
-///
-/// The counter rises by how many changes there are. It takes no memory.
-pub fn advance<L: Ledger>(cube: &mut Cube, batch: &Batch, steps: &mut Steps<L>)
-    // The cube is that of some release, and the batch follows it.
-    requires release { (release : ReleaseValue) × CanAdvance cube.old batch.now release }
-    requires fit { All (ChangeFits cube.old.shape) batch.now.changes }
-    // Of whatever release it was, it is that of the release after it.
-    ensures cube { (release : ReleaseValue) → CanAdvance cube.old batch.now release
-        → cube.new ≡ cube_over cube.old.shape cube.old.vars
-        (after_batch release batch.now).records }
-    ensures charge { steps.new ≡ steps.old + length batch.now.changes }
-{
-    // Its clause tells that the variables are the shape's.
-    let _ = cube.cells();
-    let changes = batch.lend(steps);
-    for change in changes {
-        make(cube, change);
-    }
-}
+pub use advancing::advance;
+pub use counting::count_all;

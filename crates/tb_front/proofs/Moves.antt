@@ -11,7 +11,7 @@ use Rattle.tb_front.specs.declared.view.Role.{Role}
 use Rattle.tb_front.specs.declared.view.Role.TheVariants.{Opener, Writer, Keeper, Draft, Pass, Spent}
 use Rattle.tb_front.specs.declared.view.View.{View}
 use Rattle.tb_front.specs.declared.front.TheConstants.{LONGEST_CHAIN}
-use Rattle.tb_front.specs.Chain.{view, opener, spent, HasPlace, HasBase, Fits, OneChain}
+use Rattle.tb_front.specs.Chain.{view, opener, spent, HasRole, HasBase, Fits, OneChain}
 use Rattle.tb_front.specs.Holders.{longer}
 use Rattle.tb_front.specs.Steps.{in_role, lengthened, confirmed, IsAppended, IsLoaded}
 use Rattle.tb_front.proofs.Prefixes.{prefix_self, prefix_trans, prefix_longer, prefix_more}
@@ -43,7 +43,8 @@ module _ {A : Type 0} where
 -- What the seats apart from one know stays, where something changes at that one
 module _ {E : Type 0} where
   -- the keeper is split off
-  split_off : (chain kept : List E) (writer keeper new j : ℕ) → keeper ≡ writer → IsPrefix kept chain → j ≢ writer → (role : Role) (list : List E) → HasPlace chain kept writer keeper j role list → HasPlace chain chain writer new j role list
+  split_off : (chain kept : List E) (writer keeper new j : ℕ) → keeper ≡ writer → IsPrefix kept chain → j ≢ writer
+      → (role : Role) (list : List E) → HasRole chain kept writer keeper j role list → HasRole chain chain writer new j role list
   split_off chain kept writer keeper new j same p apart Opener list x = absurd (apart x.0)
   split_off chain kept writer keeper new j same p apart Writer list x = absurd (apart x.0)
   split_off chain kept writer keeper new j same p apart Keeper list x = absurd (apart (x.0 ∙ same))
@@ -52,7 +53,8 @@ module _ {E : Type 0} where
   split_off chain kept writer keeper new j same p apart Spent list x = tt
 
   -- the writer adds to the chain
-  longer_chain : (chain more kept : List E) (writer keeper j : ℕ) → j ≢ writer → (role : Role) (list : List E) → HasPlace chain kept writer keeper j role list → HasPlace (chain ++ more) kept writer keeper j role list
+  longer_chain : (chain more kept : List E) (writer keeper j : ℕ) → j ≢ writer → (role : Role) (list : List E)
+      → HasRole chain kept writer keeper j role list → HasRole (chain ++ more) kept writer keeper j role list
   longer_chain chain more kept writer keeper j apart Opener list x = absurd (apart x.0)
   longer_chain chain more kept writer keeper j apart Writer list x = absurd (apart x.0)
   longer_chain chain more kept writer keeper j apart Keeper list x = x
@@ -61,7 +63,8 @@ module _ {E : Type 0} where
   longer_chain chain more kept writer keeper j apart Spent list x = tt
 
   -- the keeper takes in a draft
-  longer_kept : (chain kept now : List E) (writer keeper j : ℕ) → IsPrefix kept now → j ≢ keeper → (role : Role) (list : List E) → HasPlace chain kept writer keeper j role list → HasPlace chain now writer keeper j role list
+  longer_kept : (chain kept now : List E) (writer keeper j : ℕ) → IsPrefix kept now → j ≢ keeper → (role : Role) (list : List E)
+      → HasRole chain kept writer keeper j role list → HasRole chain now writer keeper j role list
   longer_kept chain kept now writer keeper j p apart Opener list x = x
   longer_kept chain kept now writer keeper j p apart Writer list x = x
   longer_kept chain kept now writer keeper j p apart Keeper list x = absurd (apart x.0)
@@ -89,7 +92,7 @@ module _ {E S T : Type 0} where
   pub opens : (key : S) (id : ℕ) (v : View E S) → v.role ≡ Opener → Splits {S = T} (OneChain key) id v (in_role Writer v) (in_role Keeper v)
   opens key id v is s h at =
       let mine = h.each id v at in
-      let place = subst (λ r. HasPlace h.chain h.kept h.writer h.keeper id r v.list) is mine.0 in
+      let place = subst (λ r. HasRole h.chain h.kept h.writer h.keeper id r v.list) is mine.0 in
       let base = subst (λ r. HasBase key r v.base) is mine.1 in
       let left = view Writer v.base v.list in
       let views = set s.views id left in
@@ -126,19 +129,19 @@ module _ {E S T : Type 0} where
 
   pub drafts : (key : S) (id : ℕ) (v : View E S) → v.role ≡ Writer → Splits {S = T} (OneChain key) id v v (in_role Draft v)
   drafts key id v is = splits key id v _ (λ chain kept writer keeper new p mine.
-      let place = subst (λ r. HasPlace chain kept writer keeper id r v.list) is mine.0 in
+      let place = subst (λ r. HasRole chain kept writer keeper id r v.list) is mine.0 in
       let base = subst (λ r. HasBase key r v.base) is mine.1 in
       (subst (λ l. IsPrefix l chain) (sym place.1) (prefix_self chain), base, tt))
 
   pub keeper_tells : (key : S) (id : ℕ) (v : View E S) → v.role ≡ Keeper → Splits {S = T} (OneChain key) id v v (in_role Pass v)
   keeper_tells key id v is = splits key id v _ (λ chain kept writer keeper new p mine.
-      let place = subst (λ r. HasPlace chain kept writer keeper id r v.list) is mine.0 in
+      let place = subst (λ r. HasRole chain kept writer keeper id r v.list) is mine.0 in
       let base = subst (λ r. HasBase key r v.base) is mine.1 in
       (subst (λ l. IsPrefix l kept) (sym place.1) (prefix_self kept), base, tt))
 
   pub pass_tells : (key : S) (id : ℕ) (v : View E S) → v.role ≡ Pass → Splits {S = T} (OneChain key) id v v (in_role Pass v)
   pass_tells key id v is = splits key id v _ (λ chain kept writer keeper new p mine.
-      (subst (λ r. HasPlace chain kept writer keeper id r v.list) is mine.0, subst (λ r. HasBase key r v.base) is mine.1, tt))
+      (subst (λ r. HasRole chain kept writer keeper id r v.list) is mine.0, subst (λ r. HasBase key r v.base) is mine.1, tt))
 
   -- a load tells what a join left, and changes nothing else
   pub loads : (key : S) (id slots : ℕ) (m : Me T (View E S)) → Allows (OneChain key) slots id m 0 (λ n. n) (IsLoaded (step slots 0 0 0 none) m)
@@ -163,7 +166,9 @@ module _ {E S T : Type 0} where
   -- a seat is joined into another, and spent
   absorbs : (key blank : S) (id : ℕ) (v : View E S) (other : ℕ) (w both : View E S)
       → ((chain kept : List E) (writer keeper : ℕ) → IsPrefix kept chain → Fits key chain kept writer keeper id v → Fits key chain kept writer keeper other w
-      → (now : List E) × IsPrefix now chain × ((j : ℕ) → j ≢ id → (role : Role) (list : List E) → HasPlace chain kept writer keeper j role list → HasPlace chain now writer keeper j role list) × Fits key chain now writer keeper id both)
+      → (now : List E) × IsPrefix now chain × ((j : ℕ) → j ≢ id → (role : Role) (list : List E)
+      → HasRole chain kept writer keeper j role list
+      → HasRole chain now writer keeper j role list) × Fits key chain now writer keeper id both)
       → Joins {S = T} (OneChain key) id v other w both (spent blank)
   absorbs key blank id v other w both may s h at apart there =
       let mine = h.each id v at in
@@ -184,8 +189,8 @@ module _ {E S T : Type 0} where
   -- the keeper takes in a draft
   pub adopts : (key blank : S) (id : ℕ) (v : View E S) (other : ℕ) (w : View E S) → v.role ≡ Keeper → w.role ≡ Draft → Joins {S = T} (OneChain key) id v other w (lengthened v w) (spent blank)
   adopts key blank id v other w is too = absorbs key blank id v other w _ (λ chain kept writer keeper p mine theirs.
-      let place = subst (λ r. HasPlace chain kept writer keeper id r v.list) is mine.0 in
-      let draft = subst (λ r. HasPlace chain kept writer keeper other r w.list) too theirs.0 in
+      let place = subst (λ r. HasRole chain kept writer keeper id r v.list) is mine.0 in
+      let draft = subst (λ r. HasRole chain kept writer keeper other r w.list) too theirs.0 in
       let base = subst (λ r. HasBase key r v.base) is mine.1 in
       let their_base = subst (λ r. HasBase key r w.base) too theirs.1 in
       let begun : IsPrefix v.list chain = subst (λ l. IsPrefix l chain) (sym place.1) p in
@@ -195,7 +200,7 @@ module _ {E S T : Type 0} where
         both.2,
         (λ j far role list x. longer_kept chain kept now writer keeper j (subst (λ l. IsPrefix l now) place.1 both.0) (λ k. far (k ∙ sym place.0)) role list x),
         (
-          subst (λ r. HasPlace chain now writer keeper id r now) (sym is) (place.0, refl),
+          subst (λ r. HasRole chain now writer keeper id r now) (sym is) (place.0, refl),
           mine.1,
           (refl, both.0, (their_base ∙ sym base, both.1, tt)),
         ),
@@ -204,41 +209,55 @@ module _ {E S T : Type 0} where
   -- a pass takes in a note
   pub learns : (key blank : S) (id : ℕ) (v : View E S) (other : ℕ) (w : View E S) → v.role ≡ Pass → w.role ≡ Pass → Joins {S = T} (OneChain key) id v other w (lengthened v w) (spent blank)
   learns key blank id v other w is too = absorbs key blank id v other w _ (λ chain kept writer keeper p mine theirs.
-      let place = subst (λ r. HasPlace chain kept writer keeper id r v.list) is mine.0 in
-      let note = subst (λ r. HasPlace chain kept writer keeper other r w.list) too theirs.0 in
+      let place = subst (λ r. HasRole chain kept writer keeper id r v.list) is mine.0 in
+      let note = subst (λ r. HasRole chain kept writer keeper other r w.list) too theirs.0 in
       let base = subst (λ r. HasBase key r v.base) is mine.1 in
       let their_base = subst (λ r. HasBase key r w.base) too theirs.1 in
       let both = prefix_longer v.list w.list kept place note in (
         kept,
         p,
         (λ j far role list x. x),
-        (subst (λ r. HasPlace chain kept writer keeper id r (longer v.list w.list)) (sym is) both.2, mine.1, (refl, both.0, (their_base ∙ sym base, both.1, tt))),
+        (
+          subst (λ r. HasRole chain kept writer keeper id r (longer v.list w.list)) (sym is) both.2,
+          mine.1,
+          (
+            refl,
+            both.0,
+            (
+              their_base
+                  ∙ sym base,
+              both.1,
+              tt,
+            ),
+          ),
+        ),
       ))
 
-  -- the writer or the keeper takes in a note, with which its list begins
-  pub writer_confirms : (key blank : S) (id : ℕ) (v : View E S) (other : ℕ) (w : View E S) → v.role ≡ Writer → w.role ≡ Pass → Joins {S = T} (OneChain key) id v other w (confirmed v w) (spent blank)
-  writer_confirms key blank id v other w is too = absorbs key blank id v other w _ (λ chain kept writer keeper p mine theirs.
-      let place = subst (λ r. HasPlace chain kept writer keeper id r v.list) is mine.0 in
-      let note = subst (λ r. HasPlace chain kept writer keeper other r w.list) too theirs.0 in
-      let base = subst (λ r. HasBase key r v.base) is mine.1 in
-      let their_base = subst (λ r. HasBase key r w.base) too theirs.1 in (
+  -- who knows what is kept takes in a note, with which its list begins
+  confirms : (key blank : S) (id : ℕ) (v : View E S) (other : ℕ) (w : View E S) → w.role ≡ Pass
+      → ((chain kept : List E) (writer keeper : ℕ) → IsPrefix kept chain → Fits key chain kept writer keeper id v
+      → IsPrefix kept v.list × (v.base ≡ key))
+      → Joins {S = T} (OneChain key) id v other w (confirmed v w) (spent blank)
+  confirms key blank id v other w too knows = absorbs key blank id v other w _ (λ chain kept writer keeper p mine theirs.
+      let note = subst (λ r. HasRole chain kept writer keeper other r w.list) too theirs.0 in
+      let their_base = subst (λ r. HasBase key r w.base) too theirs.1 in
+      let own = knows chain kept writer keeper p mine in (
         kept,
         p,
         (λ j far role list x. x),
-        (mine.0, mine.1, (refl, prefix_self v.list, (their_base ∙ sym base, subst (λ l. IsPrefix w.list l) (sym place.1) (prefix_trans w.list kept chain note p), tt))),
+        (mine.0, mine.1, (refl, prefix_self v.list, (their_base ∙ sym own.1, prefix_trans w.list kept v.list note own.0, tt))),
       ))
+
+  pub writer_confirms : (key blank : S) (id : ℕ) (v : View E S) (other : ℕ) (w : View E S) → v.role ≡ Writer → w.role ≡ Pass
+      → Joins {S = T} (OneChain key) id v other w (confirmed v w) (spent blank)
+  writer_confirms key blank id v other w is too = confirms key blank id v other w too (λ chain kept writer keeper p mine.
+      let place = subst (λ r. HasRole chain kept writer keeper id r v.list) is mine.0 in
+      (subst (IsPrefix kept) (sym place.1) p, subst (λ r. HasBase key r v.base) is mine.1))
 
   pub keeper_confirms : (key blank : S) (id : ℕ) (v : View E S) (other : ℕ) (w : View E S) → v.role ≡ Keeper → w.role ≡ Pass → Joins {S = T} (OneChain key) id v other w (confirmed v w) (spent blank)
-  keeper_confirms key blank id v other w is too = absorbs key blank id v other w _ (λ chain kept writer keeper p mine theirs.
-      let place = subst (λ r. HasPlace chain kept writer keeper id r v.list) is mine.0 in
-      let note = subst (λ r. HasPlace chain kept writer keeper other r w.list) too theirs.0 in
-      let base = subst (λ r. HasBase key r v.base) is mine.1 in
-      let their_base = subst (λ r. HasBase key r w.base) too theirs.1 in (
-        kept,
-        p,
-        (λ j far role list x. x),
-        (mine.0, mine.1, (refl, prefix_self v.list, (their_base ∙ sym base, subst (λ l. IsPrefix w.list l) (sym place.1) note, tt))),
-      ))
+  keeper_confirms key blank id v other w is too = confirms key blank id v other w too (λ chain kept writer keeper p mine.
+      let place = subst (λ r. HasRole chain kept writer keeper id r v.list) is mine.0 in
+      (subst (IsPrefix kept) (sym place.1) (prefix_self kept), subst (λ r. HasBase key r v.base) is mine.1))
 
 module _ {E S : Type 0} where
   -- the writer, who knows the chain, adds an entry
@@ -246,7 +265,7 @@ module _ {E S : Type 0} where
       → Allows (OneChain key) slots id m 0 (λ n. (n + 1) % 2 ^ 64) (IsAppended named (step slots 0 1 0 none) m)
   appends key id slots m named entry is_named is room s h long at fits_word =
       let mine = h.each id m.0 at in
-      let place = subst (λ r. HasPlace h.chain h.kept h.writer h.keeper id r m.0.list) is mine.0 in
+      let place = subst (λ r. HasRole h.chain h.kept h.writer h.keeper id r m.0.list) is mine.0 in
       let base = subst (λ r. HasBase key r m.0.base) is mine.1 in
       let w = view Writer m.0.base (m.0.list ++ entry ∷ []) in
       let chain = h.chain ++ entry ∷ [] in

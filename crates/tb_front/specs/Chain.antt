@@ -33,14 +33,14 @@ HasBase key Spent base = Unit {0}
 -- Which seat may have a role, and what its list is. The writer's list is the chain, and that of the
 -- keeper is what is kept; a draft's list begins the chain, and that of a pass or a note begins what
 -- is kept. While no keeper was split off it, the opener is the writer and the keeper.
-abbrev pub HasPlace : {E : Type 0} → List E → List E → ℕ → ℕ → ℕ → Role → List E → Type 0
-HasPlace chain kept writer keeper id Opener list =
+abbrev pub HasRole : {E : Type 0} → List E → List E → ℕ → ℕ → ℕ → Role → List E → Type 0
+HasRole chain kept writer keeper id Opener list =
     (id ≡ writer) × (list ≡ chain) × (keeper ≡ writer)
-HasPlace chain kept writer keeper id Writer list = (id ≡ writer) × (list ≡ chain)
-HasPlace chain kept writer keeper id Keeper list = (id ≡ keeper) × (list ≡ kept)
-HasPlace chain kept writer keeper id Draft list = IsPrefix list chain
-HasPlace chain kept writer keeper id Pass list = IsPrefix list kept
-HasPlace chain kept writer keeper id Spent list = Unit {0}
+HasRole chain kept writer keeper id Writer list = (id ≡ writer) × (list ≡ chain)
+HasRole chain kept writer keeper id Keeper list = (id ≡ keeper) × (list ≡ kept)
+HasRole chain kept writer keeper id Draft list = IsPrefix list chain
+HasRole chain kept writer keeper id Pass list = IsPrefix list kept
+HasRole chain kept writer keeper id Spent list = Unit {0}
 
 -- of the views of which a join made a view: each base is its base, and each list begins its list
 abbrev pub HasSources : {E S : Type 0} → S → List E → List (S × List E) → Type 0
@@ -51,7 +51,7 @@ HasSources base list (source ∷ sources) =
 -- what a seat knows is so
 abbrev pub Fits : {E S : Type 0} → S → List E → List E → ℕ → ℕ → ℕ → View E S → Type 0
 Fits key chain kept writer keeper id v =
-    HasPlace chain kept writer keeper id v.role v.list
+    HasRole chain kept writer keeper id v.role v.list
     × HasBase key v.role v.base
     × HasSources v.base v.list v.sources
 

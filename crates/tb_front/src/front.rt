@@ -23,7 +23,7 @@ pub trait Entry {
 }
 
 // A seat of a front. It has no bytes.
-pub(crate) type Place<E> = Seat<(), View<E, <E as Entry>::Start>>;
+pub(crate) type FrontSeat<E> = Seat<(), View<E, <E as Entry>::Start>>;
 
 /// The front of one chain. A word has the number of the chain's entries; all else that is known of
 /// the chain, its holders know. It may be shared among threads. Contracts see its name, which no

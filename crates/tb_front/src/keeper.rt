@@ -1,7 +1,7 @@
 ghost use Rattle.std.specs.Prelude.{◌≡◌};
 ghost use Rattle.tb_front.specs.Holders.{holder, longer, IsLater};
 
-use crate::front::{Entry, Front, Place};
+use crate::front::{Entry, Front, FrontSeat};
 use crate::pass::{Note, Pass};
 use crate::steps::{Confirm, Load, SplitNote, TakeIn};
 use crate::writer::Draft;
@@ -11,7 +11,7 @@ use std::marker::Model;
 /// drafts alone. A front has one.
 #[derive(Drop)]
 pub struct Keeper<E: Entry> {
-    pub(crate) seat: Place<E>,
+    pub(crate) seat: FrontSeat<E>,
 }
 
 impl<E: Entry> Model for Keeper<E> {

@@ -6,7 +6,9 @@
 //! No call waits, and none but `Front::new` takes memory. An entry itself is kept nowhere: the list
 //! of a holder exists in proofs alone. The contracts cite `specs/Holders` (what a holder is seen
 //! as, and when one has seen more); `specs/Chain` is the rule that each step keeps, `specs/Seats`
-//! what a holder's seat says of it, and `specs/Steps` what each kind of step does.
+//! what a holder's seat says of it, and `specs/Steps` what each kind of step does. Of the lemmas
+//! `Moves` (each kind of step keeps the rule) and `Prefixes` (beginnings of one list) serve the
+//! calls here, and `Holding` (holders that are later than one another) serves callers.
 #![tactic(auto)]
 
 mod front;

@@ -1,7 +1,7 @@
 ghost use Rattle.std.specs.Prelude.{◌≡◌};
 ghost use Rattle.tb_front.specs.Holders.{holder, longer, IsLater};
 
-use crate::front::{Entry, Front, Place};
+use crate::front::{Entry, Front, FrontSeat};
 use crate::keeper::Keeper;
 use crate::steps::{Load, SplitNote, TakeIn};
 use std::marker::Model;
@@ -9,7 +9,7 @@ use std::marker::Model;
 /// A beginning of the keeper's list that was seen. There may be any number.
 #[derive(Drop)]
 pub struct Pass<E: Entry> {
-    pub(crate) seat: Place<E>,
+    pub(crate) seat: FrontSeat<E>,
 }
 
 impl<E: Entry> Model for Pass<E> {
@@ -28,7 +28,7 @@ impl<E: Entry> Model for Pass<E> {
 /// What a pass had seen, for another pass, which may be in another thread.
 #[derive(Drop)]
 pub struct Note<E: Entry> {
-    pub(crate) seat: Place<E>,
+    pub(crate) seat: FrontSeat<E>,
 }
 
 impl<E: Entry> Model for Note<E> {

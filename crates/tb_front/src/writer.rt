@@ -2,7 +2,7 @@ ghost use Rattle.std.specs.Prelude.{◌≡◌, ◌<◌, [], ◌∷◌, ◌++◌,
 ghost use Rattle.tb_front.specs.Holders.{holder, IsLater};
 ghost use Rattle.tb_front.specs.declared.front.TheConstants.{LONGEST_CHAIN};
 
-use crate::front::{Entry, Front, Place};
+use crate::front::{Entry, Front, FrontSeat};
 use crate::pass::{Note, Pass};
 use crate::steps::{Append, Confirm, Load, OneEntry, SplitDraft};
 use std::marker::{Brand, Model};
@@ -10,7 +10,7 @@ use std::marker::{Brand, Model};
 /// Who adds to the chain, and knows it whole. A front has one.
 #[derive(Drop)]
 pub struct Writer<E: Entry> {
-    pub(crate) seat: Place<E>,
+    pub(crate) seat: FrontSeat<E>,
 }
 
 impl<E: Entry> Model for Writer<E> {
@@ -29,7 +29,7 @@ impl<E: Entry> Model for Writer<E> {
 /// What the writer knew, for the keeper.
 #[derive(Drop)]
 pub struct Draft<E: Entry> {
-    pub(crate) seat: Place<E>,
+    pub(crate) seat: FrontSeat<E>,
 }
 
 impl<E: Entry> Model for Draft<E> {

@@ -13,7 +13,7 @@ use Rattle.tb_release.specs.declared.limits.TheConstants.{MOST_EDITS, MOST_RELEA
 use Rattle.tb_release.specs.Releases.{IsSound}
 use Rattle.tb_release.specs.Edits.{edited, edited_all}
 use Rattle.tb_release.specs.Possible.{ArePossible, refusal, first_refusal}
-use Rattle.tb_release.specs.Batches.{BatchValue, CanFollow, Follows, changes_of, next_release, batch_refusal}
+use Rattle.tb_release.specs.Batches.{BatchValue, CanFollow, Follows, batch_of, batch_refusal, changes_of, next_release}
 use Rattle.tb_release.specs.Chains.{changed, after_batch, release_after, change_count, IsChain}
 use Rattle.tb_release.specs.Laws.{KeepsKeys, ChainFacts}
 use Rattle.tb_release.proofs.Edited.{possible_of, none_of, sound_after, key_stays, changed-change_of}
@@ -79,13 +79,13 @@ length-changes_of release [] = refl
 length-changes_of release (e ∷ es) = ap suc (length-changes_of (edited release e) es)
 
 pub batches_lead_on : (release : ReleaseValue) (edits : List Edit) → IsSound release → ArePossible release edits
-    → after_batch release (record { changes = changes_of release edits }) ≡ next_release release edits
+    → after_batch release (batch_of release edits) ≡ next_release release edits
 batches_lead_on release edits s can = rw (fold-changes release edits s can, length-changes_of release edits) refl
 
 -- ---- chains
 after_follows : (release : ReleaseValue) (batch : BatchValue) (f : Follows release batch) → IsSound release → after_batch release batch ≡ next_release release f.edits
 after_follows release batch f s =
-    let same : batch ≡ record { changes = changes_of release f.edits } = ap (λ (cs : List Change). record { changes = cs }) f.theirs in
+    let same : batch ≡ batch_of release f.edits = ap (λ (cs : List Change). record { changes = cs }) f.theirs in
     ap (after_batch release) same ∙ batches_lead_on release f.edits s f.can.possible
 
 next_sound : (release : ReleaseValue) (edits : List Edit) → ArePossible release edits → IsSound release → IsSound (next_release release edits)

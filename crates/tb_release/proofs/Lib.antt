@@ -4,6 +4,7 @@ pub mod Books
 pub mod Edited
 pub mod Chained
 pub mod Fitting
+pub mod FitTests
 pub mod SlotLemmas
 pub mod InPlace
 pub mod Places

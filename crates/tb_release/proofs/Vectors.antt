@@ -4,7 +4,7 @@ use Rattle.std.specs.Prelude.{Some, None}
 use Rattle.std.specs.FinMap.{get-insert, get-from_entries}
 use Rattle.std.specs.Cmp.{nat_cmp_total}
 use Rattle.tb_model.specs.Setups.{SetupValue}
-use Rattle.tb_model.specs.Releases.{first_release}
+use Rattle.tb_model.specs.Releases.{ReleaseValue, first_release}
 use Rattle.tb_model.proofs.SmallSetup.{records, person}
 use Rattle.tb_release.specs.declared.edits.Edit.{Edit}
 use Rattle.tb_release.specs.declared.edits.Edit.TheVariants.{Add, Drop, Amend}
@@ -42,3 +42,25 @@ no_edits s = refl
 -- of two settings on one variable the later one stands
 later_setting_stands : (s : SetupValue) → (edited_all (first_release s records) (Amend 101 ((1, 2) ∷ (1, 1) ∷ []) ∷ Drop 102 ∷ Drop 103 ∷ Drop 104 ∷ [])).records ≡ person 101 200 (0 ∷ 1 ∷ 0 ∷ []) ∷ []
 later_setting_stands s = refl
+
+-- there may be 10,000 releases after the first, and 1,000,000 changes in all
+abbrev far : SetupValue → ℕ → ℕ → ReleaseValue
+far s number changes = record (first_release s records) { number = number; changes = changes }
+
+last_release : (s : SetupValue) → batch_refusal (far s 9999 0) (Drop 101 ∷ []) ≡ None
+last_release s = refl
+
+no_further_release : (s : SetupValue) → batch_refusal (far s 10000 0) (Drop 101 ∷ []) ≡ Some (kind.TooMany, 0)
+no_further_release s = refl
+
+last_changes : (s : SetupValue) → batch_refusal (far s 1 999998) (Drop 101 ∷ Drop 102 ∷ []) ≡ None
+last_changes s = refl
+
+no_further_change : (s : SetupValue) → batch_refusal (far s 1 999999) (Drop 101 ∷ Drop 102 ∷ []) ≡ Some (kind.TooMany, 0)
+no_further_change s = refl
+
+no_edits_first : (s : SetupValue) → batch_refusal (far s 10000 0) [] ≡ Some (kind.Nothing, 0)
+no_edits_first s = refl
+
+person_there : (s : SetupValue) → batch_refusal (first_release s records) (Amend 102 ((0, 1) ∷ []) ∷ Add 102 100 (0 ∷ 2 ∷ 0 ∷ []) ∷ []) ≡ Some (kind.PersonThere, 2)
+person_there s = refl

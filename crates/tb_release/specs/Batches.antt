@@ -39,6 +39,10 @@ changes_of release (edit ∷ edits) =
 pub record BatchValue : Type 0 where
   pub changes : List Change
 
+-- the batch of some edits on a release
+abbrev pub batch_of : ReleaseValue → List Edit → BatchValue
+batch_of release edits = record { changes = changes_of release edits }
+
 -- how a change and a batch are coded, for types whose values hold them
 abbrev pub change_code : Coded Change
 change_code =

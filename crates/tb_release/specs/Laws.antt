@@ -1,6 +1,6 @@
 -- Laws of edits, batches and chains.
 use Rattle.std.specs.Prelude.{◌≡◌, ◌<◌, ◌≤◌, ◌↔◌, ℕ, ◌+◌, List, [], ◌∷◌, ◌++◌, length}
-use Rattle.std.specs.Prelude.{slice_index, Some, None}
+use Rattle.std.specs.Prelude.{slice_index, true, All, Some, None}
 use Rattle.std.specs.List.{AllByRecursion}
 use Rattle.std.specs.FinMap as finmap
 use Rattle.tb_base.specs.Records.{Fits, AllFit}
@@ -11,9 +11,10 @@ use Rattle.tb_release.specs.declared.limits.TheConstants.{MOST_EDITS}
 use Rattle.tb_release.specs.Releases.{KeyBook, IsSound}
 use Rattle.tb_release.specs.Edits.{edited_all}
 use Rattle.tb_release.specs.Possible.{ArePossible}
-use Rattle.tb_release.specs.Batches.{BatchValue, CanFollow, Follows, changes_of, next_release}
-use Rattle.tb_release.specs.Batches.{batch_refusal}
+use Rattle.tb_release.specs.Batches.{BatchValue, CanFollow, Follows, batch_of, batch_refusal}
+use Rattle.tb_release.specs.Batches.{next_release}
 use Rattle.tb_release.specs.Chains.{after_batch, release_after, change_count, IsChain}
+use Rattle.tb_release.specs.Fitting.{edits_fit}
 
 -- edits, at most the most, can follow a release exactly where there is no refusal
 abbrev pub CanFollowUnlessRefused : Type 0
@@ -46,6 +47,12 @@ EditFits shape (Drop person) = Unit {0}
 EditFits shape (Amend person sets) =
     AllByRecursion (λ s. (s.0 < length shape) × (s.1 < slice_index shape s.0)) sets
 
+-- the test of edits is true exactly where what each adds or sets fits
+abbrev pub FitIsTold : Type 0
+FitIsTold =
+    (shape : List ℕ) (edits : List Edit)
+    → (edits_fit shape edits ≡ true) ↔ All (EditFits shape) edits
+
 -- records that fit a shape still do after edits that fit it
 abbrev pub StayFitting : Type 0
 StayFitting =
@@ -56,8 +63,7 @@ StayFitting =
 abbrev pub BatchesLeadOn : Type 0
 BatchesLeadOn =
     (release : ReleaseValue) (edits : List Edit) → IsSound release → ArePossible release edits
-    → after_batch release (record { changes = changes_of release edits })
-    ≡ next_release release edits
+    → after_batch release (batch_of release edits) ≡ next_release release edits
 
 -- the release after a chain is sound, has the keys from before, and counts batches and changes
 pub record ChainFacts (release : ReleaseValue) (chain : List BatchValue) : Type 0 where

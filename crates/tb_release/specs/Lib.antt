@@ -3,6 +3,7 @@ pub mod Edits
 pub mod Possible
 pub mod Batches
 pub mod Chains
+pub mod Fitting
 pub mod Laws
 pub mod FaultNames
 pub mod Results

@@ -1,6 +1,7 @@
 //! Laws of edits, batches and chains. Each function does nothing, and its contract is a law.
 ghost use Rattle.tb_release.specs.Laws.{CanFollowUnlessRefused, StaySound, KeysStay, StayFitting};
 ghost use Rattle.tb_release.specs.Laws.{BatchesLeadOn, ChainsHold, ChainsGoOn, ChainsSplit};
+ghost use Rattle.tb_release.specs.Laws.{FitIsTold};
 
 /// Edits can follow a release exactly where there is no refusal.
 pub fn edits_follow_unless_refused()
@@ -16,6 +17,11 @@ pub fn possible_edits_leave_a_sound_release()
 /// The key book only grows, and no person's key changes.
 pub fn keys_stay()
     ensures { KeysStay }
+{}
+
+/// The test of edits is true exactly where what each adds or sets fits the shape.
+pub fn fit_is_told()
+    ensures { FitIsTold }
 {}
 
 /// Edits that fit a shape leave records that fit it.

@@ -5,14 +5,20 @@
 //! `Releases` of `tb_model` (what a release is, and release 0), and here `specs/Releases` (what is
 //! true of every release), `Edits` (what an edit leaves), `Possible` (which edits are possible, and
 //! why one isn't), `Batches` (which batches follow a release, and the first refusal of edits) and
-//! `Results` (what the calls return). `laws` cites `Chains` too (the release to which a chain of
-//! batches leads).
+//! `Results` (what the calls return), and `Fitting` (whether records and edits fit a shape). `laws`
+//! cites `Chains` too (the release to which a chain of batches leads).
+//!
+//! Of the lemmas `Persons`, `Books` (key books), `Edited` (one edit) and `Chained` (batches and
+//! chains) are over the definitions, and give the laws; `SlotLemmas`, `InPlace`, `Places`, `Keys`,
+//! `Made` and `Runs` serve a release while it is edited, `Fitting` that its records still fit, and
+//! `FitTests` the tests of that. `Vectors` has worked batches.
 #![tactic(auto)]
 
 mod batches;
 mod draft;
 mod edits;
 mod fault;
+mod fits;
 mod following;
 pub mod laws;
 mod limits;
@@ -23,6 +29,7 @@ mod slots;
 pub use batches::{Batch, Batches};
 pub use edits::{Change, Edit, Edits, Pushed, Sets};
 pub use fault::{EditFault, EditFaultKind};
+pub use fits::{edit_fits, edits_fit, record_fits, records_fit, sets_fit};
 pub use following::next;
 pub use limits::{MOST_CHANGES, MOST_EDITS, MOST_RELEASES};
 pub use release::{Lent, Release};

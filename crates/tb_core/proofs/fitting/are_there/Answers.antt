@@ -1,6 +1,6 @@
 use Rattle.std.proofs.Common.{◌<◌, length, arith}
 use Rattle.std.specs.Prelude.{nat_lt}
-use Rattle.tb_core.proofs.FitLemmas.{ends_all, goes_all, left_at}
+use Rattle.tb_release.proofs.FitTests.{ends_all, goes_all, left_at}
 use Rattle.tb_core.proofs.fitting.are_there.Goals as goal
 
 pub returns-then-not-is_there : goal.returns-then-not-is_there

@@ -24,6 +24,15 @@ hand_on-requires-clause-room g c =
     c.meet.ensures.met ∙ ap (holder_at g.B.Named.name) (sym (c.self.view_is ∙ c.meet.ensures.same.0)) ∙ sym c.self.invariant in
     rw (sym keeper) room
 
+pub hand_on-requires-clause-fit : goal.hand_on-requires-clause-fit
+hand_on-requires-clause-fit g c =
+    let keeper : c.args.custodian.now.writer ≡ c.self.inside.keeper =
+    c.meet.ensures.met ∙ ap (holder_at g.B.Named.name) (sym (c.self.view_is ∙ c.meet.ensures.same.0)) ∙ sym c.self.invariant in
+    let batch : c.args.publication.batch ≡ c.publication.inside.step = sym (c.publication.invariant.1
+    ∙ ap (λ (p : PublicationValue). p.batch) c.publication.view_is) in
+    subst (λ (x : HolderValue × BatchValue). All (ChangeFits x.0.start.shape) x.1.changes) (λ i.
+    (keeper i, batch i)) c.requires.publication.changes_fit
+
 pub returns-clause-number : goal.returns-clause-number
 returns-clause-number g c =
     let keeper : c.args.custodian.now.writer ≡ c.self.inside.keeper =

@@ -1,0 +1,107 @@
+// Whether records and edits fit a shape.
+
+ghost use Rattle.std.specs.Prelude.{◌≡◌, ◌↔◌, ℕ, true, nat_lt, All};
+ghost use Rattle.std.specs.List.{list_all};
+ghost use Rattle.tb_base.specs.declared.cells.TheConstants.{KEY_RANGE as LIMIT};
+ghost use Rattle.tb_base.specs.Records.{AllFit, Fits};
+ghost use Rattle.tb_release.specs.declared.edits.Edit.TheVariants as edits;
+ghost use Rattle.tb_release.specs.Fitting.{codes_fit, edit_fits as is_fit, edits_fit as are_fit};
+ghost use Rattle.tb_release.specs.Fitting.{record_fits as is_record, setting_fits as is_setting};
+ghost use Rattle.tb_release.specs.Laws.{EditFits};
+
+use crate::edits::{Edit, Edits, Sets};
+use tb_base::{Codes, KEY_RANGE, Record, Shape};
+
+/// Whether a record with this key and these categories fits a shape: its key is in range, and it
+/// has one category of each variable, and one that the variable has.
+pub fn record_fits(shape: &Shape, key: u8, codes: &Codes) -> bool
+    ensures test { result ≡ is_record shape.now key codes.now }
+    ensures told { result ≡ true → (person : ℕ)
+        → Fits shape.now (record { person = person; key = key; codes = codes.now }) }
+{
+    is_key(key) && they_fit(shape, codes)
+}
+
+/// Whether each of the records fits a shape.
+pub fn records_fit(shape: &Shape, records: &[Record]) -> bool
+    ensures { (result ≡ true) ↔ AllFit shape.now records.now }
+{
+    for one in records {
+        if !record_fits(shape, one.key, &one.codes) {
+            return false;
+        }
+    }
+    true
+}
+
+/// Whether settings fit a shape: each is of a variable of the shape, and of a category that it has.
+pub fn sets_fit(shape: &Shape, sets: &Sets) -> bool
+    ensures test { result ≡ list_all (is_setting shape.now) sets.now }
+    ensures told { result ≡ true → (person : ℕ)
+        → EditFits shape.now (edits.Amend person sets.now) }
+{
+    for i in 0..sets.len() {
+        let (variable, category) = sets.at(i);
+        if !setting_fits(shape, variable, category) {
+            return false;
+        }
+    }
+    true
+}
+
+/// Whether what an edit adds or sets fits a shape.
+pub fn edit_fits(shape: &Shape, edit: &Edit) -> bool
+    ensures test { result ≡ is_fit shape.now edit.now }
+    ensures told { result ≡ true → EditFits shape.now edit.now }
+{
+    match edit {
+        Edit::Add {
+            person: _,
+            key,
+            codes,
+        } => record_fits(shape, *key, codes),
+        Edit::Drop { person: _ } => true,
+        Edit::Amend { person: _, sets } => sets_fit(shape, sets),
+    }
+}
+
+/// Whether what each edit adds or sets fits a shape.
+pub fn edits_fit(shape: &Shape, edits: &Edits) -> bool
+    ensures test { result ≡ are_fit shape.now edits.now }
+    ensures told { result ≡ true → All (EditFits shape.now) edits.now }
+{
+    for i in 0..edits.len() {
+        if !edit_fits(shape, edits.at(i)) {
+            return false;
+        }
+    }
+    true
+}
+
+// Whether it is in the range of keys, as each number of its type is while that range is 256.
+fn is_key(key: u8) -> bool
+    ensures { result ≡ nat_lt key LIMIT }
+{
+    u16::from(key) < KEY_RANGE
+}
+
+// Whether there is one category of each variable, and one that the variable has.
+fn they_fit(shape: &Shape, codes: &Codes) -> bool
+    ensures { result ≡ codes_fit shape.now codes.now }
+{
+    if codes.len() != shape.len() {
+        return false;
+    }
+    for i in 0..shape.len() {
+        if codes.at(i) >= shape.at(i) {
+            return false;
+        }
+    }
+    true
+}
+
+fn setting_fits(shape: &Shape, variable: u16, category: u16) -> bool
+    ensures { result ≡ is_setting shape.now (variable, category) }
+{
+    (variable as usize) < shape.len() && category < shape.at(variable as usize)
+}
