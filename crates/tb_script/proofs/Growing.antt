@@ -12,6 +12,7 @@ use Rattle.indexmap.specs.IndexSet.{insert_key}
 use Rattle.tb_script.specs.Parts.{AreKept, IsWithin, lane_names, line_at, parts_value}
 use Rattle.tb_script.specs.Scripts.{ScriptLine, ScriptValue, lanes_of}
 use Rattle.tb_script.specs.declared.limits.TheConstants.{MOST_LANES}
+use Rattle.tb_io.specs.declared.limits.TheConstants.{MOST_LINE_BYTES}
 use Rattle.tb_script.specs.declared.parts.Parts.{Parts}
 use Rattle.tb_script.specs.declared.parts.Place.{Place}
 
@@ -71,7 +72,7 @@ lanes-added lines l =
 
 -- the parts with one more line
 module _ (old new : Parts) (name text : List ℕ) (n : ℕ) (kept : AreKept old) (few : length new.lanes.keys ≤ MOST_LANES) (names : lane_names new ≡ insert_key bytes_eq (lane_names old) name) (at : slice_get (lane_names new) n ≡ Some name)
-    (texts : new.texts.items ≡ old.texts.items ++ text) (places : new.places.items ≡ old.places.items ++ (record { phase = old.phases; lane = n; len = length text; start = length old.texts.items }) ∷ []) where
+    (texts : new.texts.items ≡ old.texts.items ++ text) (short : length text ≤ MOST_LINE_BYTES) (places : new.places.items ≡ old.places.items ++ (record { phase = old.phases; lane = n; len = length text; start = length old.texts.items }) ∷ []) where
   abbrev one : Place
   one = record { phase = old.phases; lane = n; len = length text; start = length old.texts.items }
 
@@ -108,8 +109,8 @@ module _ (old new : Parts) (name text : List ℕ) (n : ℕ) (kept : AreKept old)
   new-within =
       let P = IsWithin (length new.lanes.keys) (length new.texts.items) in
       let before : All P old.places.items =
-      All-weaker (IsWithin (length old.lanes.keys) (length old.texts.items)) P (λ p h. (omega (arith, h.0, wider), omega (arith, h.1, all_bytes))) old.places.items kept.within in
-      let last : P one = (omega (arith, new-names, slice_get_within (lane_names new) n name at), omega (arith, all_bytes)) in
+      All-weaker (IsWithin (length old.lanes.keys) (length old.texts.items)) P (λ p h. (omega (arith, h.0, wider), omega (arith, h.1, all_bytes), h.2)) old.places.items kept.within in
+      let last : P one = (omega (arith, new-names, slice_get_within (lane_names new) n name at), omega (arith, all_bytes), short) in
       subst (All P) (sym places) (All-push P old.places.items one before last)
 
   pub kept-more : AreKept new

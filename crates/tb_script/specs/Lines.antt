@@ -1,27 +1,12 @@
 -- What a line of a script is by itself. A line is its bytes without its end.
-use Rattle.std.specs.Prelude.{◌&&◌, ◌||◌, ◌==◌, not, ℕ, Bool, false, List, [], ◌∷◌, length, drop}
+use Rattle.std.specs.Prelude.{◌&&◌, ◌||◌, not, ℕ, Bool, false, List, [], ◌∷◌, length, drop}
 use Rattle.std.specs.Prelude.{bytes_eq, codes, nat_le, nat_lt}
 use Rattle.std.specs.Char.{is_ascii_alphabetic, is_ascii_alphanumeric}
-use Rattle.std.specs.List.{before_first, list_all, prefix_len}
-use Rattle.tb_script.specs.declared.limits.TheConstants.{MOST_LANE_BYTES, MOST_LINE_BYTES}
-
--- a space or a tab
-abbrev pub is_blank : ℕ → Bool
-is_blank c = (c == 32) || (c == 9)
-
--- the first byte is a blank
-abbrev pub begins_with_blank : List ℕ → Bool
-begins_with_blank [] = false
-begins_with_blank (c ∷ line) = is_blank c
-
--- the first byte is `#`
-abbrev pub is_comment : List ℕ → Bool
-is_comment [] = false
-is_comment (c ∷ line) = c == 35
-
--- A line of blanks alone, or whose first byte is `#`, is passed over.
-abbrev pub is_passed_over : List ℕ → Bool
-is_passed_over line = list_all is_blank line || is_comment line
+use Rattle.std.specs.List.{before_first, list_all}
+use Rattle.tb_base.specs.Bytes.{is_blank, begins_blank, after_blanks}
+use Rattle.tb_io.specs.declared.limits.TheConstants.{MOST_LINE_BYTES}
+use Rattle.tb_script.specs.declared.limits.TheConstants.{MOST_LANE_BYTES}
+use Rattle.tb_session.specs.Lines.{is_passed_over}
 
 -- A line that is exactly `--` ends a phase.
 abbrev pub is_phase_end : List ℕ → Bool
@@ -45,7 +30,7 @@ lane_of line = first_word line
 
 -- the lane's line: what follows the blanks after the first word, to the end
 abbrev pub line_of : List ℕ → List ℕ
-line_of line = drop (prefix_len is_blank (after_word line)) (after_word line)
+line_of line = after_blanks (after_word line)
 
 -- A lane's name is an ASCII letter and more letters and digits, and not too long.
 abbrev pub is_lane_name : List ℕ → Bool
@@ -58,7 +43,7 @@ is_lane_name (c ∷ name) =
 -- name, and not only blanks follow that word.
 abbrev pub is_well_formed : List ℕ → Bool
 is_well_formed line =
-    not (begins_with_blank line) && is_lane_name (first_word line)
+    not (begins_blank line) && is_lane_name (first_word line)
     && not (list_all is_blank (after_word line))
 
 -- the line has too many bytes

@@ -3,6 +3,7 @@ use Rattle.std.specs.Prelude.{◌≡◌, ◌+◌, ◌<◌, ◌≤◌, ℕ, List,
 use Rattle.std.specs.Prelude.{slice_index_or, string_bytes}
 use Rattle.tb_script.specs.Scripts.{ScriptLine, ScriptValue, lanes_of}
 use Rattle.tb_script.specs.declared.limits.TheConstants.{MOST_LANES}
+use Rattle.tb_io.specs.declared.limits.TheConstants.{MOST_LINE_BYTES}
 use Rattle.tb_script.specs.declared.parts.Parts.{Parts}
 use Rattle.tb_script.specs.declared.parts.Place.{Place}
 
@@ -25,9 +26,10 @@ parts_value parts = record {
   phases = parts.phases;
 }
 
--- the place has a lane and lies within the bytes
+-- the place has a lane and lies within the bytes, and its line isn't too long
 abbrev pub IsWithin : ℕ → ℕ → Place → Type 0
-IsWithin lanes bytes place = (place.lane < lanes) × (place.start + place.len ≤ bytes)
+IsWithin lanes bytes place =
+    (place.lane < lanes) × (place.start + place.len ≤ bytes) × (place.len ≤ MOST_LINE_BYTES)
 
 -- What is true of the parts of every script: their names are the lines' lanes, there are not too
 -- many, and each place lies within.

@@ -6,12 +6,14 @@ ghost use Rattle.std.specs.Prelude.{IfOk, IfErr, OnOk, MatchOption};
 ghost use Rattle.indexmap.specs.IndexSet.{insert_key};
 ghost use Rattle.tb_script.specs.Parts.{AreKept, parts_value};
 ghost use Rattle.tb_script.specs.Scripts.{is_too_many, lanes_of};
+ghost use Rattle.tb_io.specs.declared.limits.TheConstants.{MOST_LINE_BYTES};
 
-use crate::limits::{MOST_LANES, MOST_LINE_BYTES};
+use crate::limits::MOST_LANES;
 use crate::line::LaneLine;
 use indexmap::IndexSet;
 use std::alloc::Global;
 use tb_base::Memory;
+use tb_io::MOST_LINE_BYTES;
 
 /// Where a lane's line stands: its phase, the number of its lane, and where its bytes begin and
 /// how many there are.

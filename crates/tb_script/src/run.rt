@@ -1,29 +1,30 @@
 // The replies to a script's lines, written one after another.
 
-ghost use Rattle.std.specs.Prelude.{◌≡◌, ◌≢◌, ◌<◌, ◌+◌, ◌≤◌, [], ℕ, List, length};
-ghost use Rattle.tb_cache.specs.declared.TheConstants.{MOST_ENTRIES};
+ghost use Rattle.std.specs.Prelude.{◌≡◌, ◌<◌, ◌+◌, ◌≤◌, [], ℕ, All, IfOk, List, length};
+ghost use Rattle.tb_board.specs.Custodians.{IsWhole};
+ghost use Rattle.tb_front.specs.Holders.{IsLater};
 ghost use Rattle.tb_io.specs.Faults.{HasRisen};
 ghost use Rattle.tb_io.specs.Taken.{Took, TookPart};
+ghost use Rattle.tb_io.specs.declared.answers.Wrote.TheVariants as wrote;
+ghost use Rattle.tb_io.specs.declared.limits.TheConstants.{MOST_LINE_BYTES};
 ghost use Rattle.tb_model.specs.Schemas.{shape_of};
-ghost use Rattle.tb_script.specs.Outputs.{AreReplies, ReplyValue, price_of, text_of};
-ghost use Rattle.tb_script.specs.Replies.{IsCapacityReply, IsReply, start};
-ghost use Rattle.tb_script.specs.ReplyLines.{cleared_line};
-ghost use Rattle.tb_script.specs.ReplyTexts.{reply_text};
-ghost use Rattle.tb_script.specs.Setups.{setup_value};
-ghost use Rattle.tb_script.specs.States.{KeepsChain, ReplyLeads, StateFits};
+ghost use Rattle.tb_script.specs.Runs.{IsAnalystOf, IsLaneReply, IsOwnerOf, Learns, LineLeads};
+ghost use Rattle.tb_script.specs.Runs.{LineSays};
 ghost use Rattle.tb_script.specs.declared.run.RunEnd.TheVariants as run_end;
+ghost use Rattle.tb_session.specs.Outputs.{AreReplies, ReplyValue, price_of, text_of};
+ghost use Rattle.tb_session.specs.Parties.{IsCustodianOf, seen_by, state_at};
 
-use crate::answer::answer;
-use crate::asks::{Asks, asks_of};
-use crate::reply::Reply;
-use crate::revise::{State, hold, publish};
 use crate::script::Script;
 use std::alloc::Global;
+use std::sync::Wait;
 use std::sync::ledger::Ledger;
+use std::thread::Threads;
 use tb_base::{Memory, Steps};
-use tb_core::Desk;
+use tb_board::{Board, Custodian, Named};
+use tb_build::Open;
 use tb_io::{Sink, Wrote};
 use tb_release::Edits;
+use tb_session::{Party, Role, answer};
 use tb_text::Setup;
 
 /// How a script ends: each line was answered, a write failed, or the run is out of memory before
@@ -35,101 +36,165 @@ pub enum RunEnd {
     Memory,
 }
 
-// Lets the desk keep so many cubes.
-fn resize(desk: &mut Desk, capacity: u32) -> Reply
-    requires some { 0 < capacity }
-    requires few { capacity ≤ MOST_ENTRIES }
-    ensures reply { IsCapacityReply capacity (reply_text result) }
-    ensures keeps { KeepsChain desk.old desk.new }
+// An analyst's pass learns what the custodian's has seen.
+fn tell<B: Named>(board: &Board<B>, custodian: &mut Custodian, party: &mut Party)
+    requires front { custodian.old.pass.name ≡ B.name }
+    requires analyst { IsAnalystOf B.name custodian.old.writer.start.shape party.old }
+    ensures same { custodian.new ≡ custodian.old }
+    ensures learns { Learns custodian.old.pass party.old party.new }
 {
-    match desk.resize(capacity) {
-        Ok(()) => Reply::Capacity(capacity),
-        Err(Memory) => Reply::Memory,
+    match party {
+        Party::Analyst(pass) => {
+            let note = board.note(custodian.pass());
+            board.learn(pass, note);
+        }
+        Party::Custodian(_, _) => {}
     }
 }
 
-// Makes the desk forget its cubes.
-fn clear(desk: &mut Desk) -> Reply
-    ensures reply { reply_text result ≡ cleared_line }
-    ensures keeps { KeepsChain desk.old desk.new }
+// The custodian confirms an analyst's pass.
+fn confirm<B: Named>(board: &Board<B>, custodian: &mut Custodian, party: &mut Party)
+    requires front { custodian.old.writer.name ≡ B.name }
+    requires analyst { IsAnalystOf B.name custodian.old.writer.start.shape party.old }
+    ensures same { custodian.new ≡ custodian.old }
+    ensures also { party.new ≡ party.old }
+    ensures behind { IsLater (seen_by party.old) custodian.old.writer }
 {
-    desk.clear();
-    Reply::Cleared
+    match party {
+        Party::Analyst(pass) => board.confirm(custodian, pass),
+        Party::Custodian(_, _) => {}
+    }
 }
 
-// The reply to a line of a lane, and the state after it.
-fn reply<L: Ledger>(
-    alloc: Global,
+// Answers an analyst's line over the custodian's release: its pass learns what the custodian's has
+// seen, and has seen no more after it.
+fn answer_beside<B: Named, R: Threads + Wait + Sync, K: Sink, L: Ledger>(
     setup: &Setup,
-    state: &mut State,
-    lane: &str,
+    board: &Board<B>,
+    rt: &R,
+    alloc: Global,
+    custodian: &mut Custodian,
+    party: &mut Party,
     line: &[u8],
+    sink: &mut K,
     steps: &mut Steps<L>,
-) -> Reply
-    requires few { length line.now ≤ u16.MAX }
-    requires fit { StateFits (shape_of setup.now.schema) state.old }
-    ensures reply { (phase : ℕ) → ReplyLeads (setup_value setup.now) state.old
-        (record { phase = phase; lane = lane.now; line = line.now }) (reply_text result)
-        steps.old steps.new state.new }
-    ensures fit { StateFits (shape_of setup.now.schema) state.new }
+) -> Wrote
+    requires few { length line.now ≤ MOST_LINE_BYTES }
+    requires front { custodian.old.writer.name ≡ B.name }
+    requires fits { custodian.old.writer.start.shape ≡ shape_of setup.now.schema }
+    requires whole { IsWhole custodian.old }
+    requires analyst { IsAnalystOf B.name (shape_of setup.now.schema) party.old }
+    ensures same { custodian.new ≡ custodian.old }
+    ensures analyst { IsAnalystOf B.name (shape_of setup.now.schema) party.new }
+    ensures says { LineSays setup.now custodian.old line.now result (K.faults sink.old)
+        (K.faults sink.new) (K.taken sink.old) (K.taken sink.new) steps.old steps.new }
 {
-    match asks_of(lane, line) {
-        Asks::Nothing => Reply::Nothing,
-        Asks::Table => answer(alloc, setup, &mut state.desk, line, steps),
-        Asks::Edit => hold(alloc, setup, &mut state.held, line),
-        Asks::Publish => publish(alloc, state),
-        Asks::Stats => Reply::Stats(state.desk.stats()),
-        Asks::Clear => clear(&mut state.desk),
-        Asks::Cache(capacity) => resize(&mut state.desk, capacity),
+    tell(board, custodian, party);
+    let done = answer(setup, board, rt, alloc, party, line, sink, &mut Open, steps);
+    confirm(board, custodian, party);
+    done
+}
+
+// Answers a line of a lane: the custodian's own, or that of an analyst.
+fn answer_lane<B: Named, R: Threads + Wait + Sync, K: Sink, L: Ledger>(
+    setup: &Setup,
+    board: &Board<B>,
+    rt: &R,
+    alloc: Global,
+    own: &mut Party,
+    party: &mut Party,
+    role: Role,
+    line: &[u8],
+    sink: &mut K,
+    steps: &mut Steps<L>,
+) -> Wrote
+    requires few { length line.now ≤ MOST_LINE_BYTES }
+    requires own { IsOwnerOf B.name (shape_of setup.now.schema) own.old }
+    requires analyst { IsAnalystOf B.name (shape_of setup.now.schema) party.old }
+    ensures own { IsOwnerOf B.name (shape_of setup.now.schema) own.new }
+    ensures analyst { IsAnalystOf B.name (shape_of setup.now.schema) party.new }
+    ensures leads { LineLeads setup.now own.old role line.now result (K.faults sink.old)
+        (K.faults sink.new) (K.taken sink.old) (K.taken sink.new) steps.old steps.new own.new }
+{
+    match role {
+        Role::Custodian => answer(setup, board, rt, alloc, own, line, sink, &mut Open, steps),
+        Role::Analyst => match own {
+            Party::Custodian(custodian, _) => {
+                answer_beside(setup, board, rt, alloc, custodian, party, line, sink, steps)
+            }
+            Party::Analyst(_) => unreachable!(),
+        },
     }
 }
 
-/// Writes the reply to each line of a script, one after another: a query's table counted over the
-/// current release, which is the desk's until the custodian publishes; the line of the query's first
-/// fault; what became of the custodian's edit or of `publish`, `stats`, `clear` or `cache K`; or
-/// `memory` where the memory for it is refused. A line of blanks alone, or one that begins with `#`,
-/// has none. For a table the release's records are lent once, or the changes that a cube is behind,
-/// or nothing where the desk keeps its cube. It takes memory for one table at a time, for the cubes
-/// that are kept, for the edits that are held, and for the next release while it is made; it is
-/// never out of memory itself.
-pub fn run_script<O: Sink, L: Ledger>(
+// A party for each lane, of which none has seen more than the custodian.
+fn analysts<B: Named>(
+    rt: &impl Wait,
     alloc: Global,
+    board: &Board<B>,
+    custodian: &mut Custodian,
+    lanes: usize,
+) -> Result<Vec<Party>, Memory>
+    requires front { custodian.old.writer.name ≡ B.name }
+    ensures same { custodian.new ≡ custodian.old }
+    ensures parties { IfOk result
+        (λ v. All (IsAnalystOf B.name custodian.old.writer.start.shape) v.items) }
+    ensures many { IfOk result (λ v. length v.items ≡ lanes) }
+{
+    let mut parties = Vec::with_capacity(alloc, lanes)?;
+    for _ in 0..lanes {
+        let mut pass = board.pass(rt);
+        board.confirm(custodian, &mut pass);
+        parties.push(Party::Analyst(pass))?;
+    }
+    Ok(parties)
+}
+
+/// Writes the reply to each line of a script, one after another, each lane by a party of its own: a
+/// query's table counted over the custodian's current release; the line of the query's first fault;
+/// what became of the custodian's edit or of `publish`, `stats`, `clear` or `cache K`; or `memory`
+/// where the memory for it is refused. A line of blanks alone, or one that begins with `#`, has
+/// none. It is out of memory only before the first line.
+pub fn run_script<B: Named, K: Sink, L: Ledger>(
     setup: &Setup,
-    desk: Desk,
+    board: &Board<B>,
+    rt: &(impl Threads + Wait + Sync),
+    alloc: Global,
     script: &Script,
-    out: &mut O,
+    mut custodian: Custodian,
+    sink: &mut K,
     steps: &mut Steps<L>,
 ) -> RunEnd
-    requires shape { desk.shape ≡ shape_of setup.now.schema }
-    requires start { desk.chain ≡ [] }
-    ensures count { O.faults out.old ≤ O.faults out.new }
-    ensures failed { result ≡ run_end.WriteFault → HasRisen (O.faults out.old) (O.faults out.new) }
-    ensures memory { result ≢ run_end.Memory }
+    requires own { IsCustodianOf B.name (shape_of setup.now.schema) custodian [] }
+    ensures count { K.faults sink.old ≤ K.faults sink.new }
+    ensures failed { result ≡ run_end.WriteFault
+        → HasRisen (K.faults sink.old) (K.faults sink.new) }
+    ensures memory { result ≡ run_end.Memory → (K.taken sink.new ≡ K.taken sink.old)
+        × (steps.new ≡ steps.old) }
     // What was taken are the replies, and the counter rose by no more than their price.
     ensures done { result ≡ run_end.Done → (replies : List ReplyValue)
-        × AreReplies (IsReply (setup_value setup.now) desk.base) start script.now.lines replies
-        × Took (O.taken out.old) (O.taken out.new) (text_of replies)
+        × AreReplies (IsLaneReply setup.now custodian.writer.start.base)
+        (state_at custodian.writer []) script.now.lines replies
+        × Took (K.taken sink.old) (K.taken sink.new) (text_of replies)
         × (steps.new ≤ steps.old + price_of replies) }
     // Or a part of some replies.
     ensures part { result ≡ run_end.WriteFault → (replies : List ReplyValue)
-        × AreReplies (IsReply (setup_value setup.now) desk.base) start script.now.lines replies
-        × TookPart (O.taken out.old) (O.taken out.new) (text_of replies)
+        × AreReplies (IsLaneReply setup.now custodian.writer.start.base)
+        (state_at custodian.writer []) script.now.lines replies
+        × TookPart (K.taken sink.old) (K.taken sink.new) (text_of replies)
         × (steps.new ≤ steps.old + price_of replies) }
 {
-    let mut state = State {
-        desk,
-        held: Edits::new(alloc),
+    let Ok(mut parties) = analysts(rt, alloc, board, &mut custodian, script.lanes()) else {
+        return RunEnd::Memory;
     };
+    let mut own = Party::Custodian(custodian, Edits::new(alloc));
     for i in 0..script.len() {
-        let reply = reply(
-            alloc,
-            setup,
-            &mut state,
-            script.lane(i),
-            script.line(i),
-            steps,
-        );
-        match reply.write(out) {
+        let party = &mut parties[script.lane_number(i)];
+        let role = script.role(i);
+        let line = script.line(i);
+        match answer_lane(
+            setup, board, rt, alloc, &mut own, party, role, line, sink, steps,
+        ) {
             Wrote::All => {}
             Wrote::Failed => return RunEnd::WriteFault,
         }

@@ -3,16 +3,20 @@
 ghost use Rattle.std.specs.Prelude.{◌≡◌, ◌≢◌, ◌<◌, ◌≤◌, ℕ, Ok, Err, true, false};
 ghost use Rattle.std.specs.Prelude.{length, IfOk, IfErr, OnOk};
 ghost use Rattle.tb_script.specs.Parts.{AreKept, parts_value};
-ghost use Rattle.tb_script.specs.Scripts.{is_bad, lanes_of, nth_line, script_of, with_line};
+ghost use Rattle.tb_script.specs.Scripts.{is_bad, lanes_of, nth_line, role_of_lane};
+ghost use Rattle.tb_script.specs.Scripts.{script_of, with_line};
 ghost use Rattle.tb_script.specs.declared.fault.ScriptFault.TheVariants as fault;
+ghost use Rattle.tb_io.specs.declared.limits.TheConstants.{MOST_LINE_BYTES};
 
 use crate::fault::ScriptFault;
-use crate::limits::{MOST_LINE_BYTES, MOST_SCRIPT_BYTES};
-use crate::line::{is_passed_over, is_phase_end, split_line};
+use crate::limits::MOST_SCRIPT_BYTES;
+use crate::line::{is_phase_end, split_line};
 use crate::parts::Parts;
 use bstr::ByteSlice;
 use std::alloc::Global;
 use std::marker::Model;
+use tb_io::MOST_LINE_BYTES;
+use tb_session::{Role, is_passed_over};
 
 /// The lanes' lines of a script in order, each with its phase and its lane. It is made by
 /// `Script::read` alone.
@@ -128,11 +132,31 @@ impl Script {
         }
     }
 
+    /// Whether line `i`, from 0, is an analyst's or the custodian's.
+    pub fn role(&self, i: usize) -> Role
+        requires { i < length self.now.lines }
+        ensures { result ≡ role_of_lane (nth_line self.now i).lane }
+    {
+        if self.lane(i) == "custodian" {
+            Role::Custodian
+        } else {
+            Role::Analyst
+        }
+    }
+
+    /// The number of the lane of line `i`, from 0, in the order of first appearance.
+    pub fn lane_number(&self, i: usize) -> usize
+        requires { i < length self.now.lines }
+        ensures { result < length (lanes_of self.now.lines) }
+    {
+        self.parts.places[i].lane as usize
+    }
+
     /// The bytes of line `i`, from 0: what follows the blanks after its lane's name.
     pub fn line(&self, i: usize) -> &[u8]
         requires { i < length self.now.lines }
         ensures bytes { result.now ≡ (nth_line self.now i).line }
-        ensures few { length result.now ≤ u16.MAX }
+        ensures few { length result.now ≤ MOST_LINE_BYTES }
     {
         let place = &self.parts.places[i];
         &self.parts.texts[place.start..place.start + place.len as usize]

@@ -16,7 +16,7 @@ use tb_base::{Cell, Memory};
 fn add_end(text: &mut Bytes, setup: &Setup, cell: Cell) -> Result<(), Memory>
     requires { cell.count ≤ MOST_PERSONS }
     ensures { OnOk result (text.new
-        ≡ text.old ++ end_of (pvalue_at setup.now.ptable) setup.now.threshold cell) }
+        ≡ text.old ++ end_of (pvalue_at setup.now.lines) setup.now.threshold cell) }
 {
     text.append_end(setup.ptable.shown(setup.threshold, cell))
 }
@@ -31,7 +31,7 @@ fn add_row(
 ) -> Result<(), Memory>
     requires { All (λ cell. cell.count ≤ MOST_PERSONS) cells.now }
     ensures { OnOk result (text.new ≡ text.old
-        ++ lines_under (end_of (pvalue_at setup.now.ptable) setup.now.threshold)
+        ++ lines_under (end_of (pvalue_at setup.now.lines) setup.now.threshold)
         first.now (fields.now ∷ []) cells.now) }
 {
     for i in 0..fields.len().min(cells.len()) {
@@ -56,7 +56,7 @@ pub(crate) fn add_lines(
     requires within { at ≤ length cells.now }
     requires few { All (λ cell. cell.count ≤ MOST_PERSONS) cells.now }
     ensures text { OnOk result (text.new ≡ text.old
-        ++ lines_under (end_of (pvalue_at setup.now.ptable) setup.now.threshold)
+        ++ lines_under (end_of (pvalue_at setup.now.lines) setup.now.threshold)
         first.old dimensions.now (drop at cells.now)) }
     ensures first { OnOk result (first.new ≡ first.old) }
     ensures within { IfOk result (λ next. next ≤ length cells.now) }

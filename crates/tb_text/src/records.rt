@@ -95,7 +95,7 @@ fn write_entry(
     ensures between { OnOk result (IsBetween rows.new) }
     ensures text { OnOk result (text_so_far rows.new ≡ text_so_far rows.old
         ++ (slice_index_or (entry_fields setup.now.schema query.now of) i []
-        ++ end_of (pvalue_at setup.now.ptable) setup.now.threshold cell)) }
+        ++ end_of (pvalue_at setup.now.lines) setup.now.threshold cell)) }
 {
     let entry = entry_at(&setup.schema, query, of, i);
     let mut digits = [0; 10];
@@ -128,7 +128,7 @@ pub(crate) fn text_by_records(
     requires name { IsName setup.now.schema of }
     requires few { All (λ cell. cell.count ≤ MOST_PERSONS) cells.now }
     ensures { IfOk result (λ text. text.items
-        ≡ text_of_cells setup.now.schema (pvalue_at setup.now.ptable) setup.now.threshold
+        ≡ text_of_cells setup.now.schema (pvalue_at setup.now.lines) setup.now.threshold
         query.now number cells.now) }
 {
     let mut start = Bytes::with_room(alloc, cells.len().saturating_mul(LINE).saturating_add(HEAD))?;

@@ -108,7 +108,7 @@ fn text_by_fields(
     requires names { All (IsName setup.now.schema) query.now.dimensions }
     requires few { All (λ cell. cell.count ≤ MOST_PERSONS) cells.now }
     ensures { IfOk result (λ text. text.items
-        ≡ text_of_cells setup.now.schema (pvalue_at setup.now.ptable) setup.now.threshold
+        ≡ text_of_cells setup.now.schema (pvalue_at setup.now.lines) setup.now.threshold
         query.now number cells.now) }
 {
     let mut rows = writer_after(Vec::new(alloc));
@@ -136,7 +136,7 @@ pub fn table_text(
     requires names { All (IsName setup.now.schema) query.now.dimensions }
     requires few { All (λ cell. cell.count ≤ MOST_PERSONS) cells.now }
     ensures { IfOk result (λ text. text.items
-        ≡ text_of_cells setup.now.schema (pvalue_at setup.now.ptable) setup.now.threshold
+        ≡ text_of_cells setup.now.schema (pvalue_at setup.now.lines) setup.now.threshold
         query.now number cells.now) }
 {
     let dimensions = query.dimensions();

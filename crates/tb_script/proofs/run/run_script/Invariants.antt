@@ -1,14 +1,19 @@
-use Rattle.std.proofs.Common.{◌≤◌, take}
+use Rattle.std.proofs.Common.{◌≡◌, ◌≤◌, [], length, take}
+use Rattle.std.specs.Prelude.{All}
 use Rattle.tb_model.specs.Schemas.{shape_of}
-use Rattle.tb_script.specs.Setups.{setup_value}
-use Rattle.tb_script.specs.States.{StateFits}
-use Rattle.tb_script.proofs.OutputLemmas.{AreTaken}
+use Rattle.tb_script.specs.Runs.{IsAnalystOf, IsOwnerOf}
+use Rattle.tb_script.specs.Scripts.{lanes_of}
+use Rattle.tb_session.specs.Parties.{state_at}
+use Rattle.tb_script.proofs.Running.{AreTaken}
 use Rattle.tb_script.proofs.run.run_script.Given as goal
 
 -- the replies to the lines so far were taken, and cost no more than their price
 abbrev pub invariant-loop-i : goal.invariant-loop-i
 invariant-loop-i g l = record {
-  count : g.O.Sink.faults l.initial.out ≤ g.O.Sink.faults l.out;
-  fit : StateFits (shape_of l.setup.schema) l.state;
-  taken : AreTaken (setup_value l.setup) l.initial.state.desk.base (g.O.Sink.taken l.initial.out) (g.O.Sink.taken l.out) l.initial.steps l.steps (take l.i l.script.lines) l.state;
+  count : g.K.Sink.faults l.initial.sink ≤ g.K.Sink.faults l.sink;
+  many : length l.parties.items ≡ length (lanes_of l.script.lines);
+  analysts : All (IsAnalystOf g.B.Named.name (shape_of l.setup.schema)) l.parties.items;
+  own : IsOwnerOf g.B.Named.name (shape_of l.setup.schema) l.own;
+  taken : AreTaken l.setup l.fn.custodian.writer.start.base (state_at l.fn.custodian.writer [])
+      (g.K.Sink.taken l.initial.sink) (g.K.Sink.taken l.sink) l.initial.steps l.steps (take l.i l.script.lines) l.own;
 }

@@ -1,4 +1,4 @@
-use Rattle.std.proofs.Common.{◌≡◌, ◌∙◌, ◌<◌, ◌≤◌, ap, sym, arith}
+use Rattle.std.proofs.Common.{◌∙◌, ◌<◌, ◌≤◌, ap, sym, arith}
 use Rattle.tb_model.specs.Schemas.{category_count}
 use Rattle.tb_text.specs.Lines.{before_another}
 use Rattle.tb_text.proofs.Dimensions.{field_at, last_field}

@@ -7,6 +7,6 @@ use Rattle.tb_text.proofs.records.text_by_records.Given as goal
 abbrev pub invariant-loop-i : goal.invariant-loop-i
 invariant-loop-i l = record {
   between : IsBetween l.rows;
-  text : text_so_far l.rows ++ lines_under (end_of (pvalue_at l.setup.ptable) l.setup.threshold) [] (drop l.i (entry_fields l.setup.schema l.query l.of) ∷ []) (drop l.i l.cells)
-      ≡ text_so_far l.initial.rows ++ lines_under (end_of (pvalue_at l.setup.ptable) l.setup.threshold) [] (entry_fields l.setup.schema l.query l.of ∷ []) l.cells;
+  text : text_so_far l.rows ++ lines_under (end_of (pvalue_at l.setup.lines) l.setup.threshold) [] (drop l.i (entry_fields l.setup.schema l.query l.of) ∷ []) (drop l.i l.cells)
+      ≡ text_so_far l.initial.rows ++ lines_under (end_of (pvalue_at l.setup.lines) l.setup.threshold) [] (entry_fields l.setup.schema l.query l.of ∷ []) l.cells;
 }

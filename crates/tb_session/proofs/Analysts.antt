@@ -1,0 +1,28 @@
+-- An analyst's reply, over the batches that were seen.
+use Rattle.std.proofs.Common.{◌≡◌, subst, refl, ℕ, Bool, true, false, List}
+use Rattle.std.specs.Prelude.{if◌then◌else◌}
+use Rattle.tb_model.specs.Releases.{ReleaseValue}
+use Rattle.tb_model.specs.Setups.{SetupValue}
+use Rattle.tb_release.specs.Batches.{BatchValue}
+use Rattle.tb_release.specs.Chains.{release_after}
+use Rattle.tb_session.specs.Lines.{is_passed_over}
+use Rattle.tb_session.specs.Outputs.{ReplyValue}
+use Rattle.tb_session.specs.Replies.{IsAnswer, IsReply, IsReplyTo, StateValue}
+use Rattle.tb_session.specs.declared.asks.Asks.TheVariants as asks
+use Rattle.tb_session.specs.declared.party.Role.TheVariants as role
+
+-- an analyst's reply changes nothing, and is one wherever the same batches were seen
+over_any : (over : Bool) (setup : SetupValue) (base : ReleaseValue) (at after state : StateValue) (line : List ℕ) (reply : ReplyValue) → at.chain ≡ state.chain
+    → IsReplyTo (if over then asks.Nothing else asks.Table) setup (release_after base at.chain) at line reply after
+    → (after ≡ at) × IsReplyTo (if over then asks.Nothing else asks.Table) setup (release_after base state.chain) state line reply state
+over_any true setup base at after state line reply same (is, goes) = (goes, (is, refl))
+over_any false setup base at after state line reply same (is, goes) =
+    (goes, (subst (λ (chain : List BatchValue). IsAnswer setup (release_after base chain) line reply) same is, refl))
+
+-- so it changes nothing
+pub analyst_stays : (setup : SetupValue) (base : ReleaseValue) (at after : StateValue) (line : List ℕ) (reply : ReplyValue) → IsReply role.Analyst setup base at line reply after → after ≡ at
+analyst_stays setup base at after line reply is = (over_any (is_passed_over line) setup base at after at line reply refl is).0
+
+-- and is one wherever they were
+pub analyst_anywhere : (setup : SetupValue) (base : ReleaseValue) (at after state : StateValue) (line : List ℕ) (reply : ReplyValue) → at.chain ≡ state.chain → IsReply role.Analyst setup base at line reply after → IsReply role.Analyst setup base state line reply state
+analyst_anywhere setup base at after state line reply same is = (over_any (is_passed_over line) setup base at after state line reply same is).1

@@ -1,0 +1,96 @@
+-- Where a line leads, by what it asks for.
+use Rattle.std.proofs.Common.{◌≡◌, ◌∙◌, length, refl, sym, ap, subst, ℕ, ◌+◌, ◌≤◌, Bool, true, false, List, [], arith}
+use Rattle.std.specs.Prelude.{if◌then◌else◌}
+use Rattle.tb_board.specs.Custodians.{CustodianValue, IsWhole}
+use Rattle.tb_board.specs.Holders.{HolderValue, release_seen}
+use Rattle.tb_board.specs.Starts.{StartValue}
+use Rattle.tb_core.specs.Turns.{AreStats}
+use Rattle.tb_core.specs.declared.desk.Stats.{Stats}
+use Rattle.tb_front.specs.Holders.{IsLater}
+use Rattle.tb_front.proofs.Prefixes.{prefix_self}
+use Rattle.tb_model.specs.Releases.{ReleaseValue}
+use Rattle.tb_model.specs.Setups.{SetupValue}
+use Rattle.tb_release.specs.Chains.{release_after}
+use Rattle.tb_release.specs.declared.edits.Edit.{Edit}
+use Rattle.tb_session.specs.Asks.{asks_of}
+use Rattle.tb_session.specs.declared.asks.Asks.{Asks}
+use Rattle.tb_session.specs.declared.asks.Asks.TheVariants as asks
+use Rattle.tb_session.specs.declared.party.Role.{Role}
+use Rattle.tb_session.specs.declared.party.Role.TheVariants as role
+use Rattle.tb_session.specs.Lines.{is_passed_over}
+use Rattle.tb_session.specs.Parties.{Answers, Leads, PublishLeads, state_at}
+use Rattle.tb_session.specs.Replies.{IsAnswer, IsCapacityReply, IsEditReply, IsReplyTo, IsStatsReply, StateValue, free_reply}
+use Rattle.tb_session.specs.ReplyLines.{cleared_line}
+use Rattle.tb_session.specs.Transcripts.{Sees}
+
+by_asks : (who : Role) (setup : SetupValue) (base : ReleaseValue) (old at new : StateValue) (line text : List ℕ) (p q : ℕ) → Sees who old at → (what : Asks) (price : ℕ) → asks_of who line ≡ what
+    → IsReplyTo what setup (release_after base at.chain) at line (record { text = text; price = price }) new → q ≤ p + price → Leads who setup base old line text p q new
+by_asks who setup base old at new line text p q sees what price is reply cost = record {
+  price = price;
+  step = (at, sees, subst (λ (w : Asks). IsReplyTo w setup (release_after base at.chain) at line (record { text = text; price = price }) new) (sym is) reply);
+  cost = cost;
+}
+
+-- ---- the custodian's lines
+-- the desk's numbers tell how many batches the custodian wrote
+pub own_stats : (old new : CustodianValue) (stats : Stats) → IsWhole old → new ≡ old → AreStats (length new.pass.list) stats → AreStats (length old.writer.list) stats
+own_stats old new stats whole is are =
+    subst (λ (n : ℕ). AreStats n stats) (ap (λ (c : CustodianValue). length c.pass.list) is ∙ ap (λ (h : HolderValue). length h.list) whole.same) are
+
+module _ (setup : SetupValue) (old new : CustodianValue) (held after : List Edit) (line text : List ℕ) (p q : ℕ) where
+  abbrev Own : Type 0
+  Own = Leads role.Custodian setup old.writer.start.base (state_at old.writer held) line text p q (state_at new.writer after)
+
+  by_own : (what : Asks) (price : ℕ) → asks_of role.Custodian line ≡ what
+      → IsReplyTo what setup (release_seen old.writer) (state_at old.writer held) line (record { text = text; price = price }) (state_at new.writer after) → q ≤ p + price → Own
+  by_own what price is reply cost = by_asks role.Custodian setup old.writer.start.base (state_at old.writer held) (state_at old.writer held) (state_at new.writer after) line text p q refl what price is reply cost
+
+  same_state : new ≡ old → after ≡ held → state_at new.writer after ≡ state_at old.writer held
+  same_state is same =
+      let chain : new.writer.list ≡ old.writer.list = ap (λ (c : CustodianValue). c.writer.list) is in λ i. record { chain = chain i; held = same i }
+
+  pub leads_to_table : asks_of role.Custodian line ≡ asks.Table → new ≡ old → after ≡ held → Answers setup (release_seen old.writer) line text p q → Own
+  leads_to_table is same also (price, answer, cost) = by_own asks.Table price is (answer, same_state same also) cost
+
+  pub leads_to_edit : asks_of role.Custodian line ≡ asks.Edit → new ≡ old → IsEditReply setup line held text after → q ≡ p → Own
+  leads_to_edit is same reply free = by_own asks.Edit 0 is (refl, ap (λ (c : CustodianValue). c.writer.list) same, reply) (omega (arith, free))
+
+  pub leads_to_publish : asks_of role.Custodian line ≡ asks.Publish → PublishLeads old held text new after → q ≡ p → Own
+  leads_to_publish is leads free = by_own asks.Publish 0 is (refl, leads.is_reply) (omega (arith, free))
+
+  pub leads_to_stats : asks_of role.Custodian line ≡ asks.Stats → new ≡ old → after ≡ held → IsStatsReply old.writer.list text → q ≡ p → Own
+  leads_to_stats is same also reply free = by_own asks.Stats 0 is (refl, reply, same_state same also) (omega (arith, free))
+
+  pub leads_to_capacity : (capacity : ℕ) → asks_of role.Custodian line ≡ asks.Cache capacity → new ≡ old → after ≡ held → IsCapacityReply capacity text → q ≡ p → Own
+  leads_to_capacity capacity is same also reply free = by_own (asks.Cache capacity) 0 is (refl, reply, same_state same also) (omega (arith, free))
+
+  -- the cubes are forgotten
+  pub leads_to_clear : asks_of role.Custodian line ≡ asks.Clear → new ≡ old → after ≡ held → text ≡ cleared_line → q ≡ p → Own
+  leads_to_clear is same also is_text free = by_own asks.Clear 0 is (ap (λ (t : List ℕ). free_reply t) is_text, same_state same also) (omega (arith, free))
+
+  -- a line without a reply
+  pub leads_to_nothing : asks_of role.Custodian line ≡ asks.Nothing → new ≡ old → after ≡ held → text ≡ [] → q ≡ p → Own
+  leads_to_nothing is same also is_text free = by_own asks.Nothing 0 is (ap (λ (t : List ℕ). free_reply t) is_text, same_state same also) (omega (arith, free))
+
+-- ---- an analyst's lines
+module _ (setup : SetupValue) (old new : HolderValue) (line text : List ℕ) (p q : ℕ) where
+  abbrev Other : Type 0
+  Other = Leads role.Analyst setup old.start.base (state_at old []) line text p q (state_at new [])
+
+  by_role : (over : Bool) → is_passed_over line ≡ over → asks_of role.Analyst line ≡ (if over then asks.Nothing else asks.Table)
+  by_role over is = ap (λ b. if b then asks.Nothing else asks.Table) is
+
+  -- a line without a reply
+  pub analyst_nothing : is_passed_over line ≡ true → new ≡ old → text ≡ [] → q ≡ p → Other
+  analyst_nothing over same is_text free =
+      let is : asks_of role.Analyst line ≡ asks.Nothing = by_role true over in
+      let stays : state_at new [] ≡ state_at old [] = ap (λ (h : HolderValue). state_at h []) same in
+      by_asks role.Analyst setup old.start.base (state_at old []) (state_at old []) (state_at new []) line text p q (prefix_self old.list, refl) asks.Nothing 0 is (ap (λ (t : List ℕ). free_reply t) is_text, stays) (omega (arith, free))
+
+  -- a query
+  pub analyst_query : is_passed_over line ≡ false → IsLater old new → Answers setup (release_seen new) line text p q → Other
+  analyst_query over later (price, answer, cost) =
+      let is : asks_of role.Analyst line ≡ asks.Table = by_role false over in
+      let own : IsAnswer setup (release_after old.start.base new.list) line (record { text = text; price = price }) =
+      subst (λ (s : StartValue). IsAnswer setup (release_after s.base new.list) line (record { text = text; price = price })) later.base answer in
+      by_asks role.Analyst setup old.start.base (state_at old []) (state_at new []) (state_at new []) line text p q (later.begins, refl) asks.Table price is (own, refl) cost

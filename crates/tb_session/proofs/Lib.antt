@@ -1,0 +1,16 @@
+pub mod Transcribing
+pub mod SomeReplies
+pub mod Analysts
+mod Texts
+mod Pieces
+mod Cubed
+mod Counts
+mod QueryAnswers
+mod Revising
+mod Leading
+mod Numbers
+mod Publishing
+mod Cutting
+mod Ends
+mod SoFar
+mod LegalParties

@@ -1,0 +1,15 @@
+-- The cells of a query's table as the program counts them.
+use Rattle.std.specs.Prelude.{◌≡◌}
+use Rattle.tb_model.specs.Places.{cells_of}
+use Rattle.tb_model.specs.Queries.{QueryValue}
+use Rattle.tb_model.specs.Releases.{ReleaseValue}
+use Rattle.tb_model.specs.Schemas.{SchemaValue}
+use Rattle.tb_plan.specs.Plans.{PlanValue, plan_of}
+use Rattle.tb_session.specs.declared.count.Counted.{Counted}
+
+-- they are counted over this release: those of the definitions, for any schema and query of which
+-- this is the plan
+pub record IsCounted (plan : PlanValue) (release : ReleaseValue) (counted : Counted) : Type 0 where
+  pub number : counted.number ≡ release.number
+  pub cells : (schema : SchemaValue) (query : QueryValue) → plan ≡ plan_of schema query
+      → counted.cells.items ≡ cells_of schema query release.records

@@ -1,0 +1,13 @@
+pub mod Lines
+pub mod Asks
+pub mod Outputs
+pub mod ReplyLines
+pub mod Replies
+pub mod Transcripts
+pub mod Laws
+pub mod ReplyTexts
+pub mod Counting
+pub mod Parties
+pub mod Streams
+pub mod Sessions
+pub mod PartySessions

@@ -1,0 +1,171 @@
+-- The replies to a party's lines. Nothing here speaks of the program.
+use Rattle.std.specs.Prelude.{◌≡◌, ◌⊎◌, ◌<◌, ◌+◌, ◌++◌, ◌∷◌, ℕ, List, [], length}
+use Rattle.std.specs.Prelude.{Some, if◌then◌else◌, is_none}
+use Rattle.tb_model.specs.Releases.{ReleaseValue}
+use Rattle.tb_model.specs.Setups.{SetupValue}
+use Rattle.tb_model.specs.Queries.{QueryValue}
+use Rattle.tb_model.specs.Texts.{table_text}
+use Rattle.tb_core.specs.Turns.{AreStats}
+use Rattle.tb_core.specs.Takes.{cube_price}
+use Rattle.tb_core.specs.declared.desk.Stats.{Stats}
+use Rattle.tb_plan.specs.Plans.{PlanValue, cube_cells_of, plan_of}
+use Rattle.tb_query.specs.Faults as queries
+use Rattle.tb_query.specs.FaultNames as query_names
+use Rattle.tb_query.specs.declared.fault.QueryFault.{QueryFault}
+use Rattle.tb_revise.specs.Faults as edits
+use Rattle.tb_revise.specs.FaultNames as edit_names
+use Rattle.tb_revise.specs.declared.fault.EditTextFault.{EditTextFault}
+use Rattle.tb_rows.specs.FaultNames.{FaultNameValue}
+use Rattle.tb_release.specs.Batches.{BatchValue, CanFollow, batch_refusal, changes_of}
+use Rattle.tb_release.specs.Chains.{release_after}
+use Rattle.tb_release.specs.FaultNames as batch_names
+use Rattle.tb_release.specs.declared.edits.Edit.{Edit}
+use Rattle.tb_release.specs.declared.fault.EditFaultKind.{EditFaultKind}
+use Rattle.tb_release.specs.declared.limits.TheConstants.{MOST_EDITS}
+use Rattle.tb_session.specs.Asks.{asks_of}
+use Rattle.tb_session.specs.Outputs.{ReplyValue}
+use Rattle.tb_session.specs.ReplyLines.{memory_line, refusal_line, held_line, edit_refusal_line}
+use Rattle.tb_revise.specs.FaultNames.{too_many}
+use Rattle.tb_session.specs.ReplyLines.{published_line, batch_refusal_line}
+use Rattle.tb_session.specs.ReplyLines.{stats_line, cleared_line, capacity_line}
+use Rattle.tb_session.specs.declared.asks.Asks.{Asks}
+use Rattle.tb_session.specs.declared.asks.Asks.TheVariants as asks
+use Rattle.tb_session.specs.declared.party.Role.{Role}
+
+-- where a party stands: the batches that it has seen, and the edits that it holds, which are the
+-- custodian's alone
+pub record StateValue : Type 0 where
+  pub chain : List BatchValue
+  pub held : List Edit
+
+-- how many records the table of a plan may cost: the release's; or, where it can be counted by a
+-- cube, as many changes as led to the release, if these are more
+abbrev pub plan_price : PlanValue → ReleaseValue → ℕ
+plan_price plan release =
+    if is_none (cube_cells_of plan) then length release.records else cube_price release
+
+-- how many the table of a query may
+abbrev pub table_price : SetupValue → ReleaseValue → QueryValue → ℕ
+table_price setup release query = plan_price (plan_of setup.schema query) release
+
+-- a query's table over a release
+abbrev pub table_reply : SetupValue → ReleaseValue → QueryValue → ReplyValue
+table_reply setup release query =
+    record { text = table_text setup release query; price = table_price setup release query }
+
+-- a reply that costs nothing
+abbrev pub free_reply : List ℕ → ReplyValue
+free_reply text = record { text = text; price = 0 }
+
+-- the reply to a line that reads as a query: its table, or that memory was refused, and then the
+-- release's records may have been lent
+abbrev pub IsTable : SetupValue → ReleaseValue → List ℕ → ReplyValue → Type 0
+IsTable setup release line reply =
+    (query : QueryValue)
+    × queries.Reads setup.schema line query
+    × ((reply ≡ table_reply setup release query)
+    ⊎ (reply ≡ record (table_reply setup release query) { text = memory_line }))
+
+-- the reply to a line with a fault
+abbrev pub IsRefusal : SetupValue → List ℕ → List ℕ → Type 0
+IsRefusal setup line text =
+    (fault : QueryFault) × (name : FaultNameValue)
+    × queries.IsRefused setup.schema line fault × (query_names.fault_name fault ≡ Some name)
+    × (text ≡ refusal_line name (query_names.fault_position fault))
+
+-- a reply to a query's line over a release: its table, the line of its first fault, or that memory
+-- was refused
+abbrev pub IsAnswer : SetupValue → ReleaseValue → List ℕ → ReplyValue → Type 0
+IsAnswer setup release line reply =
+    IsTable setup release line reply
+    ⊎ (reply.price ≡ 0) × (IsRefusal setup line reply.text ⊎ (reply.text ≡ memory_line))
+
+-- an edit is held, as the last
+abbrev pub IsHeld : SetupValue → List ℕ → List Edit → List ℕ → List Edit → Type 0
+IsHeld setup line held text after =
+    (edit : Edit)
+    × edits.Reads setup.schema line edit × (length held < MOST_EDITS)
+    × (text ≡ held_line (length held + 1)) × (after ≡ held ++ edit ∷ [])
+
+-- an edit's line is refused by its first fault
+abbrev pub IsFaulty : SetupValue → List ℕ → List ℕ → Type 0
+IsFaulty setup line text =
+    (fault : EditTextFault) × (name : FaultNameValue)
+    × edits.IsRefused setup.schema line fault × (edit_names.fault_name fault ≡ Some name)
+    × (text ≡ edit_refusal_line name)
+
+-- an edit is refused since no more can be held
+abbrev pub IsOneTooMany : SetupValue → List ℕ → List Edit → List ℕ → Type 0
+IsOneTooMany setup line held text =
+    (edit : Edit)
+    × edits.Reads setup.schema line edit × (length held ≡ MOST_EDITS)
+    × (text ≡ edit_refusal_line too_many)
+
+-- the reply to an edit's line, and the edits that are held after it: those from before, but where
+-- this one is held too
+abbrev pub IsEditReply : SetupValue → List ℕ → List Edit → List ℕ → List Edit → Type 0
+IsEditReply setup line held text after =
+    IsHeld setup line held text after
+    ⊎ (after ≡ held)
+    × (IsFaulty setup line text ⊎ (IsOneTooMany setup line held text ⊎ (text ≡ memory_line)))
+
+-- the batch of edits on a release
+abbrev pub batch_of : ReleaseValue → List Edit → BatchValue
+batch_of release list = record { changes = changes_of release list }
+
+-- `publish` where the held edits can follow the release: their batch is the chain's last
+abbrev pub IsPublished : ReleaseValue → StateValue → List ℕ → StateValue → Type 0
+IsPublished release state text next =
+    CanFollow release state.held
+    × (text ≡ published_line (release.number + 1))
+    × (next ≡ record { chain = state.chain ++ batch_of release state.held ∷ []; held = [] })
+
+-- `publish` where they can't: the chain stays
+abbrev pub IsBatchRefusal : ReleaseValue → StateValue → List ℕ → StateValue → Type 0
+IsBatchRefusal release state text next =
+    (kind : EditFaultKind) × (edit : ℕ)
+    × (batch_refusal release state.held ≡ Some (kind, edit))
+    × (text ≡ batch_refusal_line edit (batch_names.fault_name kind))
+    × (next ≡ record { chain = state.chain; held = [] })
+
+-- the reply to `publish`: no edit is held after it, but where memory was refused
+abbrev pub IsPublishReply : ReleaseValue → StateValue → List ℕ → StateValue → Type 0
+IsPublishReply release state text next =
+    IsPublished release state text next
+    ⊎ (IsBatchRefusal release state text next ⊎ (text ≡ memory_line) × (next ≡ state))
+
+-- the reply to `stats`
+abbrev pub IsStatsReply : List BatchValue → List ℕ → Type 0
+IsStatsReply chain text =
+    (stats : Stats) × AreStats (length chain) stats × (text ≡ stats_line stats)
+
+-- the reply to `cache K`: the capacity is K from then on, but where memory was refused
+abbrev pub IsCapacityReply : ℕ → List ℕ → Type 0
+IsCapacityReply capacity text = (text ≡ capacity_line capacity) ⊎ (text ≡ memory_line)
+
+-- the reply to a line that asks for this, over the current release; only an edit and `publish`
+-- change what comes after
+abbrev pub IsReplyTo : Asks → SetupValue → ReleaseValue → StateValue → List ℕ → ReplyValue
+    → StateValue → Type 0
+IsReplyTo asks.Nothing setup release state line reply next =
+    (reply ≡ free_reply []) × (next ≡ state)
+IsReplyTo asks.Table setup release state line reply next =
+    IsAnswer setup release line reply × (next ≡ state)
+IsReplyTo asks.Edit setup release state line reply next =
+    (reply.price ≡ 0) × (next.chain ≡ state.chain)
+    × IsEditReply setup line state.held reply.text next.held
+IsReplyTo asks.Publish setup release state line reply next =
+    (reply.price ≡ 0) × IsPublishReply release state reply.text next
+IsReplyTo asks.Stats setup release state line reply next =
+    (reply.price ≡ 0) × IsStatsReply state.chain reply.text × (next ≡ state)
+IsReplyTo asks.Clear setup release state line reply next =
+    (reply ≡ free_reply cleared_line) × (next ≡ state)
+IsReplyTo (asks.Cache capacity) setup release state line reply next =
+    (reply.price ≡ 0) × IsCapacityReply capacity reply.text × (next ≡ state)
+
+-- a reply to a party's line: at the batches and the held edits before it, and what comes after; an
+-- analyst's line changes neither
+abbrev pub IsReply : Role → SetupValue → ReleaseValue → StateValue → List ℕ → ReplyValue
+    → StateValue → Type 0
+IsReply who setup base state line reply next =
+    IsReplyTo (asks_of who line) setup (release_after base state.chain) state line reply next

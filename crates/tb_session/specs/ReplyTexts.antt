@@ -1,0 +1,20 @@
+-- The text of a reply as the program keeps it.
+use Rattle.std.specs.Prelude.{ℕ, List, []}
+use Rattle.tb_session.specs.ReplyLines.{memory_line, refusal_line, held_line, edit_refusal_line}
+use Rattle.tb_session.specs.ReplyLines.{published_line, batch_refusal_line, stats_line}
+use Rattle.tb_session.specs.ReplyLines.{cleared_line, capacity_line}
+use Rattle.tb_session.specs.declared.reply.Reply.{Reply}
+use Rattle.tb_session.specs.declared.reply.Reply.TheVariants as replies
+
+abbrev pub reply_text : Reply → List ℕ
+reply_text replies.Nothing = []
+reply_text (replies.Table text) = text
+reply_text (replies.Refused fault position) = refusal_line fault position
+reply_text (replies.Held count) = held_line count
+reply_text (replies.EditRefused fault) = edit_refusal_line fault
+reply_text (replies.Published number) = published_line number
+reply_text (replies.BatchRefused edit fault) = batch_refusal_line edit fault
+reply_text (replies.Stats stats) = stats_line stats
+reply_text replies.Cleared = cleared_line
+reply_text (replies.Capacity capacity) = capacity_line capacity
+reply_text replies.Memory = memory_line

@@ -1,0 +1,250 @@
+// A query's table over the release that a pass takes.
+
+ghost use Rattle.std.specs.Prelude.{◌≡◌, ◌≢◌, ◌+◌, ◌≤◌, IfOk, List, None, length};
+ghost use Rattle.std.specs.Arc.{arc_value};
+ghost use Rattle.tb_base.specs.Records.{AllFit};
+ghost use Rattle.tb_board.specs.Holders.{release_seen, IsChainSeen};
+ghost use Rattle.tb_core.specs.Desks.{HasCube};
+ghost use Rattle.tb_core.specs.Got.{cube_got};
+ghost use Rattle.tb_core.specs.Takes.{cube_price, release_in, IsTaken};
+ghost use Rattle.tb_cube.specs.Cubes.{cube_over};
+ghost use Rattle.tb_core.specs.Desks.{IsCubeAt};
+ghost use Rattle.tb_front.specs.Holders.{IsLater};
+ghost use Rattle.tb_model.specs.Places.{cells_of};
+ghost use Rattle.tb_model.specs.Queries.{QueryValue};
+ghost use Rattle.tb_model.specs.Releases.{ReleaseValue};
+ghost use Rattle.tb_model.specs.Schemas.{SchemaValue, shape_of};
+ghost use Rattle.tb_model.specs.Texts.{table_text as text_of_table};
+ghost use Rattle.tb_plan.specs.Plans.{cube_cells_of, plan_of, vars_of};
+ghost use Rattle.tb_query.specs.Over.{IsOver};
+ghost use Rattle.tb_release.specs.Batches.{BatchValue};
+ghost use Rattle.tb_session.specs.Counting.{IsCounted};
+ghost use Rattle.tb_session.specs.Parties.{IsPassOf, SawTurn};
+ghost use Rattle.tb_session.specs.Replies.{plan_price, table_price};
+
+use std::alloc::Global;
+use std::sync::ledger::Ledger;
+use std::sync::{Arc, Wait};
+use std::thread::Threads;
+use tb_base::{Cell, Memory, Shape, Steps, VarSet};
+use tb_board::{Board, Named, Step};
+use tb_build::{Gate, build};
+use tb_core::{CubeFor, Offer, Taken, lead_on};
+use tb_cube::Cube;
+use tb_front::Pass;
+use tb_plan::Plan;
+use tb_query::Query;
+use tb_release::Release;
+use tb_rollup::roll_into;
+use tb_scan::{empty_cells, put_all, put_totals};
+use tb_text::{Setup, TableText};
+
+// The cells of a plan's table over a release, rolled up from the cube of the plan's variables.
+fn roll_up(alloc: Global, cube: &Cube, plan: &Plan, release: &Release) -> Result<Vec<Cell>, Memory>
+    requires cube { cube.now ≡ cube_over plan.now.shape (vars_of plan.now) release.now.records }
+    requires fit { AllFit plan.now.shape release.now.records }
+    ensures cells { (schema : SchemaValue) (query : QueryValue) → plan.now ≡ plan_of schema query
+        → IfOk result (λ cells. cells.items ≡ cells_of schema query release.now.records) }
+{
+    release.soundness();
+    let mut cells = empty_cells(alloc, plan)?;
+    roll_into(cube, plan, &mut cells);
+    Ok(cells)
+}
+
+// The same cells, counted from the records one by one. They are lent once.
+fn scan<L: Ledger>(
+    alloc: Global,
+    plan: &Plan,
+    release: &Release,
+    steps: &mut Steps<L>,
+) -> Result<Vec<Cell>, Memory>
+    requires fit { AllFit plan.now.shape release.now.records }
+    ensures price { steps.new ≤ steps.old + length release.now.records }
+    ensures cells { (schema : SchemaValue) (query : QueryValue) → plan.now ≡ plan_of schema query
+        → IfOk result (λ cells. cells.items ≡ cells_of schema query release.now.records) }
+{
+    release.soundness();
+    let mut cells = empty_cells(alloc, plan)?;
+    let lent = release.lend(steps);
+    for i in 0..lent.pieces() {
+        put_all(plan, lent.piece(i), &mut cells);
+    }
+    put_totals(plan, &mut cells);
+    Ok(cells)
+}
+
+// The cube over some variables of the release that was taken: what is made of the one that was
+// found, or one that is built.
+fn cube_of<R: Threads + Sync, G: Gate, L: Ledger>(
+    rt: &R,
+    alloc: Global,
+    shape: &Shape,
+    vars: &VarSet,
+    taken: &Taken,
+    gate: &mut G,
+    steps: &mut Steps<L>,
+) -> Result<CubeFor, Memory>
+    requires has { HasCube shape.now vars.now }
+    requires taken { (base : ReleaseValue) × (chain : List BatchValue)
+        × IsTaken shape.now base chain vars.now taken.now }
+    ensures price { steps.new ≤ steps.old + cube_price (release_in taken.now) }
+    ensures cube { IfOk result (λ got. cube_got got
+        ≡ cube_over shape.now vars.now (release_in taken.now).records) }
+{
+    if let Some(hit) = &taken.hit {
+        return lead_on(alloc, taken, hit, steps);
+    }
+    let cube = build(rt, alloc, shape, &taken.release, vars, gate, steps)?;
+    Ok(CubeFor::Made(Arc::new(alloc, cube)?))
+}
+
+// Offers a cube to the board. Where the memory for it is refused, it isn't kept.
+fn offer<B: Named>(
+    rt: &impl Wait,
+    board: &Board<B>,
+    pass: &mut Pass<Step>,
+    vars: &VarSet,
+    number: u32,
+    cube: Arc<Cube>,
+)
+    requires name { pass.old.name ≡ B.name }
+    requires cube { IsCubeAt pass.old.start.shape pass.old.start.base pass.old.list vars.now number
+        (arc_value cube) }
+    ensures { pass.new ≡ pass.old }
+{
+    if let Ok(vars) = vars.copy() {
+        board.offer(rt, pass, Offer { vars, number, cube });
+    }
+}
+
+// The cells of a table, and the number of the release over which they were counted.
+#[derive(Drop)]
+struct Counted {
+    number: u32,
+    cells: Vec<Cell>,
+}
+
+// The cells of a plan's table over the release that the pass takes, from a cube that the board
+// keeps, or from one that is made and offered to it.
+fn count_by_cube<B: Named, R: Threads + Wait + Sync, G: Gate, L: Ledger>(
+    rt: &R,
+    alloc: Global,
+    board: &Board<B>,
+    shape: &Shape,
+    plan: &Plan,
+    pass: &mut Pass<Step>,
+    gate: &mut G,
+    steps: &mut Steps<L>,
+) -> Result<Counted, Memory>
+    requires own { IsPassOf B.name shape.now pass.old }
+    requires shape { shape.now ≡ plan.now.shape }
+    requires cube { cube_cells_of plan.now ≢ None }
+    ensures later { IsLater pass.old pass.new }
+    ensures chain { IsChainSeen pass.new }
+    ensures price { steps.new ≤ steps.old + cube_price (release_seen pass.new) }
+    ensures counted { IfOk result (IsCounted plan.now (release_seen pass.new)) }
+{
+    let taken = board.take(rt, pass, Some(plan.vars()))?;
+    let got = cube_of(rt, alloc, shape, plan.vars(), &taken, gate, steps)?;
+    let cells = roll_up(alloc, got.cube(), plan, &taken.release)?;
+    let number = taken.release.number();
+    match got {
+        CubeFor::Kept(_cube) => {}
+        CubeFor::Made(cube) => offer(rt, board, pass, plan.vars(), number, cube),
+    }
+    Ok(Counted { number, cells })
+}
+
+// The same where the cube would have too many cells, counted from the records.
+fn count_by_records<B: Named, R: Wait, L: Ledger>(
+    rt: &R,
+    alloc: Global,
+    board: &Board<B>,
+    plan: &Plan,
+    pass: &mut Pass<Step>,
+    steps: &mut Steps<L>,
+) -> Result<Counted, Memory>
+    requires own { IsPassOf B.name plan.now.shape pass.old }
+    ensures later { IsLater pass.old pass.new }
+    ensures chain { IsChainSeen pass.new }
+    ensures price { steps.new ≤ steps.old + length (release_seen pass.new).records }
+    ensures counted { IfOk result (IsCounted plan.now (release_seen pass.new)) }
+{
+    let taken = board.take(rt, pass, None)?;
+    let cells = scan(alloc, plan, &taken.release, steps)?;
+    Ok(Counted {
+        number: taken.release.number(),
+        cells,
+    })
+}
+
+// The cells of a plan's table over the release that the pass takes.
+fn count<B: Named, R: Threads + Wait + Sync, G: Gate, L: Ledger>(
+    rt: &R,
+    alloc: Global,
+    board: &Board<B>,
+    shape: &Shape,
+    plan: &Plan,
+    pass: &mut Pass<Step>,
+    gate: &mut G,
+    steps: &mut Steps<L>,
+) -> Result<Counted, Memory>
+    requires own { IsPassOf B.name shape.now pass.old }
+    requires shape { shape.now ≡ plan.now.shape }
+    ensures later { IsLater pass.old pass.new }
+    ensures chain { IsChainSeen pass.new }
+    ensures price { steps.new ≤ steps.old + plan_price plan.now (release_seen pass.new) }
+    ensures counted { IfOk result (IsCounted plan.now (release_seen pass.new)) }
+{
+    if plan.cube_cells().is_some() {
+        count_by_cube(rt, alloc, board, shape, plan, pass, gate, steps)
+    } else {
+        count_by_records(rt, alloc, board, plan, pass, steps)
+    }
+}
+
+// The plan of a query.
+fn plan_for(alloc: Global, setup: &Setup, query: &Query) -> Result<Plan, Memory>
+    requires { IsOver setup.now.schema query.now }
+    ensures { IfOk result (λ plan. plan ≡ plan_of setup.now.schema query.now) }
+{
+    Plan::of(alloc, &setup.schema, query)
+}
+
+// The shape that all records fit.
+fn shape_in(setup: &Setup) -> &Shape
+    ensures { result.now ≡ shape_of setup.now.schema }
+{
+    setup.schema.shape()
+}
+
+/// A query's table over the release that the pass takes. It is rolled up from the cube
+/// of its variables: the one that the board keeps, advanced where it is of an earlier release, or a
+/// new one, for which the records are lent once; a cube that is made is offered to the board. Where
+/// a cube would have too many cells, the table is counted from the records, which are lent once. It
+/// takes memory for the plan, a cube that is made, the cells and the text.
+pub(crate) fn print_table<B: Named, R: Threads + Wait + Sync, G: Gate, L: Ledger>(
+    rt: &R,
+    alloc: Global,
+    setup: &Setup,
+    board: &Board<B>,
+    pass: &mut Pass<Step>,
+    query: &Query,
+    gate: &mut G,
+    steps: &mut Steps<L>,
+) -> Result<TableText, Memory>
+    requires over { IsOver setup.now.schema query.now }
+    requires own { IsPassOf B.name (shape_of setup.now.schema) pass.old }
+    ensures later { IsLater pass.old pass.new }
+    ensures seen { SawTurn pass.old pass.new }
+    ensures price { steps.new ≤ steps.old
+        + table_price setup.now (release_seen pass.new) query.now }
+    ensures text { IfOk result (λ text. text
+        ≡ text_of_table setup.now (release_seen pass.new) query.now) }
+{
+    let plan = plan_for(alloc, setup, query)?;
+    let shape = shape_in(setup);
+    let counted = count(rt, alloc, board, shape, &plan, pass, gate, steps)?;
+    TableText::of(alloc, setup, query, counted.number, &counted.cells)
+}

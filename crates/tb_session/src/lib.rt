@@ -1,0 +1,41 @@
+//! The lines of a party, answered over a board: one line, an analyst's query or what the custodian
+//! asks for; and a session, the lines that come from a source.
+//!
+//! It stands on `tb_board` (the desk behind its lock), `tb_build` (a cube that isn't kept),
+//! `tb_core` (one that is), `tb_query`, `tb_plan`, `tb_rollup` and `tb_scan` (a table's cells),
+//! `tb_revise` (the custodian's edits), `tb_text` (the table) and `tb_io` (where lines come from,
+//! and where replies go). Its contracts cite `specs/Asks` (what a line asks for), `Replies` (what
+//! the reply to it is), `Transcripts` (which replies are legal) and `Parties` (who asks, and what
+//! an answer says); `laws` cites `Laws`. Those of a session cite `Streams` (what a stream's bytes
+//! say), `Sessions` (what a session did) and `PartySessions` (whose session).
+//!
+//! Of the proofs, `Leading` leads from what a line asks for to where the party stands then,
+//! `Revising` does so for `publish` and `QueryAnswers` for a query; `Cubed`, `Counts` and `Pieces` say what
+//! a caller of counting owes, `Texts` how lines are put together; `Transcribing`, `Numbers` and
+//! `Publishing` prove the laws. For scripts, `SomeReplies` and `Analysts` have what a run of lines
+//! needs. The loop of a session stands over anything that answers lines: `Cutting` has lines that
+//! are cut off a stream, `Ends` those that end a session, `SoFar` the lines so far and each way to
+//! end after them, and `LegalParties` leads from such a loop to a party's legal replies.
+#![tactic(auto)]
+
+mod answerer;
+mod answering;
+mod asks;
+mod count;
+pub mod laws;
+mod line;
+mod line_by_line;
+mod party;
+mod query;
+mod quit;
+mod reply;
+mod revise;
+mod session_end;
+mod sessions;
+
+pub use answering::answer;
+pub use asks::Asks;
+pub use line::is_passed_over;
+pub use party::{Party, Role};
+pub use session_end::{MOST_LINES, SessionEnd};
+pub use sessions::session;

@@ -1,0 +1,153 @@
+// A reply, and how it is written.
+
+ghost use Rattle.std.specs.Prelude.{◌++◌, codes, decimal};
+ghost use Rattle.tb_io.specs.Taken.{IsWritten};
+ghost use Rattle.tb_session.specs.ReplyLines.{batch_refusal_line, refusal_line, stats_line};
+ghost use Rattle.tb_session.specs.ReplyTexts.{reply_text};
+
+use itoa::Buffer;
+use tb_base::print_number;
+use tb_core::Stats;
+use tb_io::{Sink, Wrote, write_all};
+use tb_rows::FaultName;
+use tb_text::TableText;
+
+/// The reply to a line.
+#[derive(Drop)]
+pub(crate) enum Reply {
+    /// There is none.
+    Nothing,
+    /// A query's table.
+    Table(TableText),
+    /// A query is refused by its first fault, at a position where it has one.
+    Refused(FaultName, Option<u32>),
+    /// So many edits are held, with this one.
+    Held(u32),
+    /// An edit is refused by its first fault.
+    EditRefused(FaultName),
+    /// The held edits led to the release of this number.
+    Published(u32),
+    /// The held edits are refused at the edit of this number.
+    BatchRefused(u32, FaultName),
+    /// The desk's numbers.
+    Stats(Stats),
+    /// The cubes are forgotten.
+    Cleared,
+    /// So many cubes may be kept.
+    Capacity(u32),
+    /// The memory for it is refused.
+    Memory,
+}
+
+// Writes a line of some text and a number.
+fn write_number<O: Sink>(out: &mut O, before: &'static [u8], number: u32) -> Wrote
+    ensures written { IsWritten result (O.faults out.old) (O.faults out.new) (O.taken out.old)
+        (O.taken out.new) (before.now ++ decimal number ++ codes "\n") }
+{
+    let mut digits = [0; 10];
+    let len = print_number(number, &mut digits);
+    write_all(out, &[before, &digits[..len], b"\n"])
+}
+
+// Writes a line of some text, and the number and the word of a fault.
+fn write_fault<O: Sink>(out: &mut O, before: &'static [u8], fault: &FaultName) -> Wrote
+    ensures written { IsWritten result (O.faults out.old) (O.faults out.new) (O.taken out.old)
+        (O.taken out.new)
+        (before.now ++ decimal fault.now.number ++ codes " " ++ fault.now.word ++ codes "\n") }
+{
+    let mut digits = [0; 10];
+    let len = print_number(u32::from(fault.number()), &mut digits);
+    let word = fault.word().as_bytes();
+    write_all(out, &[before, &digits[..len], b" ", word, b"\n"])
+}
+
+// Writes the line of a query that is refused.
+fn write_refusal<O: Sink>(out: &mut O, fault: &FaultName, position: Option<u32>) -> Wrote
+    ensures written { IsWritten result (O.faults out.old) (O.faults out.new) (O.taken out.old)
+        (O.taken out.new) (refusal_line fault.now position) }
+{
+    let Some(at) = position else {
+        return write_fault(out, b"refused ", fault);
+    };
+    let mut first = [0; 10];
+    let mut second = [0; 10];
+    let number_len = print_number(u32::from(fault.number()), &mut first);
+    let at_len = print_number(at, &mut second);
+    let number = &first[..number_len];
+    let word = fault.word().as_bytes();
+    let place = &second[..at_len];
+    write_all(out, &[b"refused ", number, b" ", word, b" ", place, b"\n"])
+}
+
+// Writes the line of a batch that is refused.
+fn write_batch_refusal<O: Sink>(out: &mut O, edit: u32, fault: &FaultName) -> Wrote
+    ensures written { IsWritten result (O.faults out.old) (O.faults out.new) (O.taken out.old)
+        (O.taken out.new) (batch_refusal_line edit fault.now) }
+{
+    let mut first = [0; 10];
+    let mut second = [0; 10];
+    let edit_len = print_number(edit, &mut first);
+    let number_len = print_number(u32::from(fault.number()), &mut second);
+    let place = &first[..edit_len];
+    let number = &second[..number_len];
+    let word = fault.word().as_bytes();
+    write_all(
+        out,
+        &[b"refused batch ", place, b" ", number, b" ", word, b"\n"],
+    )
+}
+
+// Writes the line of the desk's numbers.
+fn write_stats<O: Sink>(out: &mut O, stats: &Stats) -> Wrote
+    ensures written { IsWritten result (O.faults out.old) (O.faults out.new) (O.taken out.old)
+        (O.taken out.new) (stats_line stats.now) }
+{
+    let mut first = Buffer::new();
+    let mut second = Buffer::new();
+    let mut third = Buffer::new();
+    let mut fourth = Buffer::new();
+    let mut fifth = Buffer::new();
+    let release = first.format(stats.release).as_bytes();
+    let looks = second.format(stats.looks).as_bytes();
+    let hits = third.format(stats.hits).as_bytes();
+    let entries = fourth.format(stats.entries).as_bytes();
+    let capacity = fifth.format(stats.capacity).as_bytes();
+    write_all(
+        out,
+        &[
+            b"stats release ",
+            release,
+            b" looks ",
+            looks,
+            b" hits ",
+            hits,
+            b" entries ",
+            entries,
+            b" capacity ",
+            capacity,
+            b"\n",
+        ],
+    )
+}
+
+impl Reply {
+    /// Writes the reply's text, in one write. It takes no memory.
+    pub(crate) fn write<O: Sink>(&self, out: &mut O) -> Wrote
+        ensures { IsWritten result (O.faults out.old) (O.faults out.new) (O.taken out.old)
+            (O.taken out.new) (reply_text self.now) }
+    {
+        match self {
+            Reply::Nothing => Wrote::All,
+            Reply::Table(text) => text.write(out),
+            Reply::Refused(fault, position) => write_refusal(out, fault, *position),
+            Reply::Held(count) => write_number(out, b"held ", *count),
+            Reply::EditRefused(fault) => write_fault(out, b"refused edit ", fault),
+            Reply::Published(number) => write_number(out, b"published ", *number),
+            Reply::BatchRefused(edit, fault) => write_batch_refusal(out, *edit, fault),
+            Reply::Stats(stats) => write_stats(out, stats),
+            Reply::Cleared => out.write(b"cleared\n"),
+            Reply::Capacity(capacity) => write_number(out, b"cache ", *capacity),
+            Reply::Memory => out.write(b"memory\n"),
+        }
+    }
+}
