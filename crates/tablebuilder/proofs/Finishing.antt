@@ -1,29 +1,29 @@
 -- What a call keeps, from how the run ended and what was taken of its text.
-use Rattle.std.proofs.Common.{◌≡◌, ◌≢◌, ◌⊎◌, ◌∙◌, ◌+◌, ◌≤◌, sym, ap, subst, refl, ℕ, List, ◌++◌, take, drop, Option, Some, None, Ok, Err, inl, inr}
+use Rattle.std.proofs.Common.{◌≡◌, ◌≢◌, ◌⊎◌, ◌∙◌, sym, ap, subst, refl, ℕ, List, ◌++◌, take, drop, Option, Some, None, Ok, Err, inl, inr}
 use Rattle.std.specs.Prelude.{IfSome}
 use Rattle.std.proofs.lemmas.List.{take-append-drop}
 use Rattle.tb_base.specs.declared.status.Status.{Status}
 use Rattle.tb_base.specs.declared.status.Status.TheVariants as status
-use Rattle.tb_io.specs.Taken.{TookPart}
 use Rattle.tablebuilder.specs.declared.endings.Input.{Input}
 use Rattle.tablebuilder.specs.declared.endings.Input.TheVariants as input
 use Rattle.tablebuilder.specs.declared.endings.End.{End}
 use Rattle.tablebuilder.specs.declared.endings.End.TheVariants as end
+use Rattle.tablebuilder.specs.declared.command.Command.{Command}
+use Rattle.tablebuilder.specs.declared.command.Command.TheVariants as command
+use Rattle.tablebuilder.specs.declared.command.Inputs.{Inputs}
 use Rattle.tablebuilder.specs.Asking.{AskedValue, asked_of, asked_over, contents_at}
-use Rattle.tablebuilder.specs.Calls.{Call, HasTaken, ReadFailed, WriteFailed, readings_more}
-use Rattle.tablebuilder.specs.Commands.{CommandValue, command_of}
-use Rattle.tablebuilder.specs.Endings.{last_line, status_of}
-use Rattle.tablebuilder.specs.Loading.{Loads, Reading}
-use Rattle.tablebuilder.specs.Promises.{EndsBy, IsCaused, IsDefined, IsLastLine, IsPriced, IsTextOf, IsWhole, Keeps, defined_status, reading_number}
-use Rattle.tablebuilder.specs.Outputs.{AreAnswers, IsOutput}
-use Rattle.tb_script.specs.Outputs.{ReplyValue, price_of, text_of}
+use Rattle.tablebuilder.specs.Calls.{Call, HasTaken, IsReadTo, NetFailed, ReadFailed, WriteFailed}
+use Rattle.tablebuilder.specs.Commands.{command_of, files_of, named}
+use Rattle.tablebuilder.specs.Endings.{IsEnded, last_line, status_of}
+use Rattle.tablebuilder.specs.Loading.{Hold, Loads, Reading}
+use Rattle.tablebuilder.specs.Promises.{EndsBy, IsCaused, IsDefined, IsLastLine, IsTextOf, IsWhole, Keeps, defined_status}
+use Rattle.tablebuilder.specs.Outputs.{IsAnswered, IsOutput}
+use Rattle.tb_session.specs.Outputs.{text_of}
 use Rattle.tb_io.proofs.TakenLemmas.{TookPart-all}
 
 -- what the sink took of the last line of an end, and the status
 abbrev pub IsToldBy : Call → End → Status → Type 0
-IsToldBy call e s =
-    ((s ≡ status_of e) × HasTaken call (last_line e))
-    ⊎ ((s ≡ status.WriteFault) × WriteFailed call × TookPart call.taken call.taken_after (last_line e))
+IsToldBy call e s = IsEnded e s call.write_faults call.write_faults_after call.taken call.taken_after
 
 -- an end has neither of these statuses
 not_of_ends : (e : End) → (status_of e ≢ status.NetFault) × (status_of e ≢ status.WriteFault) × (status_of e ≢ status.Done)
@@ -44,7 +44,8 @@ not_of_ends end.Memory = (λ h. cc, λ h. cc, λ h. cc)
 
 module _ (call : Call) (at : List ℕ → Option (List ℕ)) where
   -- a last line is the text of its status
-  whole_by_status : (s : Status) (text : List ℕ) → s ≢ status.Done → s ≢ status.WriteFault → s ≢ status.NetFault → s ≢ status.Memory → IsLastLine call at s text → IsWhole call at s text
+  whole_by_status : (s : Status) (text : List ℕ) → s ≢ status.Done → s ≢ status.WriteFault → s ≢ status.NetFault → s ≢ status.Memory
+      → IsLastLine call at s text → IsWhole call at s text
   whole_by_status status.Done text d w n m h = absurd (d refl)
   whole_by_status status.Usage text d w n m h = h
   whole_by_status status.Schema text d w n m h = h
@@ -81,15 +82,18 @@ module _ (call : Call) (at : List ℕ → Option (List ℕ)) where
         whole_by_status (status_of e) (last_line e) done write net other_status (e, ends other, refl, refl)
   ]
 
-  text_by_end : (e : End) (s : Status) → (e ≢ end.Memory → EndsBy call at e) → IsToldBy call e s → (bytes : List ℕ) × IsTextOf call at s bytes × HasTaken call bytes
+  text_by_end : (e : End) (s : Status) → (e ≢ end.Memory → EndsBy call at e) → IsToldBy call e s →
+      (bytes : List ℕ) × IsTextOf call at s bytes × HasTaken call bytes
   text_by_end e s ends (inl (is, took)) = (last_line e, inl (rw is (whole_by_end e ends)), took)
   text_by_end e s ends (inr (is, rose, part)) =
       let line = last_line e in
-      let whole : IsWhole call at (status_of e) (take part.0 line ++ drop part.0 line) = rw (take-append-drop part.0 line) (whole_by_end e ends) in
+      let whole : IsWhole call at (status_of e) (take part.0 line ++ drop part.0 line) = rw (take-append-drop part.0 line)
+      (whole_by_end e ends) in
       (take part.0 line, inr (is, (status_of e, drop part.0 line, whole)), part.1)
 
   -- the defined status, Memory or a fault of the outside
-  defined_by_end : (e : End) (s : Status) → s ≡ status_of e → (e ≢ end.Memory → EndsBy call at e) → ((file : Input) → e ≡ end.Unread file → ReadFailed call) → IsDefined call at s
+  defined_by_end : (e : End) (s : Status) → s ≡ status_of e → (e ≢ end.Memory → EndsBy call at e) →
+      ((file : Input) → e ≡ end.Unread file → ReadFailed call) → IsDefined call at s
   defined_by_end end.Memory s is ends rose = inr (inl is)
   defined_by_end (end.Unread file) s is ends rose = inr (inr (inl (is, rose file refl)))
   defined_by_end end.Usage s is ends rose = let (by, caused) = ends (λ h. cc) in inl (is ∙ sym (ap defined_status by))
@@ -97,9 +101,10 @@ module _ (call : Call) (at : List ℕ → Option (List ℕ)) where
   defined_by_end (end.Refused file name n) s is ends rose = let (by, caused) = ends (λ h. cc) in inl (is ∙ sym (ap defined_status by))
   defined_by_end (end.BadLine n) s is ends rose = let (by, caused) = ends (λ h. cc) in inl (is ∙ sym (ap defined_status by))
 
-  exact_by_end : (e : End) (s : Status) → (e ≢ end.Memory → EndsBy call at e) → ((file : Input) → e ≡ end.Unread file → ReadFailed call) → IsToldBy call e s → IsDefined call at s
+  exact_by_end : (e : End) (s : Status) → (e ≢ end.Memory → EndsBy call at e) → ((file : Input) → e ≡ end.Unread file → ReadFailed call)
+      → IsToldBy call e s → IsDefined call at s
   exact_by_end e s ends rose (inl (is, took)) = defined_by_end e s is ends rose
-  exact_by_end e s ends rose (inr (is, failed, part)) = inr (inr (inr (is, failed)))
+  exact_by_end e s ends rose (inr (is, failed, part)) = inr (inr (inr (inl (is, failed))))
 
 -- what is true of any contents is true where the files tell them
 always_told : {A : Type 0} (P : A → Type 0) (o : Option A) → ((x : A) → P x) → IfSome o P
@@ -143,8 +148,10 @@ status-read (end.Refused input.Script name at) h = cc
 status-read (end.BadLine at) h = cc
 status-read end.Memory h = cc
 
-module _ (call : Call) (e : End) (s : Status) (usage : e ≡ end.Usage → command_of call.words ≡ None) (words : command_of call.words ≡ None → e ≡ end.Usage)
-    (rose : (file : Input) → e ≡ end.Unread file → ReadFailed call) (ends : IfSome call.content (λ at. e ≢ end.Memory → EndsBy call at e)) (free : call.steps_after ≡ call.steps) where
+module _ (call : Call) (e : End) (s : Status) (usage : e ≡ end.Usage → command_of call.words ≡ None)
+    (words : command_of call.words ≡ None → e ≡ end.Usage)
+    (rose : (file : Input) → e ≡ end.Unread file → ReadFailed call) (ends : IfSome call.content (λ at. e ≢ end.Memory → EndsBy call at e))
+    (free : call.steps_after ≡ call.steps) where
   usage_told : IsToldBy call e s → s ≡ status.Usage → (command_of call.words ≡ None) × HasTaken call (last_line end.Usage)
   usage_told (inl (is, took)) h = let u = status-usage e (sym is ∙ h) in (usage u, subst (λ x. HasTaken call (last_line x)) u took)
   usage_told (inr (is, failed, part)) h = cc
@@ -161,8 +168,8 @@ module _ (call : Call) (e : End) (s : Status) (usage : e ≡ end.Usage → comma
   write_told (inl (is, took)) h = let (net, write, done) = not_of_ends e in absurd (write (sym is ∙ h))
   write_told (inr (is, failed, part)) h = failed
 
-  net_told : IsToldBy call e s → s ≢ status.NetFault
-  net_told (inl (is, took)) h = let (net, write, done) = not_of_ends e in net (sym is ∙ h)
+  net_told : IsToldBy call e s → s ≡ status.NetFault → NetFailed call
+  net_told (inl (is, took)) h = let (net, write, done) = not_of_ends e in absurd (net (sym is ∙ h))
   net_told (inr (is, failed, part)) h = cc
 
   -- a run that ends before the script's first line keeps all
@@ -173,60 +180,50 @@ module _ (call : Call) (e : End) (s : Status) (usage : e ≡ end.Usage → comma
     words = words_told told;
     read_fault = read_told told;
     write_fault = write_told told;
-    no_net = net_told told;
+    net_fault = net_told told;
     exact = where_told _ _ call.content (λ at by. exact_by_end call at e s by rose told) ends;
     price = always_told _ call.content (λ at. inl free);
   }
 
 -- how the replies were taken, and the status
 abbrev pub IsAnsweredBy : Call → AskedValue → Status → Type 0
-IsAnsweredBy call asked s =
-    ((s ≡ status.Done) × ((replies : List ReplyValue) × AreAnswers asked replies × HasTaken call (text_of replies) × (call.steps_after ≤ call.steps + price_of replies)))
-    ⊎ ((s ≡ status.WriteFault) × WriteFailed call
-    × ((replies : List ReplyValue) × AreAnswers asked replies × TookPart call.taken call.taken_after (text_of replies) × (call.steps_after ≤ call.steps + price_of replies)))
+IsAnsweredBy call asked s = IsAnswered asked s call.write_faults call.write_faults_after call.taken call.taken_after call.steps
+    call.steps_after
 
-text_by_replies : (call : Call) (at : List ℕ → Option (List ℕ)) (asked : AskedValue) (s : Status) → asked_of at call.words ≡ Ok asked → IsAnsweredBy call asked s
-    → (bytes : List ℕ) × IsTextOf call at s bytes × HasTaken call bytes
-text_by_replies call at asked s h (inl (is, (replies, answers, took, cost))) = (text_of replies, inl (rw is (asked, h, (replies, answers, refl))), took)
-text_by_replies call at asked s h (inr (is, failed, (replies, answers, part, cost))) =
+-- a run that comes to its task keeps all
+pub keeps_by_answer : (call : Call) (command : Command) (asked : AskedValue) (s : Status) → command_of call.words ≡ Some command
+    → IfSome call.content (λ at. asked_of at call.words ≡ Ok asked) → IsAnsweredBy call asked s → Keeps call s
+keeps_by_answer call command asked s named told (inl (is, (replies, answers, took, cost))) =
+    let output : IsOutput asked (text_of replies) = (replies, answers, refl) in
+    record {
+      text = where_told _ _ call.content (λ at h. (text_of replies, inl (rw is (asked, h, output)), took)) told;
+      usage = λ h. cc;
+      words = λ h. cc;
+      read_fault = λ h. cc;
+      write_fault = λ h. cc;
+      net_fault = λ h. cc;
+      exact = where_told _ _ call.content (λ at h. inl (is ∙ sym (ap defined_status h))) told;
+      price = where_told _ _ call.content (λ at h. inr
+          (asked, h, (replies, answers, TookPart-all call.taken call.taken_after (text_of replies) took, cost))) told;
+    }
+keeps_by_answer call command asked s named told (inr (inl (is, failed, (replies, answers, part, cost)))) =
     let text = text_of replies in
     let output : IsOutput asked text = (replies, answers, refl) in
-    let whole : IsWhole call at status.Done (take part.0 text ++ drop part.0 text) = rw (take-append-drop part.0 text) (asked, h, output) in
-    (take part.0 text, inr (is, (status.Done, drop part.0 text, whole)), part.1)
-
-exact_by_replies : (call : Call) (at : List ℕ → Option (List ℕ)) (asked : AskedValue) (s : Status) → asked_of at call.words ≡ Ok asked → IsAnsweredBy call asked s → IsDefined call at s
-exact_by_replies call at asked s h (inl (is, taken)) = inl (is ∙ sym (ap defined_status h))
-exact_by_replies call at asked s h (inr (is, failed, part)) = inr (inr (inr (is, failed)))
-
-price_by_replies : (call : Call) (at : List ℕ → Option (List ℕ)) (asked : AskedValue) (s : Status) → asked_of at call.words ≡ Ok asked → IsAnsweredBy call asked s → IsPriced call at
-price_by_replies call at asked s h (inl (is, (replies, answers, took, cost))) = (asked, h, (replies, answers, TookPart-all call.taken call.taken_after (text_of replies) took, cost))
-price_by_replies call at asked s h (inr (is, failed, (replies, answers, part, cost))) = (asked, h, (replies, answers, part, cost))
-
-by_replies : (call : Call) (asked : AskedValue) (s : Status) → IsAnsweredBy call asked s
-    → (s ≢ status.Usage) × (s ≢ status.ReadFault) × (s ≢ status.NetFault) × (s ≡ status.WriteFault → WriteFailed call)
-by_replies call asked s (inl (is, taken)) = (λ h. cc, λ h. cc, λ h. cc, λ h. cc)
-by_replies call asked s (inr (is, failed, part)) = (λ h. cc, λ h. cc, λ h. cc, λ h. failed)
-
--- a run that comes to its script keeps all
-pub keeps_by_replies : (call : Call) (command : CommandValue) (asked : AskedValue) (s : Status) → command_of call.words ≡ Some command
-    → IfSome call.content (λ at. asked_of at call.words ≡ Ok asked) → IsAnsweredBy call asked s → Keeps call s
-keeps_by_replies call command asked s named told answered =
-    let (usage, read, net, write) = by_replies call asked s answered in
     record {
-      text = where_told _ _ call.content (λ at h. text_by_replies call at asked s h answered) told;
-      usage = λ h. absurd (usage h);
+      text = where_told _ _ call.content (λ at h.
+          let whole : IsWhole call at status.Done (take part.0 text ++ drop part.0 text) = rw (take-append-drop part.0 text)
+          (asked, h, output) in
+          (take part.0 text, inr (is, (status.Done, drop part.0 text, whole)), part.1)) told;
+      usage = λ h. cc;
       words = λ h. cc;
-      read_fault = λ h. absurd (read h);
-      write_fault = write;
-      no_net = net;
-      exact = where_told _ _ call.content (λ at h. exact_by_replies call at asked s h answered) told;
-      price = where_told _ _ call.content (λ at h. inr (price_by_replies call at asked s h answered)) told;
+      read_fault = λ h. cc;
+      write_fault = λ h. failed;
+      net_fault = λ h. cc;
+      exact = where_told _ _ call.content (λ at h. inr (inr (inr (inl (is, failed))))) told;
+      price = where_told _ _ call.content (λ at h. inr (asked, h, (replies, answers, part, cost))) told;
     }
-
--- what the arguments ask for is what their command asks for
-pub asked_by_command : (at : List ℕ → Option (List ℕ)) (words : List (List ℕ)) (command : CommandValue) (asked : AskedValue) → command_of words ≡ Some command
-    → asked_over command (contents_at at command) ≡ Ok asked → asked_of at words ≡ Ok asked
-asked_by_command at words command asked named h = rw named h
+keeps_by_answer call command asked s named told (inr (inr (free, ended))) =
+    keeps_by_end call end.Memory s (λ h. cc) (λ h. cc) (λ file h. cc) (always_told _ call.content (λ at ne. absurd (ne refl))) free ended
 
 -- what a call saw of its files
 abbrev pub reading_of : Call → Option (List ℕ → Option (List ℕ)) → Reading
@@ -239,43 +236,71 @@ reading_of call after = record {
   readings_after = call.readings_after;
 }
 
-same_command : (words : List (List ℕ)) (command other : CommandValue) → command_of words ≡ Some command → command_of words ≡ Some other → command ≡ other
+same_command : (words : List (List ℕ)) (command other : Command) → command_of words ≡ Some command → command_of words ≡ Some other
+    → command ≡ other
 same_command words command other h k = cc
 
-caused : (call : Call) (command : CommandValue) (e : End) → command_of call.words ≡ Some command → ((file : Input) → e ≡ end.Unread file → ReadFailed call)
-    → ((file : Input) → e ≡ end.Unread file → call.readings_after ≡ readings_more (reading_number command file) call.readings) → IsCaused call e
-caused call command (end.Unread file) named rose last = (rose file refl, λ other h. subst (λ (c : CommandValue). call.readings_after ≡ readings_more (reading_number c file) call.readings) (same_command call.words command other named h) (last file refl))
+caused : (call : Call) (command : Command) (e : End) → command_of call.words ≡ Some command →
+    ((file : Input) → e ≡ end.Unread file → ReadFailed call)
+    → ((file : Input) → e ≡ end.Unread file → IsReadTo (files_of command) file call.readings call.readings_after) → IsCaused call e
+caused call command (end.Unread file) named rose last = (
+  rose file refl,
+  λ other h. subst (λ (c : Command). IsReadTo (files_of c) file call.readings call.readings_after)
+      (same_command call.words command other named h) (last file refl),
+)
 caused call command end.Usage named rose last = tt
 caused call command (end.TooLong file) named rose last = tt
 caused call command (end.Refused file name at) named rose last = tt
 caused call command (end.BadLine at) named rose last = tt
 caused call command end.Memory named rose last = tt
 
+-- a command's contents hold its files
+holds-files : (at : List ℕ → Option (List ℕ)) (recodes : Option (List ℕ)) (classes ptable people script : List ℕ) (threshold : ℕ)
+    → let inputs : Inputs = record { classes = classes; recodes = recodes; ptable = ptable; people = people; threshold = threshold } in
+    Hold at (files_of (command.Script inputs script)) (contents_at at (files_of (command.Script inputs script)))
+holds-files at None classes ptable people script threshold = (refl, (refl, (refl, (refl, tt))))
+holds-files at (Some name) classes ptable people script threshold = (refl, (refl, (refl, (refl, (refl, tt)))))
+
+holds : (at : List ℕ → Option (List ℕ)) (c : Command) → Hold at (files_of c) (contents_at at (files_of c))
+holds at (command.Script inputs script) = holds-files at inputs.recodes inputs.classes inputs.ptable inputs.people script inputs.threshold
+
 -- how loading ended the run
-pub keeps_by_load : {A : Type 0} (view : A → AskedValue) (call : Call) (after : Option (List ℕ → Option (List ℕ))) (command : CommandValue) (e : End) (s : Status) (n : ℕ) → command_of call.words ≡ Some command
-    → Loads (reading_of call after) command 0 0 n view (asked_over command) (Err e) → call.steps_after ≡ call.steps → IsToldBy call e s → Keeps call s
-keeps_by_load view call after command e s n named loads free told =
+pub keeps_by_load : {A : Type 0} (view : A → AskedValue) (call : Call) (after : Option (List ℕ → Option (List ℕ))) (command : Command)
+    (e : End) (s : Status) → command_of call.words ≡ Some command
+    → Loads (reading_of call after) 0 (files_of command) view (asked_over command) (Err e) → call.steps_after ≡ call.steps
+    → IsToldBy call e s → Keeps call s
+keeps_by_load view call after command e s named loads free told =
     let rose = λ (file : Input) (h : e ≡ end.Unread file). loads.risen file (ap (λ (x : End). Err x) h) in
-    let last = λ (file : Input) (h : e ≡ end.Unread file). loads.last file (ap (λ (x : End). Err x) h) call.readings refl in
+    let last = λ (file : Input) (h : e ≡ end.Unread file). loads.last file (ap (λ (x : End). Err x) h) in
     keeps_by_end call e s
     (λ h. absurd (loads.usage (ap (λ (x : End). Err x) h))) (λ h. cc) rose
-    (where_told _ _ call.content (λ at g ne. (rw named (g ne), caused call command e named rose last)) loads.gives)
+    (where_told _ _ call.content (λ at g ne. (
+      rw named
+          (g (contents_at at (files_of command)) (holds at command) ne),
+      caused call command e named rose last,
+    )) loads.gives)
     free told
 
 -- other arguments end the run at once
-pub keeps_by_usage : (call : Call) (s : Status) → command_of call.words ≡ None → call.steps_after ≡ call.steps → IsToldBy call end.Usage s → Keeps call s
+pub keeps_by_usage : (call : Call) (s : Status) → command_of call.words ≡ None → call.steps_after ≡ call.steps → IsToldBy call end.Usage s
+    → Keeps call s
 keeps_by_usage call s none free told =
-    keeps_by_end call end.Usage s (λ h. none) (λ h. refl) (λ file h. cc) (always_told _ call.content (λ at ne. (rw none refl, tt))) free told
+    keeps_by_end call end.Usage s (λ h. none) (λ h. refl) (λ file h. cc)
+    (always_told _ call.content (λ at ne. (rw none refl, tt))) free told
 
--- files that were all read lead to the script
-pub keeps_by_script : {A : Type 0} (view : A → AskedValue) (call : Call) (after : Option (List ℕ → Option (List ℕ))) (command : CommandValue) (x : A) (s : Status) (n : ℕ) → command_of call.words ≡ Some command
-    → Loads (reading_of call after) command 0 0 n view (asked_over command) (Ok x) → IsAnsweredBy call (view x) s → Keeps call s
-keeps_by_script view call after command x s n named loads answered =
-    keeps_by_replies call command (view x) s named (where_told _ _ call.content (λ at g. asked_by_command at call.words command (view x) named g) loads.gives) answered
+-- files that were all read lead to the task
+pub keeps_by_task : {A : Type 0} (view : A → AskedValue) (call : Call) (after : Option (List ℕ → Option (List ℕ))) (command : Command)
+    (x : A) (s : Status) → command_of call.words ≡ Some command
+    → Loads (reading_of call after) 0 (files_of command) view (asked_over command) (Ok x) → IsAnsweredBy call (view x) s → Keeps call s
+keeps_by_task view call after command x s named loads answered =
+    keeps_by_answer call command (view x) s named
+    (where_told _ _ call.content (λ at g. rw named (g (contents_at at (files_of command)) (holds at command))) loads.gives) answered
 
 -- the text of a read fault is the line that names the file of the last reading
-pub line_of_read_fault : (call : Call) (at : List ℕ → Option (List ℕ)) (s : Status) (bytes : List ℕ) → IsTextOf call at s bytes → s ≡ status.ReadFault
-    → (file : Input) × (bytes ≡ last_line (end.Unread file)) × ((command : CommandValue) → command_of call.words ≡ Some command → call.readings_after ≡ readings_more (reading_number command file) call.readings)
+pub line_of_read_fault : (call : Call) (at : List ℕ → Option (List ℕ)) (s : Status) (bytes : List ℕ) → IsTextOf call at s bytes
+    → s ≡ status.ReadFault
+    → (file : Input) × (bytes ≡ last_line (end.Unread file)) ×
+    ((command : Command) → command_of call.words ≡ Some command → IsReadTo (files_of command) file call.readings call.readings_after)
 line_of_read_fault call at s bytes (inl whole) h =
     let (e, (by, cause), is, text) = subst (λ x. IsWhole call at x bytes) h whole in
     let (file, unread) = status-read e is in
@@ -284,8 +309,10 @@ line_of_read_fault call at s bytes (inl whole) h =
 line_of_read_fault call at s bytes (inr (is, cut)) h = cc
 
 -- and where it is in memory
-pub memory_read_fault : (call : Call) (at : List ℕ → Option (List ℕ)) (s : Status) (before after : List ℕ) → (bytes : List ℕ) × IsTextOf call at s bytes × (after ≡ before ++ bytes) → s ≡ status.ReadFault
-    → (file : Input) × (after ≡ before ++ last_line (end.Unread file)) × ((command : CommandValue) → command_of call.words ≡ Some command → call.readings_after ≡ readings_more (reading_number command file) call.readings)
+pub memory_read_fault : (call : Call) (at : List ℕ → Option (List ℕ)) (s : Status) (before after : List ℕ) →
+    (bytes : List ℕ) × IsTextOf call at s bytes × (after ≡ before ++ bytes) → s ≡ status.ReadFault
+    → (file : Input) × (after ≡ before ++ last_line (end.Unread file)) ×
+    ((command : Command) → command_of call.words ≡ Some command → IsReadTo (files_of command) file call.readings call.readings_after)
 memory_read_fault call at s before after (bytes, text, took) h =
     let (file, line, last) = line_of_read_fault call at s bytes text h in
     (file, took ∙ ap (λ more. before ++ more) line, last)

@@ -1,2 +1,4 @@
+pub mod Boards
+pub mod CommandWords
 pub mod Finishing
 pub mod LoadSteps

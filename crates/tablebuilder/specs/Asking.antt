@@ -1,6 +1,6 @@
--- What the arguments and the files ask for: a setup, the microdata's records and the script; or why
--- the run ends before the script's first line.
-use Rattle.std.specs.Prelude.{◌==◌, ℕ, List, length, Option, Some, None, Result, Ok, Err, ok_or, nat_lt, if◌then◌else◌}
+-- What the arguments and the files ask for: a task over a census; or why the run ends before it
+-- begins.
+use Rattle.std.specs.Prelude.{◌==◌, ℕ, List, [], ◌∷◌, length, Option, Some, None, Result, Ok, Err, ok_or, nat_lt, if◌then◌else◌}
 use Rattle.tb_base.specs.declared.records.Record.{Record}
 use Rattle.tb_model.specs.declared.names.PerturbationLine.{PerturbationLine}
 use Rattle.tb_model.specs.Schemas.{SchemaValue}
@@ -25,7 +25,10 @@ use Rattle.tablebuilder.specs.declared.endings.End.{End}
 use Rattle.tablebuilder.specs.declared.endings.End.TheVariants as end
 use Rattle.tablebuilder.specs.declared.load.TheConstants.{MOST_BYTES}
 use Rattle.tb_script.specs.declared.limits.TheConstants.{MOST_SCRIPT_BYTES}
-use Rattle.tablebuilder.specs.Commands.{CommandValue, command_of}
+use Rattle.tablebuilder.specs.declared.command.Command.{Command}
+use Rattle.tablebuilder.specs.declared.command.Command.TheVariants as command
+use Rattle.tablebuilder.specs.declared.command.Inputs.{Inputs}
+use Rattle.tablebuilder.specs.Commands.{NamedFile, command_of, files_of}
 
 -- what the files hold: the bytes of each, where it is there
 abbrev pub Contents : Type 0
@@ -100,37 +103,31 @@ script_in contents =
     bytes_in input.Script (contents input.Script) >>= (λ bytes.
     or_end end.BadLine (script_of bytes))
 
--- what is asked for: replies to the lines of a script over a setup and microdata
-pub record AskedValue : Type 0 where
+-- a census: the setup and the microdata's records
+pub record CensusValue : Type 0 where
   pub setup : SetupValue
   pub records : List Record
-  pub script : ScriptValue
 
--- what a command asks for over what its files hold
-abbrev pub asked_over : CommandValue → Contents → Result AskedValue End
-asked_over command contents =
-    schema_in command.recodes contents >>= (λ schema.
+-- what the files of inputs hold
+abbrev pub census_in : Inputs → Contents → Result CensusValue End
+census_in inputs contents =
+    schema_in inputs.recodes contents >>= (λ schema.
     perturbation_in contents >>= (λ lines.
     people_in schema contents >>= (λ records.
-    script_in contents >>= (λ script.
     Ok (record {
-      setup = record { schema = schema; lines = lines; threshold = command.threshold };
+      setup = record { schema = schema; lines = lines; threshold = inputs.threshold };
       records = records;
-      script = script;
-    })))))
+    }))))
 
--- what stands under the name of a file that may not be named
-abbrev pub under_name : (List ℕ → Option (List ℕ)) → Option (List ℕ) → Option (List ℕ)
-under_name at None = None
-under_name at (Some name) = at name
+-- what is asked for over a census: replies to the lines of a script
+pub data AskedValue : Type 0 where
+  Script : CensusValue → ScriptValue → AskedValue
 
--- what the files of a command hold, where `at` tells what stands under a name
-abbrev pub contents_at : (List ℕ → Option (List ℕ)) → CommandValue → Contents
-contents_at at command input.Classes = at command.classes
-contents_at at command input.Recodes = under_name at command.recodes
-contents_at at command input.Ptable = at command.ptable
-contents_at at command input.People = at command.people
-contents_at at command input.Script = at command.script
+-- what a command asks for over what its files hold
+abbrev pub asked_over : Command → Contents → Result AskedValue End
+asked_over (command.Script inputs name) contents =
+    census_in inputs contents >>= (λ census.
+    script_in contents >>= (λ script. Ok (Script census script)))
 
 -- the place of a file in the order of reading
 abbrev pub input_place : Input → ℕ
@@ -139,6 +136,12 @@ input_place input.Recodes = 1
 input_place input.Ptable = 2
 input_place input.People = 3
 input_place input.Script = 4
+
+-- what these files hold, where `at` tells what stands under a name
+abbrev pub contents_at : (List ℕ → Option (List ℕ)) → List NamedFile → Contents
+contents_at at [] other = None
+contents_at at (file ∷ files) other =
+    if input_place file.input == input_place other then at file.name else contents_at at files other
 
 -- the same contents, but for one file that isn't there
 abbrev pub without : Input → Contents → Contents
@@ -154,10 +157,10 @@ contents_for (end.BadLine at) contents = contents
 contents_for end.Memory contents = contents
 
 -- what the arguments ask for over these contents
-abbrev pub asked_by : (CommandValue → Contents) → List (List ℕ) → Result AskedValue End
+abbrev pub asked_by : (Command → Contents) → List (List ℕ) → Result AskedValue End
 asked_by contents words =
-    ok_or (command_of words) end.Usage >>= (λ command. asked_over command (contents command))
+    ok_or (command_of words) end.Usage >>= (λ c. asked_over c (contents c))
 
 -- what the arguments and the files ask for
 abbrev pub asked_of : (List ℕ → Option (List ℕ)) → List (List ℕ) → Result AskedValue End
-asked_of at words = asked_by (contents_at at) words
+asked_of at words = asked_by (λ c. contents_at at (files_of c)) words

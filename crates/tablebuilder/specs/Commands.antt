@@ -1,18 +1,14 @@
--- The arguments of the command line.
-use Rattle.std.specs.Prelude.{ℕ, ◌==◌, ◌&&◌, ◌||◌, Bool, false, not, List, [], ◌∷◌, length, get_or, Option, Some, None, option_map, option_and_then, nat_le, bytes_eq, codes, if◌then◌else◌}
+-- The arguments of the command line: a command is one of several, each with its inputs and a task.
+use Rattle.std.specs.Prelude.{ℕ, ◌==◌, ◌&&◌, ◌||◌, Bool, false, not, List, [], ◌∷◌, ◌++◌, length, get_or, Option, Some, None, option_map, option_and_then, nat_le, bytes_eq, codes, if◌then◌else◌}
 use Rattle.tb_base.specs.Numbers.{number_of}
+use Rattle.tablebuilder.specs.declared.command.Command.{Command}
+use Rattle.tablebuilder.specs.declared.command.Command.TheVariants as command
+use Rattle.tablebuilder.specs.declared.command.Inputs.{Inputs}
 use Rattle.tablebuilder.specs.declared.command.TheConstants.{MOST_THRESHOLD}
+use Rattle.tablebuilder.specs.declared.endings.Input.{Input}
+use Rattle.tablebuilder.specs.declared.endings.Input.TheVariants as input
 
--- the names of a run's files, and its threshold; there may be no recodes
-pub record CommandValue : Type 0 where
-  pub classes : List ℕ
-  pub recodes : Option (List ℕ)
-  pub ptable : List ℕ
-  pub people : List ℕ
-  pub threshold : ℕ
-  pub script : List ℕ
-
--- a file's name isn't empty and doesn't begin with a minus sign
+-- whether an argument is a file's name: it isn't empty and doesn't begin with a minus sign
 abbrev pub is_file_name : List ℕ → Bool
 is_file_name [] = false
 is_file_name (c ∷ name) = not (c == 45)
@@ -29,32 +25,67 @@ abbrev pub threshold_in : List ℕ → Option ℕ
 threshold_in word =
     option_and_then (λ n. if nat_le n MOST_THRESHOLD then Some n else None) (number_of word)
 
+-- the inputs that five arguments name, `CLASSES RECODES PTABLE PEOPLE THRESHOLD`
+abbrev pub inputs_with : (classes recodes ptable people : List ℕ) → ℕ → Inputs
+inputs_with classes recodes ptable people threshold = record {
+  classes = classes;
+  recodes = recodes_name recodes;
+  ptable = ptable;
+  people = people;
+  threshold = threshold;
+}
+
+abbrev pub inputs_named : (classes recodes ptable people threshold : List ℕ) → Option Inputs
+inputs_named classes recodes ptable people threshold =
+    if is_file_name classes && may_name_recodes recodes && is_file_name ptable
+    && is_file_name people
+    then option_map (inputs_with classes recodes ptable people) (threshold_in threshold) else None
+
+-- a command of the inputs and the task's argument, the script's name
+abbrev pub script_named : (classes recodes ptable people threshold script : List ℕ) → Option Command
+script_named classes recodes ptable people threshold script =
+    if is_file_name script
+    then option_map (λ inputs. command.Script inputs script)
+    (inputs_named classes recodes ptable people threshold)
+    else None
+
 -- the argument at a place
 abbrev pub word_at : List (List ℕ) → ℕ → List ℕ
 word_at words i = get_or words i []
 
--- whether there are the seven arguments `script CLASSES RECODES PTABLE PEOPLE THRESHOLD SCRIPT`, of
--- whatever threshold; RECODES may be `-`
-abbrev pub are_words : List (List ℕ) → Bool
-are_words words =
-    (length words == 7) && bytes_eq (word_at words 0) (codes "script")
-    && is_file_name (word_at words 1) && may_name_recodes (word_at words 2)
-    && is_file_name (word_at words 3) && is_file_name (word_at words 4)
-    && is_file_name (word_at words 6)
-
--- the command with these arguments and this threshold
-abbrev pub command_with : List (List ℕ) → ℕ → CommandValue
-command_with words threshold = record {
-  classes = word_at words 1;
-  recodes = recodes_name (word_at words 2);
-  ptable = word_at words 3;
-  people = word_at words 4;
-  threshold = threshold;
-  script = word_at words 6;
-}
-
--- what the arguments ask for; others than those of the command ask for nothing
-abbrev pub command_of : List (List ℕ) → Option CommandValue
+-- what the arguments ask for, `script CLASSES RECODES PTABLE PEOPLE THRESHOLD SCRIPT`; others than
+-- those of a command ask for nothing
+abbrev pub command_of : List (List ℕ) → Option Command
 command_of words =
-    if are_words words then option_map (command_with words) (threshold_in (word_at words 5))
+    if (length words == 7) && bytes_eq (word_at words 0) (codes "script")
+    then script_named (word_at words 1) (word_at words 2) (word_at words 3) (word_at words 4)
+    (word_at words 5) (word_at words 6)
     else None
+
+-- an input and the name of its file
+pub record NamedFile : Type 0 where
+  pub input : Input
+  pub name : List ℕ
+
+abbrev pub named : Input → List ℕ → NamedFile
+named i n = record { input = i; name = n }
+
+-- the recodes, where they are named
+abbrev pub recodes_files : Option (List ℕ) → List NamedFile
+recodes_files None = []
+recodes_files (Some name) = named input.Recodes name ∷ []
+
+-- the files of a classification and its recodes, in the order in which they are read
+abbrev pub class_files : Inputs → List NamedFile
+class_files inputs = (named input.Classes inputs.classes ∷ []) ++ recodes_files inputs.recodes
+
+-- those of all inputs
+abbrev pub input_files : Inputs → List NamedFile
+input_files inputs =
+    class_files inputs
+    ++ (named input.Ptable inputs.ptable ∷ named input.People inputs.people ∷ [])
+
+-- the files of a command, in the order in which they are read: those of its inputs, then its task's
+abbrev pub files_of : Command → List NamedFile
+files_of (command.Script inputs script) =
+    input_files inputs ++ (named input.Script script ∷ [])

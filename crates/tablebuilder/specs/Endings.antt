@@ -1,7 +1,9 @@
--- How a run ends before the first line of its script.
-use Rattle.std.specs.Prelude.{ℕ, List, ◌++◌, codes, decimal}
+-- How a run ends before its task begins.
+use Rattle.std.specs.Prelude.{◌≡◌, ◌⊎◌, ℕ, List, ◌++◌, Option, codes, decimal}
 use Rattle.tb_base.specs.declared.status.Status.{Status}
 use Rattle.tb_base.specs.declared.status.Status.TheVariants as status
+use Rattle.tb_io.specs.Faults.{HasRisen}
+use Rattle.tb_io.specs.Taken.{Took, TookPart}
 use Rattle.tb_rows.specs.FaultNames.{FaultNameValue}
 use Rattle.tablebuilder.specs.declared.endings.Input.{Input}
 use Rattle.tablebuilder.specs.declared.endings.Input.TheVariants as input
@@ -48,3 +50,9 @@ last_line (end.Unread file) = codes "fault read " ++ input_name file ++ codes "\
 last_line (end.Refused file name at) = refusal_line file name at
 last_line (end.BadLine at) = codes "fault script " ++ decimal at ++ codes "\n"
 last_line end.Memory = codes "fault memory\n"
+
+-- a run ended so: its last line was taken, or, where a write failed, a beginning of it
+abbrev pub IsEnded : End → Status → (faults faults' : ℕ) → (taken taken' : Option (List ℕ)) → Type 0
+IsEnded e s faults faults' taken taken' =
+    ((s ≡ status_of e) × Took taken taken' (last_line e))
+    ⊎ ((s ≡ status.WriteFault) × HasRisen faults faults' × TookPart taken taken' (last_line e))

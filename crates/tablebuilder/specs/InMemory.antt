@@ -1,14 +1,15 @@
 -- What a run over files and a sink in memory tells.
-use Rattle.std.specs.Prelude.{◌≡◌, ℕ, List, ◌++◌, Some}
+use Rattle.std.specs.Prelude.{◌≡◌, ℕ, List, [], ◌++◌, Some}
 use Rattle.tb_base.specs.declared.status.Status.{Status}
 use Rattle.tb_io.specs.BoundedSink.{BoundedSink}
 use Rattle.tb_io.specs.HeldFiles.{FailingFiles, bytes_of}
 use Rattle.tablebuilder.specs.declared.endings.Input.{Input}
 use Rattle.tablebuilder.specs.declared.endings.End.TheVariants as end
-use Rattle.tablebuilder.specs.Calls.{Call, readings_more}
-use Rattle.tablebuilder.specs.Commands.{CommandValue, command_of}
+use Rattle.tablebuilder.specs.declared.command.Command.{Command}
+use Rattle.tablebuilder.specs.Calls.{Call, IsReadTo}
+use Rattle.tablebuilder.specs.Commands.{command_of, files_of}
 use Rattle.tablebuilder.specs.Endings.{last_line}
-use Rattle.tablebuilder.specs.Promises.{IsTextOf, reading_number}
+use Rattle.tablebuilder.specs.Promises.{IsTextOf}
 
 -- what such a call saw
 abbrev pub memory_call : List (List ℕ) → FailingFiles → FailingFiles → BoundedSink → BoundedSink
@@ -22,6 +23,7 @@ memory_call words files files' out out' steps steps' = record {
   readings_after = Some files'.calls;
   write_faults = out.faults;
   write_faults_after = out'.faults;
+  net_faults = [];
   taken = Some out.taken;
   taken_after = Some out'.taken;
   steps = steps;
@@ -39,5 +41,5 @@ abbrev pub NamesTheFailingRead : List (List ℕ) → FailingFiles → FailingFil
     → BoundedSink → Type 0
 NamesTheFailingRead words files files' out out' =
     (file : Input) × (out'.taken ≡ out.taken ++ last_line (end.Unread file))
-    × ((command : CommandValue) → command_of words ≡ Some command
-    → Some files'.calls ≡ readings_more (reading_number command file) (Some files.calls))
+    × ((command : Command) → command_of words ≡ Some command
+    → IsReadTo (files_of command) file (Some files.calls) (Some files'.calls))

@@ -1,17 +1,37 @@
 -- The outputs of what is asked for.
-use Rattle.std.specs.Prelude.{◌≡◌, ℕ, List}
+use Rattle.std.specs.Prelude.{◌≡◌, ◌⊎◌, ◌+◌, ◌≤◌, ℕ, List, [], Option}
+use Rattle.tb_base.specs.declared.status.Status.{Status}
+use Rattle.tb_base.specs.declared.status.Status.TheVariants as status
+use Rattle.tb_io.specs.Faults.{HasRisen}
+use Rattle.tb_io.specs.Taken.{Took, TookPart}
 use Rattle.tb_model.specs.Releases.{first_release}
-use Rattle.tb_script.specs.Outputs.{AreReplies, ReplyValue, text_of}
-use Rattle.tb_script.specs.Replies.{IsReply, start}
-use Rattle.tablebuilder.specs.Asking.{AskedValue}
+use Rattle.tb_script.specs.Runs.{IsLaneReply}
+use Rattle.tb_session.specs.Outputs.{AreReplies, ReplyValue, price_of, text_of}
+use Rattle.tablebuilder.specs.declared.endings.End.TheVariants as end
+use Rattle.tablebuilder.specs.Asking.{AskedValue, Script}
+use Rattle.tablebuilder.specs.Endings.{IsEnded}
 
 -- these are replies to the script's lines, from release 0 of the microdata on
 abbrev pub AreAnswers : AskedValue → List ReplyValue → Type 0
-AreAnswers asked replies =
-    AreReplies (IsReply asked.setup (first_release asked.setup asked.records)) start
-    asked.script.lines replies
+AreAnswers (Script census script) replies =
+    AreReplies (IsLaneReply census.setup (first_release census.setup census.records))
+    (record { chain = []; held = [] }) script.lines replies
 
 -- a text is an output: that of such replies
 abbrev pub IsOutput : AskedValue → List ℕ → Type 0
 IsOutput asked text =
     (replies : List ReplyValue) × AreAnswers asked replies × (text ≡ text_of replies)
+
+-- What is asked for was answered: all replies were taken, or, where a write failed, a beginning of
+-- them, and the counter of steps rose by no more than their price. Or memory ran out before the
+-- first line.
+abbrev pub IsAnswered : AskedValue → Status → (faults faults' : ℕ)
+    → (taken taken' : Option (List ℕ)) → (steps steps' : ℕ) → Type 0
+IsAnswered asked s faults faults' taken taken' steps steps' =
+    ((s ≡ status.Done)
+    × ((replies : List ReplyValue) × AreAnswers asked replies
+    × Took taken taken' (text_of replies) × (steps' ≤ steps + price_of replies)))
+    ⊎ (((s ≡ status.WriteFault) × HasRisen faults faults'
+    × ((replies : List ReplyValue) × AreAnswers asked replies
+    × TookPart taken taken' (text_of replies) × (steps' ≤ steps + price_of replies)))
+    ⊎ ((steps' ≡ steps) × IsEnded end.Memory s faults faults' taken taken'))

@@ -1,41 +1,25 @@
 -- What each status of the top call tells.
-use Rattle.std.specs.Prelude.{◌≡◌, ◌≢◌, ◌⊎◌, ◌+◌, ◌≤◌, ℕ, suc, List, ◌++◌, Option, None, Some, Result, Ok, Err, IfSome, is_some, if◌then◌else◌}
+use Rattle.std.specs.Prelude.{◌≡◌, ◌⊎◌, ◌+◌, ◌≤◌, ℕ, List, ◌++◌, Option, None, Some, Result, Ok, Err, IfSome}
 use Rattle.tb_base.specs.declared.status.Status.{Status}
 use Rattle.tb_base.specs.declared.status.Status.TheVariants as status
 use Rattle.tb_io.specs.Taken.{TookPart}
-use Rattle.tb_script.specs.Outputs.{ReplyValue, price_of, text_of}
+use Rattle.tb_session.specs.Outputs.{ReplyValue, price_of, text_of}
 use Rattle.tablebuilder.specs.declared.endings.Input.{Input}
-use Rattle.tablebuilder.specs.declared.endings.Input.TheVariants as input
 use Rattle.tablebuilder.specs.declared.endings.End.{End}
 use Rattle.tablebuilder.specs.declared.endings.End.TheVariants as end
 use Rattle.tablebuilder.specs.Asking.{AskedValue, asked_by, asked_of, contents_at, contents_for}
-use Rattle.tablebuilder.specs.Calls.{Call, HasTaken, ReadFailed, WriteFailed, readings_more}
-use Rattle.tablebuilder.specs.Commands.{CommandValue, command_of}
+use Rattle.tablebuilder.specs.Calls.{Call, HasTaken, IsReadTo, NetFailed, ReadFailed, WriteFailed}
+use Rattle.tablebuilder.specs.Commands.{command_of, files_of}
+use Rattle.tablebuilder.specs.declared.command.Command.{Command}
 use Rattle.tablebuilder.specs.Endings.{last_line, status_of}
 use Rattle.tablebuilder.specs.Outputs.{AreAnswers, IsOutput}
-
--- how many readings the classification and the recodes take
-abbrev pub class_readings : CommandValue → ℕ
-class_readings command = if is_some command.recodes then 2 else 1
-
--- how many readings come before that of a file
-abbrev pub readings_before : CommandValue → Input → ℕ
-readings_before command input.Classes = 0
-readings_before command input.Recodes = 1
-readings_before command input.Ptable = class_readings command
-readings_before command input.People = suc (class_readings command)
-readings_before command input.Script = suc (suc (class_readings command))
-
--- the number of the reading of a file, from 1
-abbrev pub reading_number : CommandValue → Input → ℕ
-reading_number command file = suc (readings_before command file)
 
 -- an end at a file that couldn't be read: a read failed, and it was the last, at that file
 abbrev pub IsReadingAt : Call → Input → Type 0
 IsReadingAt call file =
     ReadFailed call
-    × ((command : CommandValue) → command_of call.words ≡ Some command
-    → call.readings_after ≡ readings_more (reading_number command file) call.readings)
+    × ((command : Command) → command_of call.words ≡ Some command
+    → IsReadTo (files_of command) file call.readings call.readings_after)
 
 abbrev pub IsCaused : Call → End → Type 0
 IsCaused call (end.Unread file) = IsReadingAt call file
@@ -49,7 +33,7 @@ IsCaused call end.Memory = Unit {0}
 -- file that couldn't be read, where each earlier file is there, not too long and accepted
 abbrev pub EndsBy : Call → (List ℕ → Option (List ℕ)) → End → Type 0
 EndsBy call at e =
-    (asked_by (λ command. contents_for e (contents_at at command)) call.words ≡ Err e)
+    (asked_by (λ command. contents_for e (contents_at at (files_of command))) call.words ≡ Err e)
     × IsCaused call e
 
 -- a text is the last line of a run that ends so with this status, and nothing else
@@ -92,7 +76,9 @@ abbrev pub IsDefined : Call → (List ℕ → Option (List ℕ)) → Status → 
 IsDefined call at s =
     (s ≡ defined_status (asked_of at call.words))
     ⊎ ((s ≡ status.Memory)
-    ⊎ (((s ≡ status.ReadFault) × ReadFailed call) ⊎ ((s ≡ status.WriteFault) × WriteFailed call)))
+    ⊎ (((s ≡ status.ReadFault) × ReadFailed call)
+    ⊎ (((s ≡ status.WriteFault) × WriteFailed call)
+    ⊎ ((s ≡ status.NetFault) × NetFailed call))))
 
 -- the counter rose by no more than the price of some replies to the script, of whose text the sink
 -- took a beginning
@@ -114,7 +100,7 @@ pub record Keeps (call : Call) (s : Status) : Type 0 where
   -- A fault of the outside comes only where its count rose.
   pub read_fault : s ≡ status.ReadFault → ReadFailed call
   pub write_fault : s ≡ status.WriteFault → WriteFailed call
-  pub no_net : s ≢ status.NetFault
+  pub net_fault : s ≡ status.NetFault → NetFailed call
   -- No status comes but the defined one, Memory, or a fault whose count rose.
   pub exact : IfSome call.content (λ at. IsDefined call at s)
   -- The counter rises by no more than the replies' price, and not at all where no line is answered.

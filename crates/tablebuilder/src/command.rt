@@ -1,7 +1,7 @@
 // The arguments of the command line.
 
-ghost use Rattle.std.specs.Prelude.{◌≡◌, None, Some, map, string_bytes, option_map};
-ghost use Rattle.tablebuilder.specs.Commands.{command_of, is_file_name as names_a_file, may_name_recodes, recodes_name as name_of_recodes, threshold_in};
+ghost use Rattle.std.specs.Prelude.{◌≡◌, None, Some, if◌then◌else◌, map, string_bytes};
+ghost use Rattle.tablebuilder.specs.Commands.{command_of, inputs_named, is_file_name as names_a_file, may_name_recodes, recodes_name as name_of_recodes, script_named, threshold_in};
 
 use std::marker::Model;
 use tb_base::read_number;
@@ -9,32 +9,55 @@ use tb_base::read_number;
 /// The greatest threshold.
 pub const MOST_THRESHOLD: u32 = 1_000_000;
 
-/// What a run over a script is asked for: the names of its files, and the threshold. There may be
-/// no recodes.
+/// The name of a file.
 #[derive(Drop)]
-pub struct Command<'a> {
-    pub classes: &'a str,
-    pub recodes: Option<&'a str>,
-    pub ptable: &'a str,
-    pub people: &'a str,
-    pub threshold: u32,
-    pub script: &'a str,
+pub struct FileName<'a> {
+    text: &'a str,
 }
 
-impl<'a> Model for Command<'a> {
-    ghost use Rattle.std.specs.Prelude.{option_map};
-    ghost use Rattle.tablebuilder.specs.Commands.{CommandValue};
+impl<'a> Model for FileName<'a> {
+    ghost use Rattle.std.specs.Prelude.{ℕ, List};
 
-    ghost Value = { CommandValue };
+    ghost Value = { List ℕ };
 
-    ghost view = { λ c. record {
-      classes = c.classes.now;
-      recodes = option_map (λ name. name.now) c.recodes;
-      ptable = c.ptable.now;
-      people = c.people.now;
-      threshold = c.threshold;
-      script = c.script.now;
-    } };
+    ghost view = { λ n. n.text.now };
+}
+
+/// What a command reads before its task: the names of four files, and the threshold. There may be
+/// no recodes.
+#[derive(Drop)]
+pub struct Inputs<'a> {
+    pub classes: FileName<'a>,
+    pub recodes: Option<FileName<'a>>,
+    pub ptable: FileName<'a>,
+    pub people: FileName<'a>,
+    pub threshold: u32,
+}
+
+/// A command: one of several, each with its inputs and its task. `Script` answers the lines of the
+/// script of that name.
+#[derive(Drop)]
+pub enum Command<'a> {
+    Script {
+        inputs: Inputs<'a>,
+        script: FileName<'a>,
+    },
+}
+
+impl<'a> FileName<'a> {
+    // The file of that name.
+    fn of(text: &'a str) -> FileName<'a>
+        ensures { result ≡ text.now }
+    {
+        FileName { text }
+    }
+
+    /// The name's text.
+    pub fn as_str(&self) -> &'a str
+        ensures { result.now ≡ self.now }
+    {
+        self.text
+    }
 }
 
 // Whether an argument may be a file's name.
@@ -55,10 +78,14 @@ fn may_be_recodes(word: &str) -> bool
 }
 
 // The name of the recodes, if there are any.
-fn recodes_name(word: &str) -> Option<&str>
-    ensures { option_map (λ name. name.now) result ≡ name_of_recodes word.now }
+fn recodes_name(word: &str) -> Option<FileName<'_>>
+    ensures { result ≡ name_of_recodes word.now }
 {
-    if word == "-" { None } else { Some(word) }
+    if word == "-" {
+        None
+    } else {
+        Some(FileName::of(word))
+    }
 }
 
 fn read_threshold(word: &str) -> Option<u32>
@@ -72,6 +99,57 @@ fn read_threshold(word: &str) -> Option<u32>
     }
 }
 
+// The inputs that the arguments `CLASSES RECODES PTABLE PEOPLE THRESHOLD` name, RECODES being a
+// file's name or `-`.
+fn read_inputs<'a>(
+    classes: &'a str,
+    recodes: &'a str,
+    ptable: &'a str,
+    people: &'a str,
+    threshold: &str,
+) -> Option<Inputs<'a>>
+    ensures { result
+        ≡ inputs_named classes.now recodes.now ptable.now people.now threshold.now }
+{
+    if !is_file_name(classes) || !may_be_recodes(recodes) {
+        return None;
+    }
+    if !is_file_name(ptable) || !is_file_name(people) {
+        return None;
+    }
+    Some(Inputs {
+        classes: FileName::of(classes),
+        recodes: recodes_name(recodes),
+        ptable: FileName::of(ptable),
+        people: FileName::of(people),
+        threshold: read_threshold(threshold)?,
+    })
+}
+
+// The command `script` with the arguments after it.
+fn read_script<'a>(
+    classes: &'a str,
+    recodes: &'a str,
+    ptable: &'a str,
+    people: &'a str,
+    threshold: &str,
+    script: &'a str,
+) -> Option<Command<'a>>
+    ensures { result
+        ≡ script_named classes.now recodes.now ptable.now people.now threshold.now script.now }
+{
+    if !is_file_name(script) {
+        return None;
+    }
+    match read_inputs(classes, recodes, ptable, people, threshold) {
+        Some(inputs) => Some(Command::Script {
+            inputs,
+            script: FileName::of(script),
+        }),
+        None => None,
+    }
+}
+
 /// What the arguments `script CLASSES RECODES PTABLE PEOPLE THRESHOLD SCRIPT` ask for, RECODES
 /// being a file's name or `-`. None at all other arguments.
 pub fn read_command(words: &[String]) -> Option<Command<'_>>
@@ -80,22 +158,15 @@ pub fn read_command(words: &[String]) -> Option<Command<'_>>
     let [command, classes, recodes, ptable, people, threshold, script] = words else {
         return None;
     };
-    if command.as_str() != "script" || !may_be_recodes(recodes.as_str()) {
+    if command.as_str() != "script" {
         return None;
     }
-    if !is_file_name(classes.as_str())
-        || !is_file_name(ptable.as_str())
-        || !is_file_name(people.as_str())
-        || !is_file_name(script.as_str())
-    {
-        return None;
-    }
-    Some(Command {
-        classes: classes.as_str(),
-        recodes: recodes_name(recodes.as_str()),
-        ptable: ptable.as_str(),
-        people: people.as_str(),
-        threshold: read_threshold(threshold.as_str())?,
-        script: script.as_str(),
-    })
+    read_script(
+        classes.as_str(),
+        recodes.as_str(),
+        ptable.as_str(),
+        people.as_str(),
+        threshold.as_str(),
+        script.as_str(),
+    )
 }

@@ -1,9 +1,7 @@
 // How a run ends before the first line of its script, and the last line that it then writes.
 
-ghost use Rattle.std.specs.Prelude.{◌≡◌, ◌≤◌};
-ghost use Rattle.tb_io.specs.Faults.{HasRisen};
-ghost use Rattle.tb_io.specs.Taken.{Took, TookPart};
-ghost use Rattle.tb_io.specs.declared.answers.Wrote.TheVariants as wrote;
+ghost use Rattle.std.specs.Prelude.{◌≡◌};
+ghost use Rattle.tb_io.specs.Taken.{IsWritten};
 ghost use Rattle.tablebuilder.specs.Asking.{file_end, input_of as input_of_file};
 ghost use Rattle.tablebuilder.specs.Endings.{input_name, input_status, last_line, refusal_line, status_of};
 ghost use Rattle.tablebuilder.specs.declared.endings.End.TheVariants as end;
@@ -119,12 +117,8 @@ impl End {
 
     /// Writes the last line of the run. It takes no memory.
     pub fn write_last_line<O: Sink>(&self, out: &mut O) -> Wrote
-        ensures count { O.faults out.old ≤ O.faults out.new }
-        ensures failed { result ≡ wrote.Failed → HasRisen (O.faults out.old) (O.faults out.new) }
-        ensures all { result ≡ wrote.All
-            → Took (O.taken out.old) (O.taken out.new) (last_line self.now) }
-        ensures part { result ≡ wrote.Failed
-            → TookPart (O.taken out.old) (O.taken out.new) (last_line self.now) }
+        ensures written { IsWritten result (O.faults out.old) (O.faults out.new)
+            (O.taken out.old) (O.taken out.new) (last_line self.now) }
     {
         match self {
             End::Usage => out.write(b"fault usage\n"),
@@ -174,12 +168,8 @@ impl Input {
 
 // Writes the line for a file that is refused.
 fn write_refusal<O: Sink>(out: &mut O, file: Input, name: &FaultName, at: u32) -> Wrote
-    ensures count { O.faults out.old ≤ O.faults out.new }
-    ensures failed { result ≡ wrote.Failed → HasRisen (O.faults out.old) (O.faults out.new) }
-    ensures all { result ≡ wrote.All
-        → Took (O.taken out.old) (O.taken out.new) (refusal_line file name.now at) }
-    ensures part { result ≡ wrote.Failed
-        → TookPart (O.taken out.old) (O.taken out.new) (refusal_line file name.now at) }
+    ensures written { IsWritten result (O.faults out.old) (O.faults out.new)
+        (O.taken out.old) (O.taken out.new) (refusal_line file name.now at) }
 {
     let mut first = [0; 10];
     let mut second = [0; 10];

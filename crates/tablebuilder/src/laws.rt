@@ -9,13 +9,17 @@ ghost use Rattle.tablebuilder.specs.Promises.{IsDefined, defined_status};
 
 use crate::top::tablebuilder;
 use std::alloc::Global;
+use std::sync::Wait;
 use std::sync::ledger::Ledger;
+use std::thread::Threads;
 use tb_base::{Status, Steps};
 use tb_io::{MemFiles, MemSink, SureFiles, SureSink};
 
 /// Runs one command over files and a sink whose counts of faults are the constant 0: no fault of
-/// the outside can come, and the status is the one that the arguments and the files define, or Memory.
+/// the outside can come, and the status is the one that the arguments and the files define, or
+/// Memory.
 pub fn run_surely<L: Ledger>(
+    rt: &(impl Threads + Wait + Sync),
     alloc: Global,
     words: &[String],
     files: &mut SureFiles,
@@ -29,12 +33,13 @@ pub fn run_surely<L: Ledger>(
         (asked_of (λ name. Some (bytes_or_none files.old name)) (map string_bytes words.now)))
         ⊎ (result ≡ status.Memory) }
 {
-    tablebuilder(alloc, words, files, out, steps)
+    tablebuilder(rt, alloc, words, files, out, steps)
 }
 
 /// Runs one command over files and a sink in memory, of which some readings fail and which takes no
 /// more than its bound: the bytes that it adds to those of the sink are told outright.
 pub fn run_in_memory<L: Ledger>(
+    rt: &(impl Threads + Wait + Sync),
     alloc: Global,
     words: &[String],
     files: &mut MemFiles,
@@ -52,5 +57,5 @@ pub fn run_in_memory<L: Ledger>(
         let call = memory_call arguments files.old files.new out.old out.new steps.old steps.new in
         IsDefined call (bytes_of files.old.held) result }
 {
-    tablebuilder(alloc, words, files, out, steps)
+    tablebuilder(rt, alloc, words, files, out, steps)
 }

@@ -1,23 +1,20 @@
 // The files of a run, read in their order.
 
-ghost use Rattle.std.specs.Prelude.{◌≡◌, ◌≤◌, [], ℕ, suc, List, Option, length, IfOk, option_map};
+ghost use Rattle.std.specs.Prelude.{◌≡◌, ◌≤◌, [], ◌∷◌, ◌++◌, Option, length, IfOk, option_map};
 ghost use Rattle.tb_base.specs.declared.people.TheConstants.{MOST_PERSONS};
 ghost use Rattle.tb_base.specs.Records.{AllFit};
 ghost use Rattle.tb_model.specs.Releases.{first_release};
 ghost use Rattle.tb_model.specs.Schemas.{shape_of};
-ghost use Rattle.tb_model.specs.Setups.{SetupValue};
+ghost use Rattle.tablebuilder.specs.declared.command.Command.TheVariants as command;
 ghost use Rattle.tablebuilder.specs.declared.endings.Input.TheVariants as input;
-ghost use Rattle.tablebuilder.specs.Asking.{asked_over, bytes_in, contents_at, input_place, most_bytes, people_in, perturbation_in, recodes_in, schema_in, script_in};
-ghost use Rattle.tablebuilder.specs.Loading.{Loads, asked_value, reading};
-ghost use Rattle.tablebuilder.specs.Promises.{class_readings, readings_before};
-ghost use Rattle.tb_script.specs.Setups.{setup_value};
+ghost use Rattle.tablebuilder.specs.Asking.{asked_over, bytes_in, census_in, input_place, most_bytes, people_in, perturbation_in, recodes_in, schema_in, script_in};
+ghost use Rattle.tablebuilder.specs.Commands.{class_files, files_of, input_files, named, recodes_files};
+ghost use Rattle.tablebuilder.specs.Loading.{AskedIsFirst, IsFirst, Loads, asked_value, census_value, reading};
 
-use crate::command::Command;
+use crate::command::{Command, FileName, Inputs};
 use crate::endings::{End, Input};
 use std::alloc::Global;
-use std::sync::Arc;
-use tb_base::{Memory, People, Shape};
-use tb_core::Desk;
+use tb_base::People;
 use tb_io::{FileRead, Files};
 use tb_ptable::PTable;
 use tb_records::read_people;
@@ -29,15 +26,17 @@ use tb_text::Setup;
 /// The most bytes that a file may have, the script apart: 256 MiB.
 pub const MOST_BYTES: u64 = 268_435_456;
 
-/// How many cubes the desk may keep at the start.
-pub const FIRST_CAPACITY: u32 = 64;
-
-/// What a run is asked for: the setup, the desk at the microdata's release 0, and the script.
+/// A census: the setup, and release 0 of the microdata.
 #[derive(Drop)]
-pub struct Asked {
+pub struct Census {
     pub setup: Setup,
-    pub desk: Desk,
-    pub script: Script,
+    pub release: Release,
+}
+
+/// What a run is asked for over a census: to answer the lines of a script.
+#[derive(Drop)]
+pub enum Asked {
+    Script { census: Census, script: Script },
 }
 
 fn most_bytes_of(file: Input) -> u64
@@ -49,26 +48,22 @@ fn most_bytes_of(file: Input) -> u64
     }
 }
 
-// The bytes of one of the files, which has this name.
+// The bytes of an input, whose file has this name.
 fn read_bytes<F: Files>(
     alloc: Global,
     files: &mut F,
-    command: &Command<'_>,
     file: Input,
-    name: &str,
+    name: &FileName<'_>,
 ) -> Result<Vec<u8>, End>
-    requires { (at : List ℕ → Option (List ℕ)) → contents_at at command.now file ≡ at name.now }
     ensures within { IfOk result (λ bytes. length bytes.items ≤ most_bytes file) }
     ensures loads { Loads
         (reading F.content F.faults F.readings files.old files.new)
-        command.now
         (input_place file)
-        (readings_before command.now file)
-        (suc (readings_before command.now file))
+        (named file name.now ∷ [])
         (λ bytes. bytes.items)
         (λ contents. bytes_in file (contents file)) result }
 {
-    match files.read(alloc, name, most_bytes_of(file)) {
+    match files.read(alloc, name.as_str(), most_bytes_of(file)) {
         FileRead::Bytes(bytes) => Ok(bytes),
         FileRead::TooLong => Err(End::TooLong(file)),
         FileRead::Failed => Err(End::Unread(file)),
@@ -76,23 +71,21 @@ fn read_bytes<F: Files>(
     }
 }
 
-// The bytes of the recodes, where the command names them.
+// The bytes of the recodes, where they are named.
 fn read_recodes<F: Files>(
     alloc: Global,
     files: &mut F,
-    command: &Command<'_>,
+    name: &Option<FileName<'_>>,
 ) -> Result<Option<Vec<u8>>, End>
     ensures loads { Loads
         (reading F.content F.faults F.readings files.old files.new)
-        command.now
         1
-        1
-        (class_readings command.now)
+        (recodes_files name.now)
         (option_map (λ bytes. bytes.items))
-        (recodes_in command.now.recodes) result }
+        (recodes_in name.now) result }
 {
-    match command.recodes {
-        Some(name) => Ok(Some(read_bytes(alloc, files, command, Input::Recodes, name)?)),
+    match name {
+        Some(name) => Ok(Some(read_bytes(alloc, files, Input::Recodes, name)?)),
         None => Ok(None),
     }
 }
@@ -107,94 +100,89 @@ fn bytes_of(file: &Option<Vec<u8>>) -> Option<&[u8]>
 }
 
 // The classification and the recodes, both read before either is checked.
-fn load_schema<F: Files>(alloc: Global, files: &mut F, command: &Command<'_>) -> Result<Schema, End>
+fn load_schema<F: Files>(alloc: Global, files: &mut F, inputs: &Inputs<'_>) -> Result<Schema, End>
     ensures loads { Loads
         (reading F.content F.faults F.readings files.old files.new)
-        command.now
         0
-        0
-        (class_readings command.now)
+        (class_files inputs.now)
         (λ schema. schema)
-        (schema_in command.now.recodes) result }
+        (schema_in inputs.now.recodes) result }
 {
-    let classes = read_bytes(alloc, files, command, Input::Classes, command.classes)?;
-    let recodes = read_recodes(alloc, files, command)?;
+    let classes = read_bytes(alloc, files, Input::Classes, &inputs.classes)?;
+    let recodes = read_recodes(alloc, files, &inputs.recodes)?;
     Ok(Schema::read(alloc, &classes, bytes_of(&recodes))?)
 }
 
-fn load_ptable<F: Files>(alloc: Global, files: &mut F, command: &Command<'_>) -> Result<PTable, End>
+fn load_ptable<F: Files>(alloc: Global, files: &mut F, name: &FileName<'_>) -> Result<PTable, End>
     ensures loads { Loads
         (reading F.content F.faults F.readings files.old files.new)
-        command.now
         2
-        (class_readings command.now)
-        (suc (class_readings command.now))
+        (named input.Ptable name.now ∷ [])
         (λ lines. lines)
         perturbation_in result }
 {
-    let bytes = read_bytes(alloc, files, command, Input::Ptable, command.ptable)?;
+    let bytes = read_bytes(alloc, files, Input::Ptable, name)?;
     match PTable::read(alloc, &bytes) {
         Ok(ptable) => Ok(ptable),
         Err(fault) => Err(End::of(Input::Ptable, fault)),
     }
 }
 
-// The desk at release 0 of some persons, which keeps no cube yet.
-fn desk_of(alloc: Global, shape: &Shape, people: People) -> Result<Desk, Memory>
-    requires few { length people ≤ MOST_PERSONS }
-    requires fit { AllFit shape.now people }
-    ensures shape { IfOk result (λ desk. desk.shape ≡ shape.now) }
-    ensures base { (setup : SetupValue) → IfOk result
-        (λ desk. desk.base ≡ first_release setup people) }
-    ensures chain { IfOk result (λ desk. desk.chain ≡ []) }
-{
-    let release = Release::first(alloc, people)?;
-    let release = Arc::new(alloc, release)?;
-    let desk = Desk::new(alloc, shape, release, FIRST_CAPACITY)?;
-    Ok(desk)
-}
-
-// The desk at the microdata's release 0.
+// The persons of the microdata. The bytes of the file are freed at the return.
 fn load_people<F: Files>(
     alloc: Global,
     files: &mut F,
-    command: &Command<'_>,
+    name: &FileName<'_>,
     schema: &Schema,
-) -> Result<Desk, End>
-    ensures shape { IfOk result (λ desk. desk.shape ≡ shape_of schema.now) }
-    ensures first { (setup : SetupValue) → IfOk result
-        (λ desk. desk.base ≡ first_release setup desk.base.records) }
-    ensures chain { IfOk result (λ desk. desk.chain ≡ []) }
+) -> Result<People, End>
+    ensures few { IfOk result (λ people. length people ≤ MOST_PERSONS) }
+    ensures fit { IfOk result (λ people. AllFit (shape_of schema.now) people) }
     ensures loads { Loads
         (reading F.content F.faults F.readings files.old files.new)
-        command.now
         3
-        (suc (class_readings command.now))
-        (suc (suc (class_readings command.now)))
-        (λ desk. desk.base.records)
+        (named input.People name.now ∷ [])
+        (λ people. people)
         (people_in schema.now) result }
 {
-    let bytes = read_bytes(alloc, files, command, Input::People, command.people)?;
+    let bytes = read_bytes(alloc, files, Input::People, name)?;
     match read_people(alloc, schema, &bytes) {
-        Ok(people) => match desk_of(alloc, schema.shape(), people) {
-            Ok(desk) => Ok(desk),
-            Err(Memory) => Err(End::Memory),
-        },
+        Ok(people) => Ok(people),
         Err(fault) => Err(End::of(Input::People, fault)),
     }
 }
 
-fn load_script<F: Files>(alloc: Global, files: &mut F, command: &Command<'_>) -> Result<Script, End>
+// The setup and release 0, which is made when no file's bytes are held any more.
+fn load_census<F: Files>(alloc: Global, files: &mut F, inputs: &Inputs<'_>) -> Result<Census, End>
+    ensures first { IfOk result IsFirst }
     ensures loads { Loads
         (reading F.content F.faults F.readings files.old files.new)
-        command.now
+        0
+        (input_files inputs.now)
+        census_value
+        (census_in inputs.now) result }
+{
+    let schema = load_schema(alloc, files, inputs)?;
+    let ptable = load_ptable(alloc, files, &inputs.ptable)?;
+    let people = load_people(alloc, files, &inputs.people, &schema)?;
+    let release = Release::first(alloc, people)?;
+    let threshold = inputs.threshold;
+    let setup = Setup {
+        schema,
+        ptable,
+        threshold,
+    };
+    Ok(Census { setup, release })
+}
+
+fn load_script<F: Files>(alloc: Global, files: &mut F, name: &FileName<'_>) -> Result<Script, End>
+    ensures loads { Loads
+        (reading F.content F.faults F.readings files.old files.new)
         4
-        (suc (suc (class_readings command.now)))
-        (suc (suc (suc (class_readings command.now))))
+        (named input.Script name.now ∷ [])
         (λ script. script)
         script_in result }
 {
-    let bytes = read_bytes(alloc, files, command, Input::Script, command.script)?;
+    let bytes = read_bytes(alloc, files, Input::Script, name)?;
     match Script::read(alloc, &bytes) {
         Ok(script) => Ok(script),
         Err(ScriptFault::Line(line)) => Err(End::BadLine(line)),
@@ -202,35 +190,39 @@ fn load_script<F: Files>(alloc: Global, files: &mut F, command: &Command<'_>) ->
     }
 }
 
-/// Reads the files of a command: CLASSES and RECODES, both before either is checked, then PTABLE,
-/// PEOPLE and SCRIPT, each checked before the next is read. It takes memory for each file while it
-/// is read, and for what it says.
-pub fn load<F: Files>(alloc: Global, files: &mut F, command: &Command<'_>) -> Result<Asked, End>
-    ensures shape { IfOk result (λ asked. asked.desk.shape ≡ shape_of asked.setup.schema) }
-    ensures first { IfOk result (λ asked. asked.desk.base
-        ≡ first_release (setup_value asked.setup) asked.desk.base.records) }
-    ensures chain { IfOk result (λ asked. asked.desk.chain ≡ []) }
+// The census and the script of that name, which is read last.
+fn load_for_script<F: Files>(
+    alloc: Global,
+    files: &mut F,
+    inputs: &Inputs<'_>,
+    script: &FileName<'_>,
+) -> Result<Asked, End>
+    ensures first { IfOk result AskedIsFirst }
     ensures loads { Loads
         (reading F.content F.faults F.readings files.old files.new)
-        command.now
         0
+        (files_of (command.Script inputs.now script.now))
+        asked_value
+        (asked_over (command.Script inputs.now script.now)) result }
+{
+    let census = load_census(alloc, files, inputs)?;
+    let script = load_script(alloc, files, script)?;
+    Ok(Asked::Script { census, script })
+}
+
+/// Reads the files of a command: CLASSES and RECODES, both before either is checked, then PTABLE,
+/// PEOPLE and the task's, each checked before the next is read. It takes memory for each file while
+/// it is read, and for what it says.
+pub fn load<F: Files>(alloc: Global, files: &mut F, command: &Command<'_>) -> Result<Asked, End>
+    ensures first { IfOk result AskedIsFirst }
+    ensures loads { Loads
+        (reading F.content F.faults F.readings files.old files.new)
         0
-        (suc (suc (suc (class_readings command.now))))
+        (files_of command.now)
         asked_value
         (asked_over command.now) result }
 {
-    let schema = load_schema(alloc, files, command)?;
-    let ptable = load_ptable(alloc, files, command)?;
-    let desk = load_people(alloc, files, command, &schema)?;
-    let script = load_script(alloc, files, command)?;
-    let threshold = command.threshold;
-    Ok(Asked {
-        setup: Setup {
-            schema,
-            ptable,
-            threshold,
-        },
-        desk,
-        script,
-    })
+    match command {
+        Command::Script { inputs, script } => load_for_script(alloc, files, inputs, script),
+    }
 }

@@ -2,7 +2,10 @@
 //! scratch over the records and perturbed by the cell key method.
 //!
 //! The top call is `top::tablebuilder`; its contract tells, for each status, what was written
-//! (`specs/Promises`).
+//! (`specs/Promises`). A command is one of several, each with its inputs and a task
+//! (`specs/Commands`); what it asks for over its files is a function (`specs/Asking`), what is
+//! answered a relation (`specs/Outputs`). Of the lemmas `proofs/CommandWords` serves the reading of
+//! the arguments, `LoadSteps` that of the files, step after step, and `Finishing` the top call.
 #![tactic(auto)]
 
 mod command;
@@ -19,7 +22,9 @@ use std::io::ErrorKind;
 use std::marker::Brand;
 use std::process::ExitCode;
 use std::rt::{Env, Files as FileSystem};
+use std::sync::Wait;
 use std::sync::ledger::{Blank, Ledger};
+use std::thread::Threads;
 use std::{env, io};
 use tb_base::{Status, Steps};
 use tb_io::{RealFiles, RealSink, Wrote};
@@ -38,7 +43,7 @@ fn arguments<R: Env + AllocGlobal>(rt: &R) -> io::Result<Vec<String>> {
 
 // Runs the command of the arguments over the system's files, writing into `out`, with a counter of
 // its own.
-fn run_command<R: Env + FileSystem + Print + AllocGlobal, L: Ledger>(
+fn run_command<R: Env + FileSystem + Print + AllocGlobal + Threads + Wait + Sync, L: Ledger>(
     rt: &R,
     out: &mut RealSink<'_, R>,
     blank: Blank,
@@ -54,10 +59,17 @@ fn run_command<R: Env + FileSystem + Print + AllocGlobal, L: Ledger>(
         Err(_) => return top::end_by(&End::Usage, out),
     };
     let mut steps = Steps::<L>::new(blank);
-    top::tablebuilder(rt.alloc(), &words, &mut RealFiles::new(rt), out, &mut steps)
+    top::tablebuilder(
+        rt,
+        rt.alloc(),
+        &words,
+        &mut RealFiles::new(rt),
+        out,
+        &mut steps,
+    )
 }
 
-fn run<R: Env + FileSystem + Print + AllocGlobal>(rt: &R) -> Status {
+fn run<R: Env + FileSystem + Print + AllocGlobal + Threads + Wait + Sync>(rt: &R) -> Status {
     let Ok(mut out) = RealSink::new(rt, rt.alloc()) else {
         return Status::Memory;
     };

@@ -1,23 +1,29 @@
-use Rattle.std.proofs.Common.{◌≡◌, ◌∙◌, ap, sym, List, [], Ok}
-use Rattle.tb_base.specs.declared.records.Record.{Record}
-use Rattle.tb_model.specs.Releases.{first_release}
-use Rattle.tb_model.specs.Setups.{SetupValue}
+use Rattle.std.proofs.Common.{◌≡◌, ap, Ok}
+use Rattle.std.proofs.lemmas.Result.{err_from_is_err_and}
+use Rattle.tablebuilder.specs.declared.endings.Input.TheVariants as input
 use Rattle.tb_records.specs.Kinds.{fault_name as people_name}
 use Rattle.tb_records.specs.People.{people_of}
-use Rattle.tablebuilder.specs.declared.endings.Input.TheVariants as input
 use Rattle.tablebuilder.specs.Asking.{bytes_in, file_end, or_end}
-use Rattle.tablebuilder.proofs.LoadSteps.{Loads-ends}
+use Rattle.tablebuilder.proofs.LoadSteps.{Loads-ends, Loads-fails, Loads-refused}
 use Rattle.tablebuilder.proofs.load.load_people.Goals as goal
 
-pub returns-in-Ok-desk_of-clause-first : goal.returns-in-Ok-desk_of-clause-first
-returns-in-Ok-desk_of-clause-first g c = λ setup.
-    c.in-Ok-desk_of.ensures.base setup ∙ ap (λ (rs : List Record). first_release setup rs) (sym (ap (λ r. r.records) (c.in-Ok-desk_of.ensures.base setup)))
+pub returns-in_err-bytes-clause-loads : goal.returns-in_err-bytes-clause-loads
+returns-in_err-bytes-clause-loads g c =
+    let p = err_from_is_err_and c.from_residual.result c.from_residual.ensures.1 in
+    rw (p.1, p.2) (Loads-fails (λ bytes. bytes.items) (λ people. people) (λ contents. bytes_in input.People (contents input.People))
+    (λ contents bytes. or_end (file_end input.People people_name) (people_of c.args.schema.now bytes)) c.in_err-bytes.ensures.loads)
 
-pub returns-in-Ok-desk_of-clause-loads : goal.returns-in-Ok-desk_of-clause-loads
-returns-in-Ok-desk_of-clause-loads g c =
-    let schema = c.args.schema.now in
-    let setup : SetupValue = record { schema = schema; lines = []; threshold = 0 } in
-    let same : c.in-Ok-desk_of.desk.base.records ≡ c.in-Ok.people = ap (λ r. r.records) (c.in-Ok-desk_of.ensures.base setup) in
-    let read : people_of schema c.in_ok-bytes.bytes.items ≡ Ok c.in-Ok-desk_of.desk.base.records = rw (← c.deref.ensures.value, same) c.in-Ok.ensures.ok in
-    Loads-ends (λ bytes. bytes.items) (λ desk. desk.base.records) (λ contents. bytes_in input.People (contents input.People)) (λ contents bytes. or_end (file_end input.People people_name) (people_of schema bytes))
-    c.in_ok-bytes.bytes c.in-Ok-desk_of.desk (λ contents. ap (or_end (file_end input.People people_name)) read) c.in_ok-bytes.ensures.loads
+pub returns-in-Ok-clause-loads : goal.returns-in-Ok-clause-loads
+returns-in-Ok-clause-loads g c =
+    let read : people_of c.args.schema.now c.in_ok-bytes.bytes.items ≡ Ok c.in-Ok.people = rw
+    (← c.deref.ensures.value) c.in-Ok.ensures.ok in
+    Loads-ends (λ bytes. bytes.items) (λ people. people) (λ contents. bytes_in input.People (contents input.People))
+    (λ contents bytes. or_end (file_end input.People people_name)
+    (people_of c.args.schema.now bytes)) c.in_ok-bytes.bytes c.in-Ok.people
+    (λ contents. ap (or_end (file_end input.People people_name)) read) c.in_ok-bytes.ensures.loads
+
+pub returns-clause-loads : goal.returns-clause-loads
+returns-clause-loads g c =
+    rw c.of.ensures (Loads-refused (λ bytes. bytes.items) (λ people. people) input.People people_name
+    (people_of c.args.schema.now) c.in_ok-bytes.bytes c.in-Err.fault
+    (rw (← c.deref.ensures.value) c.in-Err.ensures.refused) c.in_ok-bytes.ensures.loads)

@@ -1,0 +1,19 @@
+-- The arguments of a command, one by one.
+use Rattle.std.proofs.Common.{◌≡◌, ◌∙◌, ap, sym, refl, ℕ, ◌<◌, List, [], length, map, Bool, true, false, not}
+use Rattle.std.specs.Prelude.{bytes_eq, codes, get_or}
+use Rattle.std.proofs.lemmas.List.{get_or-map}
+use Rattle.tablebuilder.specs.Commands.{command_of, script_named, word_at}
+
+pub word-read : {S : Type 0} (words : List S) (f : S → List ℕ) (i : ℕ) (s : S) (text : List ℕ) → i < length words → s ≡ get_or words i s
+    → text ≡ f s → word_at (map f words) i ≡ text
+word-read words f i s text below is told = get_or-map f words i s [] below ∙ ap f (sym is) ∙ sym told
+
+pub is-equal : (b : Bool) → false ≡ not b → b ≡ true
+is-equal true h = refl
+is-equal false h = cc
+
+pub command-named : (words : List (List ℕ)) (a b c d e f g : List ℕ) → length words ≡ 7 → word_at words 0 ≡ a → bytes_eq a
+    (codes "script") ≡ true
+    → word_at words 1 ≡ b → word_at words 2 ≡ c → word_at words 3 ≡ d → word_at words 4 ≡ e → word_at words 5 ≡ f → word_at words 6 ≡ g
+    → script_named b c d e f g ≡ command_of words
+command-named words a b c d e f g len first is h1 h2 h3 h4 h5 h6 = rw (len, first, is, h1, h2, h3, h4, h5, h6) refl
