@@ -1,148 +1,56 @@
-// What no clause says: runs with ample memory, their numbers worked out by hand.
+// A run of events with ample memory, worked by hand.
 
-use crate::forming::{release_of, shape};
 use std::alloc::Global;
 use std::test::Fail;
 use tb_base::{Memory, VarSet};
-use tb_cache::MOST_ENTRIES;
-use tb_core::{Cells, Desk, Event, Offered, Offers, Outcome, Ran, Replies, Reply, run};
+use tb_core::{Cells, Event, Offered, Offers, Outcome, Ran, Replies, Reply, run};
 use tb_release::{Edit, Edits};
+use tb_small_values::{release, schema};
 
-// What callers and the custodian do. A caller takes the set of one variable, and the custodian
-// drops a person.
-#[derive(Clone, Copy)]
-enum Ask {
-    Take(u32, u16),
-    Work(u32),
-    Offer(u32),
-    Answer(u32),
-    Drop(u32),
+// A caller takes the cube over AREA, or the custodian drops a person.
+enum Deed {
+    Take,
+    Work,
+    Offer,
+    Answer,
+    Drop,
 }
 
-// A caller with the number of its release and its cells, or with want of memory.
-type Want = (u32, Option<(u32, &'static [(u32, u8)])>);
+// Both callers take, the one before person 104 is dropped and the other after it. The other is done
+// first, so the cube that comes late isn't kept. Then 103 is dropped too, and the kept cube is led
+// on. Beside each deed is its caller or its person.
+static DEEDS: [(Deed, u32); 14] = [
+    (Deed::Take, 0),
+    (Deed::Drop, 104),
+    (Deed::Take, 1),
+    (Deed::Work, 1),
+    (Deed::Offer, 1),
+    (Deed::Answer, 1),
+    (Deed::Work, 0),
+    (Deed::Offer, 0),
+    (Deed::Answer, 0),
+    (Deed::Drop, 103),
+    (Deed::Take, 0),
+    (Deed::Work, 0),
+    (Deed::Offer, 0),
+    (Deed::Answer, 0),
+];
 
-// The variables.
-const SEX: u16 = 0;
-
-const AREA: u16 = 2;
-
-// A run over the four: how many cubes are kept at most, how many callers there are, what they and
-// the custodian do, each with whether memory is refused to it, the replies, the answers to offers,
-// the number of the last release, and that of the release whose cube of AREA is kept, if one is.
-struct Case {
-    capacity: u32,
-    callers: u32,
-    asks: &'static [(Ask, bool)],
-    replies: &'static [Want],
-    offers: &'static [Offered],
-    release: u32,
-    kept: Option<u32>,
+fn deeds() -> &'static [(Deed, u32)] {
+    &DEEDS
 }
 
-// Both take AREA, the one before person 104 is dropped and the other after it. The other is done
-// first, so the cube that comes late isn't kept. 200 + 100 = 300, and 300 - 256 = 44.
-static LATE: Case = Case {
-    capacity: 4,
-    callers: 2,
-    asks: &[
-        (Ask::Take(0, AREA), false),
-        (Ask::Drop(104), false),
-        (Ask::Take(1, AREA), false),
-        (Ask::Work(1), false),
-        (Ask::Offer(1), false),
-        (Ask::Answer(1), false),
-        (Ask::Work(0), false),
-        (Ask::Offer(0), false),
-        (Ask::Answer(0), false),
-    ],
-    replies: &[
-        (1, Some((1, &[(2, 44), (1, 20)]))),
-        (0, Some((0, &[(2, 44), (2, 27)]))),
-    ],
-    offers: &[Offered::Kept, Offered::Older(1)],
-    release: 1,
-    kept: Some(1),
-};
+// A caller, the number of its release, and its cells: 200 + 100 = 300, and 300 - 256 = 44.
+type Want = (u32, u32, &'static [(u32, u8)]);
 
-fn late() -> &'static Case {
-    &LATE
-}
+static REPLIES: [Want; 3] = [
+    (1, 1, &[(2, 44), (1, 20)]),
+    (0, 0, &[(2, 44), (2, 27)]),
+    (0, 2, &[(2, 44), (0, 0)]),
+];
 
-// Memory is refused to each kind of event in turn. A caller that gets no cube is idle again, and
-// no batch and no cube is kept.
-static REFUSED: Case = Case {
-    capacity: 4,
-    callers: 1,
-    asks: &[
-        (Ask::Take(0, AREA), true),
-        (Ask::Drop(104), true),
-        (Ask::Take(0, AREA), false),
-        (Ask::Work(0), true),
-        (Ask::Take(0, AREA), false),
-        (Ask::Work(0), false),
-        (Ask::Offer(0), true),
-        (Ask::Answer(0), false),
-    ],
-    replies: &[(0, None), (0, None), (0, Some((0, &[(2, 44), (2, 27)])))],
-    offers: &[Offered::Memory],
-    release: 0,
-    kept: None,
-};
-
-fn refused() -> &'static Case {
-    &REFUSED
-}
-
-// One cube is kept. Both look for AREA in vain, and before the second offers it, SEX took the place
-// of the first's: so the second's is kept too. Then the second takes it one batch behind, SEX takes
-// its place once more, and the second leads it on all the same.
-static REPLACED: Case = Case {
-    capacity: 1,
-    callers: 2,
-    asks: &[
-        (Ask::Take(0, AREA), false),
-        (Ask::Take(1, AREA), false),
-        (Ask::Work(0), false),
-        (Ask::Offer(0), false),
-        (Ask::Answer(0), false),
-        (Ask::Take(0, SEX), false),
-        (Ask::Work(0), false),
-        (Ask::Offer(0), false),
-        (Ask::Answer(0), false),
-        (Ask::Work(1), false),
-        (Ask::Offer(1), false),
-        (Ask::Answer(1), false),
-        (Ask::Drop(104), false),
-        (Ask::Take(1, AREA), false),
-        (Ask::Take(0, SEX), false),
-        (Ask::Work(0), false),
-        (Ask::Offer(0), false),
-        (Ask::Answer(0), false),
-        (Ask::Work(1), false),
-        (Ask::Offer(1), false),
-        (Ask::Answer(1), false),
-    ],
-    replies: &[
-        (0, Some((0, &[(2, 44), (2, 27)]))),
-        (0, Some((0, &[(3, 64), (1, 7)]))),
-        (1, Some((0, &[(2, 44), (2, 27)]))),
-        (0, Some((1, &[(3, 64), (0, 0)]))),
-        (1, Some((1, &[(2, 44), (1, 20)]))),
-    ],
-    offers: &[
-        Offered::Kept,
-        Offered::Kept,
-        Offered::Kept,
-        Offered::Kept,
-        Offered::Kept,
-    ],
-    release: 1,
-    kept: Some(1),
-};
-
-fn replaced() -> &'static Case {
-    &REPLACED
+fn wanted() -> &'static [Want] {
+    &REPLIES
 }
 
 fn are_cells(cells: &Cells, want: &[(u32, u8)]) -> bool {
@@ -159,17 +67,13 @@ fn are_cells(cells: &Cells, want: &[(u32, u8)]) -> bool {
     true
 }
 
-fn is_wanted(reply: &Reply, want: Want) -> bool {
-    let (who, outcome) = want;
-    if reply.who != who {
-        return false;
-    }
+fn is_wanted(reply: &Reply, want: &Want) -> bool {
+    let (who, release, want) = want;
     match &reply.outcome {
-        Outcome::Memory => outcome.is_none(),
-        Outcome::Got { number, cells } => match outcome {
-            Some((release, want)) => *number == release && are_cells(cells, want),
-            None => false,
-        },
+        Outcome::Memory => false,
+        Outcome::Got { number, cells } => {
+            reply.who == *who && *number == *release && are_cells(cells, want)
+        }
     }
 }
 
@@ -178,100 +82,78 @@ fn are_wanted(replies: &Replies, want: &[Want]) -> bool {
         return false;
     }
     for i in 0..replies.len() {
-        if !is_wanted(replies.at(i), want[i]) {
+        if !is_wanted(replies.at(i), &want[i]) {
             return false;
         }
     }
     true
 }
 
-fn are_offers(offers: &Offers, want: &[Offered]) -> bool {
-    if offers.len() != want.len() {
-        return false;
-    }
-    for i in 0..offers.len() {
-        if *offers.at(i) != want[i] {
-            return false;
-        }
-    }
-    true
+fn are_offers(offers: &Offers) -> bool {
+    offers.len() == 3
+        && *offers.at(0) == Offered::Kept
+        && *offers.at(1) == Offered::Older(1)
+        && *offers.at(2) == Offered::Kept
 }
 
-fn take_of(alloc: Global, who: u32, variable: u16, refused: bool) -> Result<Event, Memory> {
-    let vars = VarSet::of(alloc, &[variable])?;
+fn take_of(alloc: Global, who: u32) -> Result<Event, Memory> {
+    let vars = VarSet::of(alloc, &[2])?;
     Ok(Event::Take {
         who,
         vars: Some(vars),
-        refused,
+        refused: false,
     })
 }
 
-fn publish_of(alloc: Global, person: u32, refused: bool) -> Result<Event, Memory> {
+fn publish_of(alloc: Global, person: u32) -> Result<Event, Memory> {
     let mut edits = Edits::new(alloc);
     match edits.push(Edit::Drop { person }) {
-        Ok(()) => Ok(Event::Publish { edits, refused }),
+        Ok(()) => Ok(Event::Publish {
+            edits,
+            refused: false,
+        }),
         Err(_) => Err(Memory),
     }
 }
 
-fn event_of(alloc: Global, ask: Ask, refused: bool) -> Result<Event, Memory> {
-    match ask {
-        Ask::Take(who, variable) => take_of(alloc, who, variable, refused),
-        Ask::Work(who) => Ok(Event::Work { who, refused }),
-        Ask::Offer(who) => Ok(Event::Offer { who, refused }),
-        Ask::Answer(who) => Ok(Event::Answer { who }),
-        Ask::Drop(person) => publish_of(alloc, person, refused),
+fn event_of(alloc: Global, deed: &Deed, who: u32) -> Result<Event, Memory> {
+    match deed {
+        Deed::Take => take_of(alloc, who),
+        Deed::Work => Ok(Event::Work {
+            who,
+            refused: false,
+        }),
+        Deed::Offer => Ok(Event::Offer {
+            who,
+            refused: false,
+        }),
+        Deed::Answer => Ok(Event::Answer { who }),
+        Deed::Drop => publish_of(alloc, who),
     }
 }
 
-// The events of what is asked, each with whether memory is refused to it.
-fn events_of(alloc: Global, asks: &[(Ask, bool)]) -> Result<Vec<Event>, Memory> {
+fn events_of(alloc: Global, deeds: &[(Deed, u32)]) -> Result<Vec<Event>, Memory> {
     let mut events = Vec::new(alloc);
-    for (ask, refused) in asks {
-        events.push(event_of(alloc, *ask, *refused)?)?;
+    for (deed, who) in deeds {
+        events.push(event_of(alloc, deed, *who)?)?;
     }
     Ok(events)
 }
 
-// Whether a desk has this release as its last, and no cube but the one of AREA at that release.
-fn is_left(alloc: Global, desk: &Desk, release: u32, kept: Option<u32>) -> Result<bool, Memory> {
-    let vars = VarSet::of(alloc, &[AREA])?;
-    let stats = desk.stats();
-    let entries = if kept.is_some() { 1 } else { 0 };
-    Ok(stats.release == release && stats.entries == entries && desk.peek(&vars) == kept)
+fn ran_of(alloc: Global, events: &[Event]) -> Result<Ran, Memory> {
+    let schema = schema(alloc)?;
+    let base = release(alloc, &schema)?;
+    run(alloc, schema.shape(), base, 4, 2, events)
 }
 
-fn ran_of(alloc: Global, case: &Case) -> Result<Ran, Memory> {
-    let events = events_of(alloc, case.asks)?;
-    let shape = shape(alloc)?;
-    let base = release_of(alloc, &shape)?;
-    if case.capacity == 0 || case.capacity > MOST_ENTRIES {
-        return Err(Memory);
-    }
-    run(alloc, &shape, base, case.capacity, case.callers, &events)
-}
-
-fn is_right(alloc: Global, case: &Case) -> Result<bool, Memory> {
-    let ran = ran_of(alloc, case)?;
-    let replied = are_wanted(&ran.replies, case.replies) && are_offers(&ran.offers, case.offers);
-    let left = is_left(alloc, &ran.desk, case.release, case.kept)?;
-    Ok(replied && left)
+fn is_right(alloc: Global) -> Result<bool, Memory> {
+    let events = events_of(alloc, deeds())?;
+    let ran = ran_of(alloc, &events)?;
+    Ok(are_wanted(&ran.replies, wanted()) && are_offers(&ran.offers))
 }
 
 #[test]
-fn event_run(rt: HostRuntime) -> Result<(), Fail> {
-    assert!(rt; is_right(rt.alloc(), late())?);
-    Ok(())
-}
-
-#[test]
-fn refused_growths(rt: HostRuntime) -> Result<(), Fail> {
-    assert!(rt; is_right(rt.alloc(), refused())?);
-    Ok(())
-}
-
-#[test]
-fn replaced_while_away(rt: HostRuntime) -> Result<(), Fail> {
-    assert!(rt; is_right(rt.alloc(), replaced())?);
+fn late_cube(rt: HostRuntime) -> Result<(), Fail> {
+    assert!(rt; is_right(rt.alloc())?);
     Ok(())
 }

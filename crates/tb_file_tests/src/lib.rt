@@ -1,20 +1,18 @@
-//! Tests of what stands below a file and of the files: worked numbers, files by their bytes, each
-//! fault with its place, and that ample memory is enough.
+//! Tests of the files: each reader's files by their bytes, each fault with its place, the texts of
+//! faults, names at their limits, and the forms over the system. Each reader is called with ample
+//! memory.
 //!
 //! They call public functions alone. Tests stand in crates of their own since a crate that has
-//! tests is proved twice; a test that needs what its crate keeps for itself stands there, and whole
-//! runs stand in `tablebuilder`.
+//! tests is proved twice. Whole runs stand in `tablebuilder`.
 #![tactic(auto)]
 
 #[cfg(test)]
-mod basics;
-#[cfg(test)]
-mod classifications;
+mod accepted;
 #[cfg(test)]
 mod files;
 #[cfg(test)]
-mod microdata;
+mod printed;
 #[cfg(test)]
-mod perturbation_tables;
+mod refused;
 #[cfg(test)]
-mod small_format;
+mod spelling;

@@ -1,87 +1,214 @@
-// What no clause says: lines in their own words, and that ample memory is enough.
+// Lines that read as an edit, and lines that are refused.
 
-mod accepted;
-mod refused;
-
+use crate::making::schema;
 use std::alloc::Global;
+use std::test::Fail;
 use tb_base::Codes;
-use tb_query::MOST_LINE_BYTES;
 use tb_release::{Edit, Sets};
 use tb_revise::{EditTextFault, read_edit};
 use tb_schema::Schema;
 
-// What a line reads as: an add with the categories of all variables, a drop, an amend with its
-// settings in their order, or a fault by its word.
-pub enum Want {
-    Add(u32, u8, &'static [u16]),
-    Drop(u32),
-    Amend(u32, &'static [(u16, u16)]),
-    Fault(&'static str),
+// Lines and their persons: the edges, and blanks round words.
+static DROPS: [(&'static str, u32); 3] = [
+    ("drop 4294967295", 4294967295),
+    ("drop 0000000009", 9),
+    (" \t drop\t\t101 \t", 101),
+];
+
+fn drops() -> &'static [(&'static str, u32)] {
+    &DROPS
 }
 
-pub type Row = (&'static [u8], Want);
-
-fn are_codes(codes: &Codes, want: &[u16]) -> bool {
-    if codes.len() != want.len() {
-        return false;
-    }
-    for (i, category) in want.iter().enumerate() {
-        if codes.at(i) != *category {
-            return false;
-        }
-    }
-    true
-}
-
-fn are_sets(sets: &Sets, want: &[(u16, u16)]) -> bool {
-    if sets.len() != want.len() {
-        return false;
-    }
-    for (i, pair) in want.iter().enumerate() {
-        let set = sets.at(i);
-        if set.0 != pair.0 || set.1 != pair.1 {
-            return false;
-        }
-    }
-    true
-}
-
-// Whether an edit is the one that is wanted.
-fn is_edit(edit: &Edit, want: &Want) -> bool {
+fn is_drop(edit: &Edit, who: u32) -> bool {
     match edit {
-        Edit::Add { person, key, codes } => match want {
-            Want::Add(p, k, categories) => person == p && key == k && are_codes(codes, categories),
-            _ => false,
-        },
-        Edit::Drop { person } => match want {
-            Want::Drop(p) => person == p,
-            _ => false,
-        },
-        Edit::Amend { person, sets } => match want {
-            Want::Amend(p, pairs) => person == p && are_sets(sets, pairs),
-            _ => false,
-        },
-    }
-}
-
-// Whether a fault has this word.
-fn is_fault(fault: EditTextFault, want: &Want) -> bool {
-    let Some(name) = fault.name() else {
-        return false;
-    };
-    match want {
-        Want::Fault(word) => name.word() == *word,
+        Edit::Drop { person } => *person == who,
         _ => false,
     }
 }
 
-// Whether a line reads as this, or is refused so.
-pub fn is_so(alloc: Global, schema: &Schema, line: &[u8], want: &Want) -> bool {
-    if line.len() > MOST_LINE_BYTES {
+#[test]
+fn drops_are_read(rt: HostRuntime) -> Result<(), Fail> {
+    let schema = schema(rt.alloc())?;
+    for (line, who) in drops() {
+        let edit = read_edit(rt.alloc(), &schema, line.as_bytes())?;
+        assert!(rt; is_drop(&edit, *who), "{line}");
+    }
+    Ok(())
+}
+
+// A line, its person and key, and the categories of SEX, AGE and AREA.
+type Added = (&'static str, u32, u8, u16, u16, u16);
+
+static ADDS: [Added; 3] = [
+    ("  add\t200   9\tSEX=1\tAGE=65+\tAREA=E1  ", 200, 9, 0, 2, 0),
+    (
+        "add 4294967295 255 AGE=0-15 AREA=E2 SEX=1",
+        4294967295,
+        255,
+        0,
+        0,
+        1,
+    ),
+    (
+        "add 0000000001 0000000255 AGE=65+ SEX=2 AREA=E1",
+        1,
+        255,
+        1,
+        2,
+        0,
+    ),
+];
+
+fn adds() -> &'static [Added] {
+    &ADDS
+}
+
+fn are_codes(codes: &Codes, sex: u16, age: u16, area: u16) -> bool {
+    if codes.len() != 3 {
         return false;
     }
-    match read_edit(alloc, schema, line) {
-        Ok(edit) => is_edit(&edit, want),
-        Err(fault) => is_fault(fault, want),
+    codes.at(0) == sex && codes.at(1) == age && codes.at(2) == area
+}
+
+fn is_add(edit: &Edit, row: &Added) -> bool {
+    let (_, who, with, sex, age, area) = row;
+    match edit {
+        Edit::Add { person, key, codes } => {
+            *person == *who && *key == *with && are_codes(codes, *sex, *age, *area)
+        }
+        _ => false,
     }
+}
+
+#[test]
+fn adds_are_read(rt: HostRuntime) -> Result<(), Fail> {
+    let schema = schema(rt.alloc())?;
+    for row in adds() {
+        let edit = read_edit(rt.alloc(), &schema, row.0.as_bytes())?;
+        assert!(rt; is_add(&edit, row), "{}", row.0);
+    }
+    Ok(())
+}
+
+// Whether the settings are these, in this order.
+fn are_sets(sets: &Sets, want: &[(u16, u16)]) -> bool {
+    if sets.len() != want.len() {
+        return false;
+    }
+    for i in 0..sets.len() {
+        if sets.at(i) != want[i] {
+            return false;
+        }
+    }
+    true
+}
+
+fn is_amend(edit: &Edit, who: u32, settings: &[(u16, u16)]) -> bool {
+    match edit {
+        Edit::Amend { person, sets } => *person == who && are_sets(sets, settings),
+        _ => false,
+    }
+}
+
+#[test]
+fn amends_are_read(rt: HostRuntime) -> Result<(), Fail> {
+    let schema = schema(rt.alloc())?;
+    let blanks = read_edit(rt.alloc(), &schema, b"amend  200\tAGE=65+\t SEX=2\t")?;
+    assert!(rt; is_amend(&blanks, 200, &[(1, 2), (0, 1)]));
+    let three = read_edit(rt.alloc(), &schema, b"amend 101 AREA=E2 SEX=2 AGE=16-64")?;
+    assert!(rt; is_amend(&three, 101, &[(2, 1), (0, 1), (1, 1)]));
+    Ok(())
+}
+
+// Lines, and the number and the word of their first fault.
+type Refused = (&'static [u8], u8, &'static str);
+
+static REFUSED: [Refused; 40] = [
+    // No word, or none of an edit; a byte that is no text; a word is missing, or one too many; a
+    // setting without `=`.
+    (b" \t ", 1, "Syntax"),
+    (b"Drop 101", 1, "Syntax"),
+    (b"amends 101 SEX=1", 1, "Syntax"),
+    (b"drop 101\r", 1, "Syntax"),
+    (b"amend 101 SEX=\xFF", 1, "Syntax"),
+    (b"drop", 1, "Syntax"),
+    (b"add 300", 1, "Syntax"),
+    (b"amend 101", 1, "Syntax"),
+    (b"drop 101 SEX=1", 1, "Syntax"),
+    (b"amend 101 SEX =1", 1, "Syntax"),
+    // No number, and numbers out of range.
+    (b"drop 0000000000", 2, "BadNumber"),
+    (b"drop 4294967296", 2, "BadNumber"),
+    (b"drop 00000000001", 2, "BadNumber"),
+    (b"drop +1", 2, "BadNumber"),
+    (b"add 300 256 SEX=1 AGE=65+ AREA=E1", 2, "BadNumber"),
+    (b"add 300 SEX=1 AGE=65+ AREA=E1", 2, "BadNumber"),
+    // No variable: another case, a recode, nothing.
+    (b"amend 101 sex=1", 3, "UnknownName"),
+    (b"amend 101 AGE2=young", 3, "UnknownName"),
+    (b"amend 101 =1", 3, "UnknownName"),
+    // No code of the variable: another's, a group, a label, more than a code, nothing.
+    (b"amend 101 AGE=7", 4, "UnknownCode"),
+    (b"amend 101 AGE=young", 4, "UnknownCode"),
+    (b"amend 101 SEX=Male", 4, "UnknownCode"),
+    (b"amend 101 SEX=1=2", 4, "UnknownCode"),
+    (b"amend 101 SEX=", 4, "UnknownCode"),
+    // A variable that is set twice, and one that an add doesn't set.
+    (b"amend 101 SEX=1 AGE=65+ SEX=1", 5, "Repeated"),
+    (b"add 300 9 SEX=1 AGE=65+ AREA=E1 AGE=0-15", 5, "Repeated"),
+    (b"add 300 1 SEX=1", 6, "Missing"),
+    (b"add 300 1", 6, "Missing"),
+    // Two faults in one line, each of them first.
+    (b"drop 0 101", 1, "Syntax"),
+    (b"amend 101 FOO=1 SEX", 1, "Syntax"),
+    (b"amend 101 AGE SEX=1 SEX=1", 1, "Syntax"),
+    (b"amend 0 FOO=1", 2, "BadNumber"),
+    (b"add 300 256 AGE=7", 2, "BadNumber"),
+    (b"add 0 9 SEX=1", 2, "BadNumber"),
+    (b"amend 101 AGE=7 FOO=1", 3, "UnknownName"),
+    (b"amend 101 SEX=1 SEX=1 FOO=1", 3, "UnknownName"),
+    (b"add 300 9 SEX=1 FOO=1", 3, "UnknownName"),
+    (b"amend 101 SEX=1 SEX=1 AGE=7", 4, "UnknownCode"),
+    (b"add 300 9 AGE=7", 4, "UnknownCode"),
+    (b"add 300 9 SEX=1 SEX=2", 5, "Repeated"),
+];
+
+fn refused() -> &'static [Refused] {
+    &REFUSED
+}
+
+fn is_fault(fault: EditTextFault, number: u8, word: &str) -> bool {
+    match fault.name() {
+        Some(name) => name.number() == number && name.word() == word,
+        None => false,
+    }
+}
+
+fn is_refused(alloc: Global, schema: &Schema, line: &[u8], number: u8, word: &str) -> bool {
+    match read_edit(alloc, schema, line) {
+        Ok(_) => false,
+        Err(fault) => is_fault(fault, number, word),
+    }
+}
+
+#[test]
+fn edit_refusals(rt: HostRuntime) -> Result<(), Fail> {
+    let schema = schema(rt.alloc())?;
+    for (i, (line, number, word)) in refused().iter().enumerate() {
+        assert!(rt;
+            is_refused(rt.alloc(), &schema, line, *number, word),
+            "{word}, row {i}"
+        );
+    }
+    Ok(())
+}
+
+#[test]
+fn text_of_edit_fault(rt: HostRuntime) -> Result<(), Fail> {
+    let text = format!(in rt.alloc(); "{}; {}", EditTextFault::Repeated, EditTextFault::Memory)?;
+    assert_eq!(rt;
+        text.as_str(),
+        "a variable must not be set twice; out of memory"
+    );
+    Ok(())
 }

@@ -1,20 +1,117 @@
-// What no clause says: worked tables by their bytes, with ample memory.
+// Worked tables by their bytes, with ample memory.
 
 ghost use Rattle.std.specs.Prelude.{◌≤◌, All, IfOk};
 ghost use Rattle.tb_base.specs.declared.people.TheConstants.{MOST_PERSONS};
 
-use crate::small::{PTABLE, RECODES};
+use crate::making::schema_of;
 use std::alloc::Global;
 use std::test::Fail;
 use tb_base::{Cell, MOST_PERSONS, Memory};
 use tb_ptable::PTable;
-use tb_query::{MOST_LINE_BYTES, read_query};
-use tb_schema::Schema;
+use tb_query::{MOST_QUERY_BYTES, read_query};
+use tb_small::{CLASSES, PTABLE, RECODES};
 use tb_text::{Setup, table_text};
 
-mod rows;
+struct Row {
+    name: &'static str,
+    classes: &'static [u8],
+    threshold: u32,
+    query: &'static [u8],
+    number: u32,
+    cells: &'static [(u32, u8)],
+    text: &'static [u8],
+}
 
-use self::rows::{Row, rows};
+// Labels with quotes, none, more bytes than are copied at once, and a comma.
+const OTHER: &[u8] = b"variable,code,label\nSEX,1,Male\nSEX,2,\nAGE,0-15,\nAGE,16-64,\nAGE,65+,\n\
+    AREA,E1,\"a \"\"b\"\" c\"\nAREA,E2,\nAREA,E3,K\xc3\xb6ln and its surroundings\n\
+    AREA,E4,\"x,y\"\n";
+
+static ROWS: [Row; 5] = [
+    Row {
+        name: "labels_with_commas",
+        classes: CLASSES,
+        threshold: 0,
+        query: b"table AREA by SEX with totals with labels",
+        number: 0,
+        cells: &[
+            (2, 44),
+            (0, 0),
+            (2, 44),
+            (1, 20),
+            (1, 7),
+            (2, 27),
+            (3, 64),
+            (1, 7),
+            (4, 71),
+        ],
+        text: b"release 0\nAREA,SEX,count\n\"North, rural\",Male,2\n\"North, rural\",Female,0\n\
+            \"North, rural\",Total,2\nSouth,Male,1\nSouth,Female,2\nSouth,Total,1\n\
+            Total,Male,1\nTotal,Female,2\nTotal,Total,6\n.\n",
+    },
+    Row {
+        name: "a_group_has_no_label",
+        classes: CLASSES,
+        threshold: 0,
+        query: b"table AGE2 by AREA with labels",
+        number: 1,
+        cells: &[(1, 200), (0, 0), (1, 100), (2, 27)],
+        text: b"release 1\nAGE2,AREA,count\nyoung,\"North, rural\",1\nyoung,South,0\n\
+            old,\"North, rural\",1\nold,South,1\n.\n",
+    },
+    Row {
+        name: "three_dimensions",
+        classes: CLASSES,
+        threshold: 0,
+        query: b"table SEX by AREA by AGE2",
+        number: 4294967295,
+        cells: &[
+            (1, 200),
+            (1, 100),
+            (0, 0),
+            (1, 20),
+            (0, 0),
+            (0, 0),
+            (0, 0),
+            (1, 7),
+        ],
+        text: b"release 4294967295\nSEX,AREA,AGE2,count\n1,E1,young,1\n1,E1,old,1\n1,E2,young,0\n\
+            1,E2,old,1\n2,E1,young,0\n2,E1,old,0\n2,E2,young,0\n2,E2,old,2\n.\n",
+    },
+    Row {
+        name: "labels_of_any_bytes",
+        classes: OTHER,
+        threshold: 8,
+        query: b"table AREA by SEX with labels",
+        number: 12,
+        cells: &[
+            (12, 0),
+            (345, 0),
+            (6789, 0),
+            (10000, 0),
+            (123456, 0),
+            (1000000, 0),
+            (99, 0),
+            (7, 0),
+        ],
+        text: b"release 12\nAREA,SEX,count\n\"a \"\"b\"\" c\",Male,12\n\"a \"\"b\"\" c\",,345\n\
+            ,Male,6789\n,,10000\nK\xc3\xb6ln and its surroundings,Male,123456\n\
+            K\xc3\xb6ln and its surroundings,,1000000\n\"x,y\",Male,99\n\"x,y\",,c\n.\n",
+    },
+    Row {
+        name: "an_empty_label_comes_first",
+        classes: OTHER,
+        threshold: 1,
+        query: b"table SEX with totals with labels",
+        number: 0,
+        cells: &[(9, 0), (10, 0), (0, 0)],
+        text: b"release 0\nSEX,count\nMale,9\n,10\nTotal,c\n.\n",
+    },
+];
+
+fn rows() -> &'static [Row] {
+    &ROWS
+}
 
 // The cells of these counts and keys, if each has few enough persons.
 fn few_cells(alloc: Global, counts: &[(u32, u8)]) -> Result<Vec<Cell>, Memory>
@@ -32,9 +129,7 @@ fn few_cells(alloc: Global, counts: &[(u32, u8)]) -> Result<Vec<Cell>, Memory>
 }
 
 fn setup_of(alloc: Global, row: &Row) -> Result<Setup, Memory> {
-    let Ok(schema) = Schema::read(alloc, row.classes, Some(RECODES)) else {
-        return Err(Memory);
-    };
+    let schema = schema_of(alloc, row.classes, Some(RECODES))?;
     let Ok(ptable) = PTable::read(alloc, PTABLE) else {
         return Err(Memory);
     };
@@ -49,7 +144,7 @@ fn setup_of(alloc: Global, row: &Row) -> Result<Setup, Memory> {
 fn prints(alloc: Global, setup: &Setup, row: &Row, cells: &[Cell]) -> Result<bool, Memory>
     requires { All (λ cell. cell.count ≤ MOST_PERSONS) cells.now }
 {
-    if row.query.len() > MOST_LINE_BYTES {
+    if row.query.len() > MOST_QUERY_BYTES {
         return Ok(false);
     }
     let Ok(query) = read_query(alloc, &setup.schema, row.query) else {

@@ -1,0 +1,5 @@
+use Rattle.tb_answer_tests.proofs.gates.cube_is_built_outside_the_lock.Given as goal
+
+-- the front of the opening
+abbrev pub ghosts-beside : goal.ghosts-beside
+ghosts-beside g a = record { name = a.opening.name }

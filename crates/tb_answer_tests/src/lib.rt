@@ -1,0 +1,14 @@
+//! Tests of lines that are answered over a board: the worked scripts, a cube that is built while
+//! another caller is answered, and a sink that fails.
+#![tactic(auto)]
+
+#[cfg(test)]
+mod asking;
+#[cfg(test)]
+mod gates;
+#[cfg(test)]
+mod making;
+#[cfg(test)]
+mod scripts;
+#[cfg(test)]
+mod sinks;

@@ -1,0 +1,96 @@
+// The small setup, and a board over it.
+
+ghost use Rattle.std.specs.Prelude.{◌≡◌, IfOk};
+ghost use Rattle.tb_base.specs.Records.{AllFit};
+ghost use Rattle.tb_board.specs.Custodians.{IsWhole};
+ghost use Rattle.tb_model.specs.Schemas.{shape_of};
+ghost use Rattle.tb_session.specs.Parties.{IsPartyOf};
+
+use std::alloc::Global;
+use std::sync::Wait;
+use tb_base::Memory;
+use tb_board::{Board, Custodian, Named, Opening};
+use tb_ptable::PTable;
+use tb_records::read_people;
+use tb_release::{Edits, Release};
+use tb_schema::Schema;
+use tb_session::Party;
+use tb_small::{CLASSES, PEOPLE, PTABLE, RECODES};
+use tb_text::Setup;
+
+fn schema(alloc: Global) -> Result<Schema, Memory> {
+    match Schema::read(alloc, CLASSES, Some(RECODES)) {
+        Ok(schema) => Ok(schema),
+        Err(_) => Err(Memory),
+    }
+}
+
+fn ptable(alloc: Global) -> Result<PTable, Memory> {
+    match PTable::read(alloc, PTABLE) {
+        Ok(ptable) => Ok(ptable),
+        Err(_) => Err(Memory),
+    }
+}
+
+pub fn setup(alloc: Global) -> Result<Setup, Memory> {
+    Ok(Setup {
+        schema: schema(alloc)?,
+        ptable: ptable(alloc)?,
+        threshold: 0,
+    })
+}
+
+// Release 0 of four persons.
+fn first(alloc: Global, schema: &Schema) -> Result<Release, Memory>
+    ensures fit { IfOk result (λ r. AllFit (shape_of schema.now) r.records) }
+    ensures number { IfOk result (λ r. r.number ≡ 0) }
+{
+    let Ok(people) = read_people(alloc, schema, PEOPLE) else {
+        return Err(Memory);
+    };
+    let release = Release::first(alloc, people)?;
+    Ok(release)
+}
+
+fn opening_over(alloc: Global, schema: &Schema) -> Result<Opening, Memory>
+    ensures { IfOk result (λ opening. opening.start.shape ≡ shape_of schema.now) }
+{
+    let release = first(alloc, schema)?;
+    Opening::new(alloc, schema.shape(), release, 64)
+}
+
+// A board of four persons, for at most 64 cubes.
+pub fn opening(alloc: Global, setup: &Setup) -> Result<Opening, Memory>
+    ensures { IfOk result (λ opening. opening.start.shape ≡ shape_of setup.now.schema) }
+{
+    opening_over(alloc, &setup.schema)
+}
+
+// An analyst of the custodian's board.
+pub fn analyst<B: Named>(
+    rt: &impl Wait,
+    setup: &Setup,
+    board: &Board<B>,
+    custodian: &mut Custodian,
+) -> Party
+    requires front { custodian.old.writer.name ≡ B.name }
+    requires shape { custodian.old.writer.start.shape ≡ shape_of setup.now.schema }
+    ensures same { custodian.new ≡ custodian.old }
+    ensures party { IsPartyOf B.name (shape_of setup.now.schema) result }
+{
+    let _ = setup;
+    let mut pass = board.pass(rt);
+    board.confirm(custodian, &mut pass);
+    Party::Analyst(pass)
+}
+
+// The custodian, who holds no edits.
+pub fn owner<B: Named>(alloc: Global, setup: &Setup, custodian: Custodian) -> Party
+    requires front { custodian.writer.name ≡ B.name }
+    requires shape { custodian.writer.start.shape ≡ shape_of setup.now.schema }
+    requires whole { IsWhole custodian }
+    ensures party { IsPartyOf B.name (shape_of setup.now.schema) result }
+{
+    let _ = setup;
+    Party::Custodian(custodian, Edits::new(alloc))
+}

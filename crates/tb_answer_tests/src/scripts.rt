@@ -1,0 +1,139 @@
+// Worked scripts over the small setup.
+
+ghost use Rattle.std.specs.Prelude.{◌≡◌, ◌<◌};
+ghost use Rattle.tb_model.specs.Schemas.{shape_of};
+
+use super::making::{opening, setup};
+use std::alloc::Global;
+use std::marker::Brand;
+use std::sync::Wait;
+use std::sync::ledger::{Blank, Ledger};
+use std::test::Fail;
+use std::thread::Threads;
+use tb_base::{Memory, Steps};
+use tb_board::{Board, Named, Opening};
+use tb_io::MemSink;
+use tb_script::{MOST_SCRIPT_BYTES, RunEnd, Script, run_script};
+use tb_text::Setup;
+
+// What a script shows, the script, and its replies.
+struct Row {
+    name: &'static str,
+    script: &'static [u8],
+    replies: &'static [u8],
+}
+
+static ROWS: [Row; 3] = [
+    Row {
+        name: "cache_and_price",
+        script: b"custodian cache 1\na table SEX\na table AREA\na table AREA\ncustodian drop 104\n\
+            custodian publish\na table AREA\na table SEX\ncustodian stats\ncustodian clear\n\
+            custodian stats\n",
+        replies: b"cache 1\nrelease 0\nSEX,count\n1,1\n2,2\n.\nrelease 0\nAREA,count\nE1,2\n\
+            E2,1\n.\nrelease 0\nAREA,count\nE1,2\nE2,1\n.\nheld 1\npublished 1\nrelease 1\n\
+            AREA,count\nE1,2\nE2,1\n.\nrelease 1\nSEX,count\n1,1\n2,0\n.\n\
+            stats release 1 looks 5 hits 2 entries 1 capacity 1\ncleared\n\
+            stats release 1 looks 5 hits 2 entries 0 capacity 1\n",
+    },
+    Row {
+        name: "edit_refusals",
+        script: b"a publish\ncustodian add 300 1 SEX=1\ncustodian amend 101 AGE=7\n\
+            custodian drop 4294967296\n",
+        replies: b"refused 2 Syntax 1\nrefused edit 6 Missing\nrefused edit 4 UnknownCode\n\
+            refused edit 2 BadNumber\n",
+    },
+    // Each reply needs memory for more than one call: to open the board, to take, to build, to hold
+    // an edit, to publish and to let more cubes be kept.
+    Row {
+        name: "ample_memory_is_enough",
+        script: b"a table SEX\ncustodian drop 104\ncustodian publish\ncustodian cache 2\n\
+            custodian table SEX\n",
+        replies: b"release 0\nSEX,count\n1,1\n2,2\n.\nheld 1\npublished 1\ncache 2\nrelease 1\n\
+            SEX,count\n1,1\n2,0\n.\n",
+    },
+];
+
+fn rows() -> &'static [Row] {
+    &ROWS
+}
+
+// Runs a script, and returns whether all replies were taken.
+fn run_with<L: Ledger, B: Named, R: Threads + Wait + Sync>(
+    blank: Blank,
+    rt: &R,
+    alloc: Global,
+    setup: &Setup,
+    opening: Opening,
+    script: &Script,
+    sink: &mut MemSink,
+) -> bool
+    requires ledger { blank.name ≡ L.name }
+    requires parts { blank.parts ≡ L.parts }
+    requires some { 0 < L.parts }
+    requires name { opening.name ≡ B.name }
+    requires shape { opening.start.shape ≡ shape_of setup.now.schema }
+{
+    let mut steps = Steps::<L>::new(blank);
+    let (board, custodian) = Board::<B>::new(opening);
+    let end = run_script(
+        setup, &board, rt, alloc, script, custodian, sink, &mut steps,
+    );
+    end == RunEnd::Done
+}
+
+fn run<B: Named, R: Threads + Wait + Sync>(
+    rt: &R,
+    alloc: Global,
+    setup: &Setup,
+    opening: Opening,
+    script: &Script,
+    sink: &mut MemSink,
+) -> bool
+    requires name { opening.name ≡ B.name }
+    requires shape { opening.start.shape ≡ shape_of setup.now.schema }
+{
+    run_with::<Brand, B, R>(Blank::new(1), rt, alloc, setup, opening, script, sink)
+}
+
+// The replies to a script over a new board.
+fn replies_to<R: Threads + Wait + Sync>(
+    rt: &R,
+    alloc: Global,
+    setup: &Setup,
+    script: &Script,
+    sink: &mut MemSink,
+) -> Result<bool, Memory> {
+    let opening = opening(alloc, setup)?;
+    Ok(run::<Brand, R>(rt, alloc, setup, opening, script, sink))
+}
+
+fn read(alloc: Global, script: &[u8]) -> Result<Script, Memory> {
+    if script.len() as u64 > MOST_SCRIPT_BYTES {
+        return Err(Memory);
+    }
+    match Script::read(alloc, script) {
+        Ok(script) => Ok(script),
+        Err(_) => Err(Memory),
+    }
+}
+
+fn is_so<R: Threads + Wait + Sync>(
+    rt: &R,
+    alloc: Global,
+    setup: &Setup,
+    row: &Row,
+) -> Result<bool, Memory> {
+    let script = read(alloc, row.script)?;
+    let mut sink = MemSink::new(alloc, 700)?;
+    let done = replies_to(rt, alloc, setup, &script, &mut sink)?;
+    Ok(done && sink.taken() == row.replies)
+}
+
+#[test]
+fn worked_scripts(rt: HostRuntime) -> Result<(), Fail> {
+    let setup = setup(rt.alloc())?;
+    for row in rows() {
+        assert!(&rt; is_so(&rt, rt.alloc(), &setup, row)?, "{}", row.name);
+    }
+    Ok(())
+}

@@ -1,0 +1,75 @@
+// A sink that fails within the reply to `publish`.
+
+ghost use Rattle.std.specs.Prelude.{◌≡◌};
+ghost use Rattle.tb_model.specs.Schemas.{shape_of};
+ghost use Rattle.tb_session.specs.Parties.{IsPartyOf};
+
+use super::asking::ask;
+use super::making::{opening, owner, setup};
+use std::alloc::Global;
+use std::marker::Brand;
+use std::sync::Wait;
+use std::test::Fail;
+use std::thread::Threads;
+use tb_base::Memory;
+use tb_board::{Board, Named, Opening};
+use tb_build::Open;
+use tb_io::MemSink;
+use tb_session::Party;
+use tb_text::Setup;
+
+// Answers a line into a sink of so many bytes, and returns whether it took these and all of the
+// reply or not.
+fn asks<B: Named, R: Threads + Wait + Sync>(
+    rt: &R,
+    alloc: Global,
+    setup: &Setup,
+    board: &Board<B>,
+    own: &mut Party,
+    line: &[u8],
+    bound: usize,
+    want: &[u8],
+) -> Result<bool, Memory>
+    requires own { IsPartyOf B.name (shape_of setup.now.schema) own.old }
+    ensures own { IsPartyOf B.name (shape_of setup.now.schema) own.new }
+{
+    let mut sink = MemSink::new(alloc, bound)?;
+    let all = ask(rt, alloc, setup, board, own, line, &mut sink, &mut Open);
+    Ok(all == (want.len() < bound) && sink.taken() == want)
+}
+
+// Whether the edit is held, the reply to `publish` is cut, and the table is over the next release.
+fn is_published<B: Named, R: Threads + Wait + Sync>(
+    rt: &R,
+    alloc: Global,
+    setup: &Setup,
+    opening: Opening,
+) -> Result<bool, Memory>
+    requires name { opening.name ≡ B.name }
+    requires shape { opening.start.shape ≡ shape_of setup.now.schema }
+{
+    let (board, custodian) = Board::<B>::new(opening);
+    let mut own = owner::<B>(alloc, setup, custodian);
+    let table = b"release 1\nSEX,count\n1,1\n2,0\n.\n";
+    Ok(
+        asks(
+            rt,
+            alloc,
+            setup,
+            &board,
+            &mut own,
+            b"drop 104",
+            99,
+            b"held 1\n",
+        )? && asks(rt, alloc, setup, &board, &mut own, b"publish", 5, b"publi")?
+            && asks(rt, alloc, setup, &board, &mut own, b"table SEX", 99, table)?,
+    )
+}
+
+#[test]
+fn published_where_the_reply_is_cut(rt: HostRuntime) -> Result<(), Fail> {
+    let setup = setup(rt.alloc())?;
+    let opening = opening(rt.alloc(), &setup)?;
+    assert!(&rt; is_published::<Brand, _>(&rt, rt.alloc(), &setup, opening)?);
+    Ok(())
+}

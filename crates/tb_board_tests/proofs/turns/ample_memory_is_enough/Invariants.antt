@@ -1,0 +1,5 @@
+use Rattle.tb_board_tests.proofs.turns.ample_memory_is_enough.Given as goal
+
+-- the front of the opening
+abbrev pub ghosts-turn_by_turn : goal.ghosts-turn_by_turn
+ghosts-turn_by_turn g a = record { name = a.opening.name }

@@ -1,0 +1,403 @@
+// Files that are refused, each with its first fault.
+
+use std::alloc::Global;
+use std::test::Fail;
+use tb_base::{Memory, print_number};
+use tb_ptable::{PTable, PTableFault};
+use tb_records::{PeopleFault, read_people};
+use tb_rows::{FaultKind, FaultName};
+use tb_schema::{Schema, SchemaFault};
+use tb_small::CLASSES;
+
+enum File {
+    Classes,
+    Recodes,
+    Ptable,
+    People,
+}
+
+// What is told of a file: its fault's number, word and record, or why there is none.
+type Told = (u8, &'static str, u32);
+
+const ACCEPTED: Told = (0, "accepted", 0);
+
+const MEMORY: Told = (0, "memory", 0);
+
+// The name of a fault, with the number of its record.
+fn fault_told(name: FaultName, at: u32) -> Told {
+    (name.number(), name.word(), at)
+}
+
+fn schema_fault(fault: SchemaFault) -> Told {
+    match fault {
+        SchemaFault::Refused { kind, at, .. } => fault_told(kind.name(), at),
+        SchemaFault::Memory => MEMORY,
+    }
+}
+
+fn ptable_fault(fault: PTableFault) -> Told {
+    match fault {
+        PTableFault::Refused { kind, at } => fault_told(kind.name(), at),
+        PTableFault::Memory => MEMORY,
+    }
+}
+
+fn people_fault(fault: PeopleFault) -> Told {
+    match fault {
+        PeopleFault::Refused { kind, at } => fault_told(kind.name(), at),
+        PeopleFault::Memory => MEMORY,
+    }
+}
+
+fn schema_told(alloc: Global, classes: &[u8], recodes: Option<&[u8]>) -> Told {
+    match Schema::read(alloc, classes, recodes) {
+        Ok(_) => ACCEPTED,
+        Err(fault) => schema_fault(fault),
+    }
+}
+
+fn ptable_told(alloc: Global, file: &[u8]) -> Told {
+    match PTable::read(alloc, file) {
+        Ok(_) => ACCEPTED,
+        Err(fault) => ptable_fault(fault),
+    }
+}
+
+fn people_told(alloc: Global, file: &[u8]) -> Told {
+    let Ok(schema) = Schema::read(alloc, CLASSES, None) else {
+        return MEMORY;
+    };
+    match read_people(alloc, &schema, file) {
+        Ok(_) => ACCEPTED,
+        Err(fault) => people_fault(fault),
+    }
+}
+
+fn told(alloc: Global, file: &File, bytes: &[u8]) -> Told {
+    match file {
+        File::Classes => schema_told(alloc, bytes, None),
+        File::Recodes => schema_told(alloc, CLASSES, Some(bytes)),
+        File::Ptable => ptable_told(alloc, bytes),
+        File::People => people_told(alloc, bytes),
+    }
+}
+
+// Whole files whose header is bad: none, a column that is missing or there twice, other spellings,
+// a second mark.
+static HEADERS: [(File, &'static [u8]); 12] = [
+    (File::Classes, b""),
+    (File::Classes, b"\n\r\n"),
+    (File::Classes, b"variable,code\nA,1\n"),
+    (File::Classes, b"variable,code,label,code\n"),
+    (File::Classes, b"variable,code, label\n"),
+    (
+        File::Classes,
+        b"\xEF\xBB\xBF\xEF\xBB\xBFvariable,code,label\n",
+    ),
+    (File::Recodes, b""),
+    (File::Recodes, b"recode,variable,code\n"),
+    (File::Ptable, b"pcv,ckey\n3,64\n"),
+    (File::Ptable, b"pcv,Ckey,pvalue\n"),
+    (File::People, b"person,record_key,SEX,AGE\n1,2,1,0-15\n"),
+    (File::People, b"person,record_key,SEX,AGE,AREA,AGE\n"),
+];
+
+fn headers() -> &'static [(File, &'static [u8])] {
+    &HEADERS
+}
+
+#[test]
+fn bad_headers(rt: HostRuntime) -> Result<(), Fail> {
+    for (i, (file, bytes)) in headers().iter().enumerate() {
+        assert!(rt;
+            told(rt.alloc(), file, bytes) == (1, "BadHeader", 0),
+            "header {i}"
+        );
+    }
+    Ok(())
+}
+
+fn header_of(file: &File) -> &'static [u8] {
+    match file {
+        File::Classes => b"variable,code,label\n",
+        File::Recodes => b"recode,variable,code,group\n",
+        File::Ptable => b"pcv,ckey,pvalue\n",
+        File::People => b"person,record_key,SEX,AGE,AREA\n",
+    }
+}
+
+// A file, the records under its header, and the number, the word and the record of its first fault.
+type Row = (File, &'static [u8], u8, &'static str, u32);
+
+static CLASS_ROWS: [Row; 12] = [
+    (File::Classes, b"A,1\n", 10, "BadCsv", 1),
+    (File::Classes, b"1A,1,a\n", 2, "BadName", 1),
+    (File::Classes, b"A,1,a\n\n\nby,2,b\n", 2, "BadName", 2),
+    (File::Classes, b"A,Total,a\n", 3, "BadCode", 1),
+    (File::Classes, b"A,1,\"a\nb\"\n", 11, "BadLabel", 1),
+    (
+        File::Classes,
+        b"A,1,a\nB,1,b\nA,1,c\n",
+        4,
+        "RepeatedCode",
+        3,
+    ),
+    // Two faults in a record: the first in the order of the table. Two in a file: the first record's.
+    (File::Classes, b"by,Total,a,\n", 10, "BadCsv", 1),
+    (File::Classes, b"by,Total,a\n", 2, "BadName", 1),
+    (File::Classes, b"A,,\xFF\n", 3, "BadCode", 1),
+    (File::Classes, b"A,1,a\nA,1,\xFF\n", 11, "BadLabel", 2),
+    (File::Classes, b"A,1,a\nA,1,b\nby,1\n", 4, "RepeatedCode", 2),
+    (File::Classes, b"A,1,\xFF\nA,1\n", 11, "BadLabel", 1),
+];
+
+static RECODE_ROWS: [Row; 14] = [
+    (
+        File::Recodes,
+        b"A,AGE,0-15,a\nA,AGE,65+,b,c\n",
+        10,
+        "BadCsv",
+        2,
+    ),
+    (
+        File::Recodes,
+        b"A,AGE,0-15,a\nA,SEX,1,a\n",
+        9,
+        "NameTwice",
+        2,
+    ),
+    (
+        File::Recodes,
+        b"A,AGE,16-64,a\nA,AGE,65+,a\n",
+        8,
+        "CodeMissing",
+        1,
+    ),
+    // Two faults in a record: the first in the order of the table.
+    (File::Recodes, b"in,age,1,Total,x\n", 10, "BadCsv", 1),
+    (File::Recodes, b"in,age,1,Total\n", 2, "BadName", 1),
+    (File::Recodes, b"SEX,age,1,Total\n", 5, "UnknownVariable", 1),
+    (File::Recodes, b"SEX,AGE,1,Total\n", 9, "NameTwice", 1),
+    (File::Recodes, b"A,AGE,1,Total\n", 6, "UnknownCode", 1),
+    (
+        File::Recodes,
+        b"A,AGE,0-15,a\nA,AGE,0-15,Total\n",
+        7,
+        "CodeTwice",
+        2,
+    ),
+    (File::Recodes, b"A,AGE,0-15,Total\nA,AGE\n", 3, "BadCode", 1),
+    // A code that is missing is told at the end, of the first such recode.
+    (
+        File::Recodes,
+        b"A,AGE,0-15,a\nA,AGE,16-64,\n",
+        3,
+        "BadCode",
+        2,
+    ),
+    (
+        File::Recodes,
+        b"S,SEX,1,a\nA,AGE,0-15,a\nS,SEX,2,b\n",
+        8,
+        "CodeMissing",
+        2,
+    ),
+    (
+        File::Recodes,
+        b"S,SEX,1,a\nT,SEX,1,a\nT,SEX,2,a\n",
+        8,
+        "CodeMissing",
+        1,
+    ),
+    (
+        File::Recodes,
+        b"A,AGE,0-15,a\nSEX,AGE,0-15,a\nin,,,\n",
+        9,
+        "NameTwice",
+        2,
+    ),
+];
+
+static PTABLE_ROWS: [Row; 23] = [
+    (File::Ptable, b"1,7,1\n2,7\n3,10,-4\n", 7, "BadCsv", 2),
+    (File::Ptable, b"x,256\n", 7, "BadCsv", 1),
+    (File::Ptable, b",7,1\n", 2, "BadNumber", 1),
+    (File::Ptable, b"1,7,+5\n", 2, "BadNumber", 1),
+    (File::Ptable, b"1,7,--1\n", 2, "BadNumber", 1),
+    (File::Ptable, b"-0,7,1\n", 2, "BadNumber", 1),
+    (File::Ptable, b"1, 7,1\n", 2, "BadNumber", 1),
+    (File::Ptable, b"4294967296,7,1\n", 2, "BadNumber", 1),
+    (File::Ptable, b"1,7,-00000000001\n", 2, "BadNumber", 1),
+    (File::Ptable, b"751,256,1x\n", 2, "BadNumber", 1),
+    (File::Ptable, b"751,0,0\n", 3, "OutOfRange", 1),
+    (File::Ptable, b"1,256,0\n", 3, "OutOfRange", 1),
+    (File::Ptable, b"1,7,1001\n", 3, "OutOfRange", 1),
+    (File::Ptable, b"750,7,-1001\n", 3, "OutOfRange", 1),
+    (File::Ptable, b"0,256,1\n", 3, "OutOfRange", 1),
+    (File::Ptable, b"3,10,-4\n", 4, "Negative", 1),
+    (File::Ptable, b"0,0,-1\n", 4, "Negative", 1),
+    (File::Ptable, b"3,10,1\n3,10,-4\n", 4, "Negative", 2),
+    (
+        File::Ptable,
+        b"1,7,1\n3,10,-4\n1,7,1\nx,7,1\n",
+        4,
+        "Negative",
+        2,
+    ),
+    (File::Ptable, b"0,0,1\n", 6, "ZeroRow", 1),
+    (File::Ptable, b"0,0,0\n0,0,1\n", 6, "ZeroRow", 2),
+    (File::Ptable, b"1,7,1\n2,7,1\n01,007,2\n", 5, "PairTwice", 3),
+    (File::Ptable, b"1,7,0\n1,7,0\n1,7\n", 5, "PairTwice", 2),
+];
+
+static PEOPLE_ROWS: [Row; 16] = [
+    (File::People, b"1,2,1,0-15\n", 6, "BadCsv", 1),
+    (File::People, b"0000000000,2,1,0-15,E1\n", 2, "BadPerson", 1),
+    (File::People, b"4294967296,2,1,0-15,E1\n", 2, "BadPerson", 1),
+    (File::People, b" 1,2,1,0-15,E1\n", 2, "BadPerson", 1),
+    (File::People, b"1,256,1,0-15,E1\n", 3, "BadKey", 1),
+    (File::People, b"1,,1,0-15,E1\n", 3, "BadKey", 1),
+    (File::People, b"1,2,1,E1,E1\n", 4, "UnknownCode", 1),
+    (File::People, b"1,2,1,0-15,e1\n", 4, "UnknownCode", 1),
+    (File::People, b"1,2,1,0-15,\xFF\n", 4, "UnknownCode", 1),
+    (
+        File::People,
+        b"1,2,1,0-15,E1\n3,2,1,65+,E1\n01,9,2,65+,E2\n",
+        5,
+        "PersonTwice",
+        3,
+    ),
+    // Two faults in a record: the first in the order of the table. Two in a file: the first record's.
+    (File::People, b"0,2,1,0-15\n", 6, "BadCsv", 1),
+    (File::People, b"0,256,1,0-15,E1\n", 2, "BadPerson", 1),
+    (File::People, b"1,256,3,0-15,E1\n", 3, "BadKey", 1),
+    (
+        File::People,
+        b"1,2,1,0-15,E1\n1,2,3,0-15,E1\n",
+        4,
+        "UnknownCode",
+        2,
+    ),
+    (
+        File::People,
+        b"1,2,1,0-15,E1\n2,256,1,0-15,E1\n0,2\n",
+        3,
+        "BadKey",
+        2,
+    ),
+    // Empty lines have no number.
+    (
+        File::People,
+        b"1,2,1,0-15,E1\n\n\n2,2,1,0-15,E3\n",
+        4,
+        "UnknownCode",
+        2,
+    ),
+];
+
+fn class_rows() -> &'static [Row] {
+    &CLASS_ROWS
+}
+
+fn recode_rows() -> &'static [Row] {
+    &RECODE_ROWS
+}
+
+fn ptable_rows() -> &'static [Row] {
+    &PTABLE_ROWS
+}
+
+fn people_rows() -> &'static [Row] {
+    &PEOPLE_ROWS
+}
+
+fn under_header(alloc: Global, file: &File, records: &[u8]) -> Result<Vec<u8>, Memory> {
+    let mut bytes = Vec::from_slice(alloc, header_of(file))?;
+    bytes.extend_from_slice(records)?;
+    Ok(bytes)
+}
+
+fn is_refused(alloc: Global, row: &Row) -> Result<bool, Memory> {
+    let (file, records, number, word, at) = row;
+    let bytes = under_header(alloc, file, records)?;
+    Ok(told(alloc, file, bytes.as_slice()) == (*number, *word, *at))
+}
+
+// How many rows come before the first that isn't refused so.
+fn refused_rows(alloc: Global, rows: &[Row]) -> Result<usize, Memory> {
+    for (i, row) in rows.iter().enumerate() {
+        if !is_refused(alloc, row)? {
+            return Ok(i);
+        }
+    }
+    Ok(rows.len())
+}
+
+#[test]
+fn first_faults(rt: HostRuntime) -> Result<(), Fail> {
+    for rows in [class_rows(), recode_rows(), ptable_rows(), people_rows()] {
+        let refused = refused_rows(rt.alloc(), rows)?;
+        assert!(rt; refused == rows.len(), "{} at {refused}", rows.len());
+    }
+    Ok(())
+}
+
+// A file with a record for each number below `n`, which stands between two texts.
+type Many = (File, &'static [u8], u32, &'static [u8], Told);
+
+static LIMITS: [Many; 6] = [
+    (File::Classes, b"V", 64, b",1,\n", ACCEPTED),
+    (File::Classes, b"V", 65, b",1,\n", (12, "TooMany", 65)),
+    (File::Classes, b"A,", 10_000, b",\n", ACCEPTED),
+    (
+        File::Classes,
+        b"A,",
+        10_001,
+        b",\n",
+        (12, "TooMany", 10_001),
+    ),
+    (
+        File::Recodes,
+        b"G",
+        256,
+        b",SEX,1,g\n",
+        (8, "CodeMissing", 1),
+    ),
+    (
+        File::Recodes,
+        b"G",
+        257,
+        b",SEX,1,g\n",
+        (12, "TooMany", 257),
+    ),
+];
+
+fn limits() -> &'static [Many] {
+    &LIMITS
+}
+
+fn add_number(text: &mut Vec<u8>, before: &[u8], number: u32, after: &[u8]) -> Result<(), Memory> {
+    let mut digits = [b'0'; 10];
+    let len = print_number(number, &mut digits);
+    text.extend_from_slice(before)?;
+    text.extend_from_slice(&digits[..len])?;
+    text.extend_from_slice(after)?;
+    Ok(())
+}
+
+fn told_of_many(alloc: Global, many: &Many) -> Result<Told, Memory> {
+    let (file, before, n, after, _) = many;
+    let mut bytes = Vec::from_slice(alloc, header_of(file))?;
+    for number in 0..*n {
+        add_number(&mut bytes, before, number, after)?;
+    }
+    Ok(told(alloc, file, bytes.as_slice()))
+}
+
+#[test]
+fn most_records(rt: HostRuntime) -> Result<(), Fail> {
+    for many in limits() {
+        assert!(rt; told_of_many(rt.alloc(), many)? == many.4, "{}", many.2);
+    }
+    Ok(())
+}

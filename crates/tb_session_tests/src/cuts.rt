@@ -1,0 +1,88 @@
+// A stream cut into reads at every place.
+
+ghost use Rattle.std.specs.Prelude.{◌≡◌, ◌<◌, None, length};
+
+use super::making::setup;
+use super::talking::one_session;
+use std::alloc::Global;
+use std::sync::Wait;
+use std::test::Fail;
+use std::thread::Threads;
+use tb_base::Memory;
+use tb_io::{MemSink, Read, Source};
+use tb_session::SessionEnd;
+use tb_text::Setup;
+
+const STREAM: &[u8] = b"#\r\ntable SEX\r\nquit";
+
+const TEXT: &[u8] = b"release 0\nSEX,count\n1,1\n2,2\n.\n";
+
+// A source of which no read goes past its next cut. It never fails, and tells nothing.
+#[derive(Drop)]
+struct Cut {
+    next: usize,
+    first: usize,
+    second: usize,
+}
+
+impl Cut {
+    // Up to where the next read goes.
+    fn stop(&self) -> usize {
+        if self.next < self.first {
+            return self.first;
+        }
+        if self.next < self.second {
+            return self.second;
+        }
+        STREAM.len()
+    }
+}
+
+impl Source for Cut {
+    ghost faults = { λ _. 0 };
+
+    ghost left = { λ _. None };
+
+    fn read(&mut self, buf: &mut [u8]) -> Read {
+        let stop = self.stop().min(STREAM.len());
+        let n = stop.saturating_sub(self.next).min(buf.len());
+        if n == 0 {
+            return Read::End;
+        }
+        buf[..n].copy_from_slice(&STREAM[self.next..self.next + n]);
+        self.next += n;
+        Read::Got(n)
+    }
+}
+
+// Whether a session over the stream with these cuts is as without.
+fn is_so<R: Threads + Wait + Sync>(
+    rt: &R,
+    alloc: Global,
+    setup: &Setup,
+    first: usize,
+    second: usize,
+) -> Result<bool, Memory> {
+    let mut source = Cut {
+        next: 0,
+        first,
+        second,
+    };
+    let mut sink = MemSink::new(alloc, 100)?;
+    let end = one_session(rt, alloc, setup, &mut source, &mut sink)?;
+    Ok(end == SessionEnd::Ended && sink.taken() == TEXT)
+}
+
+#[test]
+fn every_cut_gives_the_same(rt: HostRuntime) -> Result<(), Fail> {
+    let setup = setup(rt.alloc())?;
+    for first in 0..STREAM.len() {
+        for second in first..STREAM.len() {
+            assert!(&rt;
+                is_so(&rt, rt.alloc(), &setup, first, second)?,
+                "{first}, {second}"
+            );
+        }
+    }
+    Ok(())
+}

@@ -1,0 +1,16 @@
+//! Tests of sessions over a board: worked sessions by their bytes, however reads cut them; the
+//! edges of lines and of sessions; failing reads and writes; and that ample memory is enough.
+#![tactic(auto)]
+
+#[cfg(test)]
+mod cuts;
+#[cfg(test)]
+mod lines;
+#[cfg(test)]
+mod making;
+#[cfg(test)]
+mod memory;
+#[cfg(test)]
+mod talking;
+#[cfg(test)]
+mod talks;

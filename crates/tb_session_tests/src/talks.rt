@@ -1,0 +1,210 @@
+// Sessions over sources and sinks in memory, by how they end and what was taken.
+
+use super::making::setup;
+use super::talking::{one_session, two_sessions};
+use std::alloc::Global;
+use std::sync::Wait;
+use std::test::Fail;
+use std::thread::Threads;
+use tb_base::Memory;
+use tb_io::{MemSink, MemSource};
+use tb_session::SessionEnd;
+use tb_text::Setup;
+
+// A session: the bytes, the most bytes of a read, the reads that fail, and how many bytes the sink
+// takes; then how it ends, and what the sink took.
+struct Talk {
+    name: &'static str,
+    bytes: &'static [u8],
+    most: usize,
+    fails: &'static [u32],
+    bound: usize,
+    end: SessionEnd,
+    text: &'static [u8],
+}
+
+const TABLE: &[u8] = b"release 0\nSEX,count\n1,1\n2,2\n.\n";
+
+static TALKS: [Talk; 12] = [
+    Talk {
+        name: "bytes one at a time, and a last line without line feed",
+        bytes: b"table SEX\ntable AREA",
+        most: 1,
+        fails: &[],
+        bound: 100,
+        end: SessionEnd::Ended,
+        text: b"release 0\nSEX,count\n1,1\n2,2\n.\nrelease 0\nAREA,count\nE1,2\nE2,1\n.\n",
+    },
+    Talk {
+        name: "a sink that takes 39 bytes",
+        bytes: b"table SEX\ntable AREA",
+        most: 1,
+        fails: &[],
+        bound: 39,
+        end: SessionEnd::WriteFault,
+        text: b"release 0\nSEX,count\n1,1\n2,2\n.\nrelease 0",
+    },
+    Talk {
+        name: "the third read fails",
+        bytes: b"table SEX\ntable AREA\n",
+        most: 10,
+        fails: &[3],
+        bound: 100,
+        end: SessionEnd::ReadFault,
+        text: TABLE,
+    },
+    Talk {
+        name: "a read fails after the end",
+        bytes: b"table SEX",
+        most: 10,
+        fails: &[3],
+        bound: 100,
+        end: SessionEnd::ReadFault,
+        text: TABLE,
+    },
+    Talk {
+        name: "the first read fails",
+        bytes: b"table SEX\n",
+        most: 10,
+        fails: &[1],
+        bound: 100,
+        end: SessionEnd::ReadFault,
+        text: b"",
+    },
+    Talk {
+        name: "a zero byte",
+        bytes: b"table SEX\0\n",
+        most: 10,
+        fails: &[],
+        bound: 100,
+        end: SessionEnd::Ended,
+        text: b"refused 1 NotText 10\n",
+    },
+    Talk {
+        name: "a last line with a carriage return alone",
+        bytes: b"table SEX\r",
+        most: 10,
+        fails: &[],
+        bound: 100,
+        end: SessionEnd::Ended,
+        text: TABLE,
+    },
+    Talk {
+        name: "quit with blanks round it, and a line after it",
+        bytes: b"# none\n\t\n  quit \r\ntable SEX\n",
+        most: 10,
+        fails: &[],
+        bound: 100,
+        end: SessionEnd::Ended,
+        text: b"",
+    },
+    Talk {
+        name: "quit and another word",
+        bytes: b"quit x\ntable SEX\n",
+        most: 10,
+        fails: &[],
+        bound: 100,
+        end: SessionEnd::Ended,
+        text: b"refused 2 Syntax 1\nrelease 0\nSEX,count\n1,1\n2,2\n.\n",
+    },
+    Talk {
+        name: "a table after a publication",
+        bytes: b"drop 104\npublish\r\ntable SEX\n",
+        most: 7,
+        fails: &[],
+        bound: 100,
+        end: SessionEnd::Ended,
+        text: b"held 1\npublished 1\nrelease 1\nSEX,count\n1,1\n2,0\n.\n",
+    },
+    Talk {
+        name: "a publication whose reply is cut",
+        bytes: b"drop 104\npublish\ntable SEX\n",
+        most: 100,
+        fails: &[],
+        bound: 9,
+        end: SessionEnd::WriteFault,
+        text: b"held 1\npu",
+    },
+    Talk {
+        name: "no bytes",
+        bytes: b"",
+        most: 1,
+        fails: &[],
+        bound: 0,
+        end: SessionEnd::Ended,
+        text: b"",
+    },
+];
+
+fn talks() -> &'static [Talk] {
+    &TALKS
+}
+
+// Whether a session ends so, and its sink took this.
+fn ends_so<R: Threads + Wait + Sync>(
+    rt: &R,
+    alloc: Global,
+    setup: &Setup,
+    source: &mut MemSource,
+    bound: usize,
+    end: SessionEnd,
+    text: &[u8],
+) -> Result<bool, Memory> {
+    let mut sink = MemSink::new(alloc, bound)?;
+    let ended = one_session(rt, alloc, setup, source, &mut sink)?;
+    Ok(ended == end && sink.taken() == text)
+}
+
+fn is_so<R: Threads + Wait + Sync>(
+    rt: &R,
+    alloc: Global,
+    setup: &Setup,
+    row: &Talk,
+) -> Result<bool, Memory> {
+    let most = row.most.max(1);
+    let mut source = MemSource::new(alloc, row.bytes, most, row.fails)?;
+    ends_so(rt, alloc, setup, &mut source, row.bound, row.end, row.text)
+}
+
+#[test]
+fn bytes_one_at_a_time(rt: HostRuntime) -> Result<(), Fail> {
+    let setup = setup(rt.alloc())?;
+    for row in talks() {
+        assert!(&rt; is_so(&rt, rt.alloc(), &setup, row)?, "{}", row.name);
+    }
+    Ok(())
+}
+
+// How the second of two sessions ends, of which the first could write but a part of its reply to
+// `publish`.
+fn after_a_cut<R: Threads + Wait + Sync>(
+    rt: &R,
+    alloc: Global,
+    setup: &Setup,
+    next: &mut MemSource,
+    next_sink: &mut MemSink,
+) -> Result<SessionEnd, Memory> {
+    let mut source = MemSource::new(alloc, b"drop 104\npublish\n", 100, &[])?;
+    let mut sink = MemSink::new(alloc, 9)?;
+    two_sessions(rt, alloc, setup, &mut source, &mut sink, next, next_sink)
+}
+
+// Whether the second prints a table of the release that the first published.
+fn batch_stands<R: Threads + Wait + Sync>(
+    rt: &R,
+    alloc: Global,
+    setup: &Setup,
+) -> Result<bool, Memory> {
+    let mut next = MemSource::new(alloc, b"table SEX", 100, &[])?;
+    let mut sink = MemSink::new(alloc, 100)?;
+    let end = after_a_cut(rt, alloc, setup, &mut next, &mut sink)?;
+    let text = b"release 1\nSEX,count\n1,1\n2,0\n.\n";
+    Ok(end == SessionEnd::Ended && sink.taken() == text.as_slice())
+}
+
+#[test]
+fn a_batch_stands_whose_reply_is_cut(rt: HostRuntime) -> Result<(), Fail> {
+    let setup = setup(rt.alloc())?;
+    assert!(rt; batch_stands(&rt, rt.alloc(), &setup)?);
+    Ok(())
+}

@@ -1,0 +1,17 @@
+//! The small setup, for the tests: the files of `examples/small`, word for word.
+#![tactic(auto)]
+
+/// SEX, AGE and AREA.
+pub const CLASSES: &[u8] = b"variable,code,label\nSEX,1,Male\nSEX,2,Female\nAGE,0-15,Under 16\n\
+    AGE,16-64,Working age\nAGE,65+,65 and over\nAREA,E1,\"North, rural\"\nAREA,E2,South\n";
+
+/// AGE2, a recode of AGE.
+pub const RECODES: &[u8] = b"recode,variable,code,group\nAGE2,AGE,0-15,young\n\
+    AGE2,AGE,16-64,old\nAGE2,AGE,65+,old\n";
+
+/// Five pvalues.
+pub const PTABLE: &[u8] = b"pcv,ckey,pvalue\n3,64,-2\n1,7,1\n4,71,2\n3,127,3\n2,27,-1\n";
+
+/// Four persons.
+pub const PEOPLE: &[u8] = b"person,record_key,SEX,AGE,AREA\n101,200,1,0-15,E1\n\
+    102,100,1,16-64,E1\n103,20,1,65+,E2\n104,7,2,16-64,E2\n";

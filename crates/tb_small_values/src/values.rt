@@ -1,0 +1,88 @@
+// The small setup as values.
+
+ghost use Rattle.std.specs.Prelude.{◌≡◌, ◌≤◌, All, IfOk, length};
+ghost use Rattle.tb_base.specs.declared.people.TheConstants.{MOST_PERSONS};
+ghost use Rattle.tb_base.specs.Records.{AllFit};
+ghost use Rattle.tb_model.specs.Schemas.{shape_of};
+ghost use Rattle.tb_release.specs.Laws.{EditFits};
+
+use std::alloc::Global;
+use tb_base::{Memory, People};
+use tb_records::read_people;
+use tb_release::{Edit, Edits, Release};
+use tb_revise::read_edit;
+use tb_schema::Schema;
+use tb_small::{CLASSES, PEOPLE, RECODES};
+
+/// SEX, AGE and AREA, with the recode AGE2.
+pub fn schema(alloc: Global) -> Result<Schema, Memory> {
+    match Schema::read(alloc, CLASSES, Some(RECODES)) {
+        Ok(schema) => Ok(schema),
+        Err(_) => Err(Memory),
+    }
+}
+
+/// The four persons.
+pub fn people(alloc: Global, schema: &Schema) -> Result<People, Memory>
+    ensures fit { IfOk result (AllFit (shape_of schema.now)) }
+    ensures few { IfOk result (λ people. length people ≤ MOST_PERSONS) }
+{
+    match read_people(alloc, schema, PEOPLE) {
+        Ok(people) => Ok(people),
+        Err(_) => Err(Memory),
+    }
+}
+
+// Release 0 of some persons.
+fn first(alloc: Global, schema: &Schema, people: People) -> Result<Release, Memory>
+    requires fit { AllFit (shape_of schema.now) people }
+    requires few { length people ≤ MOST_PERSONS }
+    ensures number { IfOk result (λ release. release.number ≡ 0) }
+    ensures fit { IfOk result (λ release. AllFit (shape_of schema.now) release.records) }
+{
+    let _ = schema;
+    Release::first(alloc, people)
+}
+
+/// Release 0 of the four.
+pub fn release(alloc: Global, schema: &Schema) -> Result<Release, Memory>
+    ensures number { IfOk result (λ release. release.number ≡ 0) }
+    ensures fit { IfOk result (λ release. AllFit (shape_of schema.now) release.records) }
+{
+    first(alloc, schema, people(alloc, schema)?)
+}
+
+// The edit of a line. One that is none fails the test.
+fn edit_of(alloc: Global, schema: &Schema, line: &[u8]) -> Result<Edit, Memory>
+    ensures { IfOk result (EditFits (shape_of schema.now)) }
+{
+    match read_edit(alloc, schema, line) {
+        Ok(edit) => Ok(edit),
+        Err(_) => Err(Memory),
+    }
+}
+
+// Holds one more edit.
+fn hold(edits: &mut Edits, schema: &Schema, edit: Edit) -> Result<(), Memory>
+    requires fit { All (EditFits (shape_of schema.now)) edits.old }
+    requires one { EditFits (shape_of schema.now) edit }
+    ensures { IfOk result (λ _. All (EditFits (shape_of schema.now)) edits.new) }
+{
+    let _ = schema;
+    match edits.push(edit) {
+        Ok(()) => Ok(()),
+        Err(_) => Err(Memory),
+    }
+}
+
+/// The edits of some lines, in their order.
+pub fn edits_of(alloc: Global, schema: &Schema, lines: &[&[u8]]) -> Result<Edits, Memory>
+    ensures { IfOk result (All (EditFits (shape_of schema.now))) }
+{
+    let mut edits = Edits::new(alloc);
+    for line in lines {
+        let edit = edit_of(alloc, schema, line)?;
+        hold(&mut edits, schema, edit)?;
+    }
+    Ok(edits)
+}
