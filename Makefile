@@ -16,9 +16,10 @@ build:
 demo: build
 	cd examples/small && ../../crates/tablebuilder/out/tablebuilder script classes.csv recodes.csv ptable.csv people.csv 0 script.txt
 
-# Runs every example of the guide with the built program and compares what it prints.
+# Runs every example of the guide with the built program and compares what it prints; and compares
+# examples/small with the program's own files.
 guide: build
-	python3 docs/guide.py crates/tablebuilder/out/tablebuilder docs/GUIDE.md examples/small
+	python3 docs/guide.py crates/tablebuilder/out/tablebuilder docs/GUIDE.md examples/small crates/tablebuilder/data
 
 # The program beside a plain one over generated persons: medians, spreads, peak memory and ratios.
 bench: bench-tools build

@@ -1,8 +1,11 @@
 """Runs each example of docs/GUIDE.md over examples/small and compares what is printed.
 
-Usage: guide.py PROGRAM GUIDE FOLDER
+Usage: guide.py PROGRAM GUIDE FOLDER [SAME]
+
+SAME is a folder that must hold the same files.
 """
 
+import filecmp
 import os
 import re
 import subprocess
@@ -23,10 +26,16 @@ def run(program, folder, threshold, script):
 
 
 def main():
-    program, guide, folder = sys.argv[1:]
+    program, guide, folder, *same = sys.argv[1:]
     with open(guide, encoding="utf-8") as file:
         examples = EXAMPLE.findall(file.read())
     wrong = 0
+    for other in same:
+        names = sorted({*os.listdir(folder), *os.listdir(other)})
+        unlike = [name for name in names if name not in filecmp.cmpfiles(folder, other, names, False)[0]]
+        if unlike:
+            wrong += 1
+            print(f"{folder} and {other} differ in {', '.join(unlike)}")
     for threshold, script, want in examples:
         printed, status = run(program, folder, threshold or "0", script)
         if printed != want or status != 0:
