@@ -9,3 +9,4 @@ pub mod Lines
 pub mod Rooms
 pub mod Readers
 pub mod NextLines
+pub mod Listeners
