@@ -10,3 +10,4 @@ pub mod Rooms
 pub mod Readers
 pub mod NextLines
 pub mod Listeners
+pub mod HeldSessions

@@ -17,12 +17,14 @@
 #![tactic(auto)]
 
 mod answers;
+mod failures;
 mod file_map;
 mod files;
 mod limits;
 mod line_reader;
 mod listen;
 mod mem_files;
+mod mem_listen;
 mod mem_sink;
 mod mem_source;
 mod pieces;
@@ -43,6 +45,7 @@ pub use limits::MOST_LINE_BYTES;
 pub use line_reader::{LineReader, NextLine};
 pub use listen::Listen;
 pub use mem_files::MemFiles;
+pub use mem_listen::MemListen;
 pub use mem_sink::MemSink;
 pub use mem_source::MemSource;
 pub use pieces::write_all;
