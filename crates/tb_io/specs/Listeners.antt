@@ -62,6 +62,11 @@ listener_code =
     })
     (λ _. refl)
 
+-- a listener that tells no sessions
+abbrev pub telling_none : ℕ → Option ℕ → Bool → ListenerValue
+telling_none faults port is_out =
+    record { faults = faults; port = port; is_out = is_out; to_come = None; came_back = None }
+
 -- it may be bound: it isn't yet, and no session is out
 pub record CanBind (listener : ListenerValue) : Type 0 where
   pub unbound : listener.port ≡ None
@@ -80,12 +85,15 @@ pub record IsSameBut (before after : ListenerValue) : Type 0 where
   pub to_come : after.to_come ≡ before.to_come
   pub came_back : after.came_back ≡ before.came_back
 
+-- the call failed: nothing changed but the count of faults, which rose
+abbrev pub HasFailed : ListenerValue → ListenerValue → Type 0
+HasFailed before after = IsSameBut before after × HasRisen before.faults after.faults
+
 -- what a bind did: the listener is bound to this port, or it is as before and the count of faults
 -- rose
 abbrev pub HasBound : ListenerValue → ListenerValue → ℕ → Bound → Type 0
 HasBound before after port bound.Ready = IsSameBut (record before { port = Some port }) after
-HasBound before after port bound.Failed =
-    IsSameBut before after × HasRisen before.faults after.faults
+HasBound before after port bound.Failed = HasFailed before after
 
 -- a session was accepted: it was the first to come, and is out
 pub record Gives (before after : ListenerValue) (session : Connection) : Type 0 where
@@ -100,8 +108,7 @@ abbrev pub HasAccepted : {R W : Type 0} → (R → W → Connection) → Listene
     → Accepted R W → Type 0
 HasAccepted see before after (accepted.Session r w) = Gives before after (see r w)
 HasAccepted see before after accepted.End = IsAtEnd before.to_come × IsSameBut before after
-HasAccepted see before after accepted.Failed =
-    IsSameBut before after × HasRisen before.faults after.faults
+HasAccepted see before after accepted.Failed = HasFailed before after
 
 -- a listener after a session came back
 abbrev pub given_back : ListenerValue → Connection → ListenerValue
