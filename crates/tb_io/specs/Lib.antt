@@ -9,3 +9,5 @@ pub mod Lines
 pub mod Rooms
 pub mod Readers
 pub mod NextLines
+pub mod Listeners
+pub mod HeldSessions

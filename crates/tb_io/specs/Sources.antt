@@ -9,8 +9,8 @@ Gave None after bytes = after ≡ None
 Gave (Some before) None bytes = ⊥
 Gave (Some before) (Some after) bytes = before ≡ bytes ++ after
 
--- nothing is left
-abbrev pub IsAtEnd : Option (List ℕ) → Type 0
+-- nothing is left, of bytes or whatever else is told as a list
+abbrev pub IsAtEnd : {A : Type 0} → Option (List A) → Type 0
 IsAtEnd None = Unit {0}
 IsAtEnd (Some left) = left ≡ []
 

@@ -18,3 +18,19 @@ pub enum FileRead {
     Failed,
     Memory,
 }
+
+/// How the binding of a listener to a port ended. `Failed` is a fault of the outside.
+#[derive(Clone, Copy, Debug, PartialEq, Eq)]
+pub enum Bound {
+    Ready,
+    Failed,
+}
+
+/// How an accept ended. `Session` has the reading and the writing end of the next session, `End`
+/// says that none is to come, and `Failed` is a fault of the outside.
+#[derive(Drop)]
+pub enum Accepted<R, W> {
+    Session(R, W),
+    End,
+    Failed,
+}

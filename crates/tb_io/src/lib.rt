@@ -1,12 +1,13 @@
 //! The outside of the program: files that are read by name, sources of bytes and the lines that are
-//! cut off them, and sinks that take output.
+//! cut off them, sinks that take output, and listeners, which give sessions.
 //!
 //! It stands on `tb_base` for the error of a call that runs out of memory, and finds line feeds by
 //! `memchr`. Its contracts cite `specs/Faults` (a call fails only where a count of faults rose),
 //! `Taken` (which bytes a sink took, and what the writing of a text tells), `Sources` (which bytes
 //! a read gave), `Lines` (bytes cut into lines), `NextLines` (what a call for the next line says),
-//! `FileAnswers` (what a reading says of a file), and `HeldFiles`, `PiecedSource` and
-//! `BoundedSink` (the forms in memory).
+//! `Listeners` (what a bind and an accept did, and the sessions of a listener), `FileAnswers` (what
+//! a reading says of a file), and `HeldFiles`, `PiecedSource` and `BoundedSink` (the forms in
+//! memory).
 //!
 //! For whoever writes, `proofs/TakenLemmas` and `Taking` join texts that were taken, `FaultLemmas`
 //! counts that rose, and `Written` what writings tell; `HeldLemmas` serves the files in memory, and
@@ -16,17 +17,22 @@
 #![tactic(auto)]
 
 mod answers;
+mod failures;
 mod file_map;
 mod files;
 mod limits;
 mod line_reader;
+mod listen;
 mod mem_files;
+mod mem_listen;
 mod mem_sink;
 mod mem_source;
 mod pieces;
 mod read;
 mod real_files;
+mod real_listen;
 mod real_sink;
+mod real_stream;
 mod room;
 mod sink;
 mod source;
@@ -35,17 +41,21 @@ mod sure_sink;
 mod sure_source;
 mod unread;
 
-pub use answers::{FileRead, Wrote};
+pub use answers::{Accepted, Bound, FileRead, Wrote};
 pub use files::Files;
 pub use limits::MOST_LINE_BYTES;
 pub use line_reader::{LineReader, NextLine};
+pub use listen::Listen;
 pub use mem_files::MemFiles;
+pub use mem_listen::MemListen;
 pub use mem_sink::MemSink;
 pub use mem_source::MemSource;
 pub use pieces::write_all;
 pub use read::Read;
 pub use real_files::RealFiles;
+pub use real_listen::RealListen;
 pub use real_sink::RealSink;
+pub use real_stream::{RealSource, RealStreamSink};
 pub use sink::Sink;
 pub use source::Source;
 pub use sure_files::SureFiles;

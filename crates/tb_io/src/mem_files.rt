@@ -1,7 +1,5 @@
 ghost use Rattle.std.specs.Prelude.{◌≡◌, ◌≤◌, [], ℕ, Some, None, IfOk, OnOk, OnErr};
 ghost use Rattle.std.specs.Option.{option_copied};
-ghost use Rattle.std.specs.List.{list_any};
-ghost use Rattle.std.specs.Bool.{nat_eq};
 ghost use Rattle.tb_io.specs.Faults.{HasRisen, one_more};
 ghost use Rattle.tb_io.specs.FileAnswers.{IsWithin, Tells, TellsOf};
 ghost use Rattle.tb_io.specs.HeldFiles.{FailingFiles, bytes_of, Gives};
@@ -9,6 +7,7 @@ ghost use Rattle.tb_io.specs.HeldFiles.{IsReading, fails_next, after_read};
 ghost use Rattle.tb_io.specs.declared.answers.FileRead.TheVariants as file_read;
 
 use crate::answers::FileRead;
+use crate::failures::is_listed;
 use crate::file_map::{FileMap, copy_of};
 use crate::files::Files;
 use std::alloc::Global;
@@ -97,11 +96,4 @@ impl Files for MemFiles {
         self.faults = self.faults.saturating_add(1);
         FileRead::Failed
     }
-}
-
-// Whether the call with this number is one of those that fail.
-fn is_listed(fails: &[u32], call: u64) -> bool
-    ensures { result ≡ list_any (nat_eq call) fails.now }
-{
-    fails.iter().any(|n| u64::from(*n) == call)
 }

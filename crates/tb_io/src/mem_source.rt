@@ -1,11 +1,10 @@
 ghost use Rattle.std.specs.Prelude.{◌≡◌, ◌≤◌, ◌<◌, Some, IfOk, length};
-ghost use Rattle.std.specs.Bool.{nat_eq};
-ghost use Rattle.std.specs.List.{list_any};
 ghost use Rattle.tb_io.specs.Faults.{HasRisen};
 ghost use Rattle.tb_io.specs.PiecedSource.{after_read, read_of};
 ghost use Rattle.tb_io.specs.Sources.{Reads};
 ghost use Rattle.tb_io.specs.declared.read.Read.TheVariants as read;
 
+use crate::failures::is_listed;
 use crate::read::Read;
 use crate::source::Source;
 use crate::unread::Unread;
@@ -38,13 +37,6 @@ impl Model for MemSource {
     } };
 
     ghost invariant = { λ s. 0 < s.most };
-}
-
-// Whether the call with this number is one of those that fail.
-fn is_listed(fails: &[u32], call: u64) -> bool
-    ensures { result ≡ list_any (nat_eq call) fails.now }
-{
-    fails.iter().any(|n| u64::from(*n) == call)
 }
 
 impl MemSource {
