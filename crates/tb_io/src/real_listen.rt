@@ -28,7 +28,7 @@ struct OpenPort {
 #[derive(Drop)]
 pub struct RealListen<'a, R: Net<Listener = TcpListener, Stream = TcpStream> + Eprint> {
     rt: &'a R,
-    open: Option<OpenPort>,
+    bound: Option<OpenPort>,
     faults: u64,
     is_out: bool,
 }
@@ -41,7 +41,7 @@ impl<'a, R: Net<Listener = TcpListener, Stream = TcpStream> + Eprint> Model for 
 
     ghost coded = { listener_code };
 
-    ghost view = { λ l. telling_none l.faults (option_map (λ o. o.port) l.open) l.is_out };
+    ghost view = { λ l. telling_none l.faults (option_map (λ b. b.port) l.bound) l.is_out };
 }
 
 impl<'a, R: Net<Listener = TcpListener, Stream = TcpStream> + Eprint> RealListen<'a, R> {
@@ -51,7 +51,7 @@ impl<'a, R: Net<Listener = TcpListener, Stream = TcpStream> + Eprint> RealListen
     {
         RealListen {
             rt,
-            open: None,
+            bound: None,
             faults: 0,
             is_out: false,
         }
@@ -71,11 +71,11 @@ impl<'a, R: Net<Listener = TcpListener, Stream = TcpStream> + Eprint> RealListen
             (connection None None ends.0.faults ends.1.faults)) }
         ensures err { OnErr result (HasFailed self.old self.new) }
     {
-        let Some(open) = &self.open else {
+        let Some(bound) = &self.bound else {
             unreachable!()
         };
-        let port = open.port;
-        match accept_ends(&open.socket) {
+        let port = bound.port;
+        match accept_ends(&bound.socket) {
             Ok(ends) => {
                 self.is_out = true;
                 Ok(ends)
@@ -108,7 +108,7 @@ impl<'a, R: Net<Listener = TcpListener, Stream = TcpStream> + Eprint> Listen for
         match TcpListener::bind(self.rt, (Ipv4Addr::LOCALHOST, port)) {
             Ok(socket) => {
                 let _ = eprintln!(self.rt; "listening on 127.0.0.1:{port}");
-                self.open = Some(OpenPort { socket, port });
+                self.bound = Some(OpenPort { socket, port });
                 Bound::Ready
             }
             Err(e) => {
