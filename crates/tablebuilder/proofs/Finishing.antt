@@ -1,5 +1,5 @@
 -- What a call keeps, from how the run ended and what was taken of its text.
-use Rattle.std.proofs.Common.{◌≡◌, ◌≢◌, ◌⊎◌, ◌∙◌, sym, ap, subst, refl, ℕ, List, ◌++◌, take, drop, Option, Some, None, Ok, Err, inl, inr}
+use Rattle.std.proofs.Common.{◌≡◌, ◌≢◌, ◌⊎◌, ◌∙◌, sym, ap, subst, refl, ℕ, List, All, ◌++◌, take, drop, Option, Some, None, Ok, Err, inl, inr}
 use Rattle.std.specs.Prelude.{IfSome}
 use Rattle.std.proofs.lemmas.List.{take-append-drop}
 use Rattle.tb_base.specs.declared.status.Status.{Status}
@@ -11,13 +11,18 @@ use Rattle.tablebuilder.specs.declared.endings.End.TheVariants as end
 use Rattle.tablebuilder.specs.declared.command.Command.{Command}
 use Rattle.tablebuilder.specs.declared.command.Command.TheVariants as command
 use Rattle.tablebuilder.specs.declared.command.Inputs.{Inputs}
-use Rattle.tablebuilder.specs.Asking.{AskedValue, asked_of, asked_over, contents_at}
+use Rattle.tablebuilder.specs.Asking.{AskedValue, CensusValue, Script, Serve, asked_of, asked_over, contents_at, is_service}
 use Rattle.tablebuilder.specs.Calls.{Call, HasTaken, IsReadTo, NetFailed, ReadFailed, WriteFailed}
-use Rattle.tablebuilder.specs.Commands.{command_of, files_of, named}
+use Rattle.tablebuilder.specs.Commands.{asks_to_serve, command_of, files_of, input_files, named}
 use Rattle.tablebuilder.specs.Endings.{IsEnded, last_line, status_of}
 use Rattle.tablebuilder.specs.Loading.{Hold, Loads, Reading}
 use Rattle.tablebuilder.specs.Promises.{EndsBy, IsCaused, IsDefined, IsLastLine, IsTextOf, IsWhole, Keeps, defined_status}
-use Rattle.tablebuilder.specs.Outputs.{IsAnswered, IsOutput}
+use Rattle.tablebuilder.specs.Outputs.{IsAnswered, IsOutput, IsScriptAnswered}
+use Rattle.tablebuilder.proofs.PortLemmas.{all-unserved, same-idle}
+use Rattle.tablebuilder.proofs.Serving.{keeps_by_service}
+use Rattle.tablebuilder.proofs.Telling.{always_told, where_told}
+use Rattle.tb_script.specs.Scripts.{ScriptValue}
+use Rattle.tb_serve.specs.Stages.{IsFresh}
 use Rattle.tb_session.specs.Outputs.{text_of}
 use Rattle.tb_io.proofs.TakenLemmas.{TookPart-all}
 
@@ -42,7 +47,7 @@ not_of_ends (end.Refused input.Script name at) = (λ h. cc, λ h. cc, λ h. cc)
 not_of_ends (end.BadLine at) = (λ h. cc, λ h. cc, λ h. cc)
 not_of_ends end.Memory = (λ h. cc, λ h. cc, λ h. cc)
 
-module _ (call : Call) (at : List ℕ → Option (List ℕ)) where
+module _ (call : Call) (at : List ℕ → Option (List ℕ)) (same : call.ports_after ≡ call.ports) where
   -- a last line is the text of its status
   whole_by_status : (s : Status) (text : List ℕ) → s ≢ status.Done → s ≢ status.WriteFault → s ≢ status.NetFault → s ≢ status.Memory
       → IsLastLine call at s text → IsWhole call at s text
@@ -76,7 +81,7 @@ module _ (call : Call) (at : List ℕ → Option (List ℕ)) where
 
   whole_by_end : (e : End) → (e ≢ end.Memory → EndsBy call at e) → IsWhole call at (status_of e) (last_line e)
   whole_by_end e ends = elim (memory_or_not e) [
-    | inl memory ↦ rw memory refl
+    | inl memory ↦ rw memory (refl, all-unserved call.ports call.ports_after same)
     | inr (other, other_status) ↦
         let (net, write, done) = not_of_ends e in
         whole_by_status (status_of e) (last_line e) done write net other_status (e, ends other, refl, refl)
@@ -105,16 +110,6 @@ module _ (call : Call) (at : List ℕ → Option (List ℕ)) where
       → IsToldBy call e s → IsDefined call at s
   exact_by_end e s ends rose (inl (is, took)) = defined_by_end e s is ends rose
   exact_by_end e s ends rose (inr (is, failed, part)) = inr (inr (inr (inl (is, failed))))
-
--- what is true of any contents is true where the files tell them
-always_told : {A : Type 0} (P : A → Type 0) (o : Option A) → ((x : A) → P x) → IfSome o P
-always_told P None f = tt
-always_told P (Some x) f = f x
-
--- what is true where the files tell what they hold
-where_told : {A : Type 0} (P Q : A → Type 0) (o : Option A) → ((x : A) → P x → Q x) → IfSome o P → IfSome o Q
-where_told P Q None f h = tt
-where_told P Q (Some x) f h = f x h
 
 status-usage : (e : End) → status_of e ≡ status.Usage → e ≡ end.Usage
 status-usage end.Usage h = refl
@@ -151,7 +146,7 @@ status-read end.Memory h = cc
 module _ (call : Call) (e : End) (s : Status) (usage : e ≡ end.Usage → command_of call.words ≡ None)
     (words : command_of call.words ≡ None → e ≡ end.Usage)
     (rose : (file : Input) → e ≡ end.Unread file → ReadFailed call) (ends : IfSome call.content (λ at. e ≢ end.Memory → EndsBy call at e))
-    (free : call.steps_after ≡ call.steps) where
+    (free : call.steps_after ≡ call.steps) (fresh : All IsFresh call.ports) (same : call.ports_after ≡ call.ports) where
   usage_told : IsToldBy call e s → s ≡ status.Usage → (command_of call.words ≡ None) × HasTaken call (last_line end.Usage)
   usage_told (inl (is, took)) h = let u = status-usage e (sym is ∙ h) in (usage u, subst (λ x. HasTaken call (last_line x)) u took)
   usage_told (inr (is, failed, part)) h = cc
@@ -172,47 +167,55 @@ module _ (call : Call) (e : End) (s : Status) (usage : e ≡ end.Usage → comma
   net_told (inl (is, took)) h = let (net, write, done) = not_of_ends e in absurd (net (sym is ∙ h))
   net_told (inr (is, failed, part)) h = cc
 
-  -- a run that ends before the script's first line keeps all
+  -- a run that ends before its task keeps all
   pub keeps_by_end : IsToldBy call e s → Keeps call s
   keeps_by_end told = record {
-    text = where_told _ _ call.content (λ at by. text_by_end call at e s by told) ends;
+    text = where_told _ _ call.content (λ at by. text_by_end call at same e s by told) ends;
     usage = usage_told told;
     words = words_told told;
     read_fault = read_told told;
     write_fault = write_told told;
     net_fault = net_told told;
-    exact = where_told _ _ call.content (λ at by. exact_by_end call at e s by rose told) ends;
+    exact = where_told _ _ call.content (λ at by. exact_by_end call at same e s by rose told) ends;
     price = always_told _ call.content (λ at. inl free);
+    idle = same-idle call.ports call.ports_after same fresh;
+    others = λ h. same;
   }
 
--- how the replies were taken, and the status
-abbrev pub IsAnsweredBy : Call → AskedValue → Status → Type 0
-IsAnsweredBy call asked s = IsAnswered asked s call.write_faults call.write_faults_after call.taken call.taken_after call.steps
-    call.steps_after
+-- how a script was answered, and the status
+abbrev pub IsScriptAnsweredBy : Call → CensusValue → ScriptValue → Status → Type 0
+IsScriptAnsweredBy call census script s = IsScriptAnswered (Script census script) s call.write_faults call.write_faults_after call.taken
+    call.taken_after call.steps call.steps_after
 
--- a run that comes to its task keeps all
-pub keeps_by_answer : (call : Call) (command : Command) (asked : AskedValue) (s : Status) → command_of call.words ≡ Some command
-    → IfSome call.content (λ at. asked_of at call.words ≡ Ok asked) → IsAnsweredBy call asked s → Keeps call s
-keeps_by_answer call command asked s named told (inl (is, (replies, answers, took, cost))) =
-    let output : IsOutput asked (text_of replies) = (replies, answers, refl) in
+-- a run that comes to its script keeps all
+keeps_by_script : (call : Call) (command : Command) (census : CensusValue) (script : ScriptValue) (s : Status)
+    → command_of call.words ≡ Some command → IfSome call.content (λ at. asked_of at call.words ≡ Ok (Script census script))
+    → All IsFresh call.ports → call.ports_after ≡ call.ports → IsScriptAnsweredBy call census script s → Keeps call s
+keeps_by_script call command census script s named told fresh same (inl (is, (replies, answers, took, cost))) =
+    let output : IsOutput (Script census script) call.ports call.ports_after status.Done (text_of replies) = (refl, (replies, answers, refl)) in
     record {
-      text = where_told _ _ call.content (λ at h. (text_of replies, inl (rw is (asked, h, output)), took)) told;
+      text = where_told _ _ call.content (λ at h. (text_of replies, inl (rw is (Script census script, h, output)), took)) told;
       usage = λ h. cc;
       words = λ h. cc;
       read_fault = λ h. cc;
       write_fault = λ h. cc;
       net_fault = λ h. cc;
       exact = where_told _ _ call.content (λ at h. inl (is ∙ sym (ap defined_status h))) told;
-      price = where_told _ _ call.content (λ at h. inr
-          (asked, h, (replies, answers, TookPart-all call.taken call.taken_after (text_of replies) took, cost))) told;
+      price = where_told _ _ call.content (λ at h. inr (
+          Script census script,
+          h,
+          (replies, answers, TookPart-all call.taken call.taken_after (text_of replies) took, cost),
+      )) told;
+      idle = same-idle call.ports call.ports_after same fresh;
+      others = λ h. same;
     }
-keeps_by_answer call command asked s named told (inr (inl (is, failed, (replies, answers, part, cost)))) =
+keeps_by_script call command census script s named told fresh same (inr (inl (is, failed, (replies, answers, part, cost)))) =
     let text = text_of replies in
-    let output : IsOutput asked text = (replies, answers, refl) in
+    let output : IsOutput (Script census script) call.ports call.ports_after status.Done text = (refl, (replies, answers, refl)) in
     record {
       text = where_told _ _ call.content (λ at h.
           let whole : IsWhole call at status.Done (take part.0 text ++ drop part.0 text) = rw (take-append-drop part.0 text)
-          (asked, h, output) in
+          (Script census script, h, output) in
           (take part.0 text, inr (is, (status.Done, drop part.0 text, whole)), part.1)) told;
       usage = λ h. cc;
       words = λ h. cc;
@@ -220,10 +223,27 @@ keeps_by_answer call command asked s named told (inr (inl (is, failed, (replies,
       write_fault = λ h. failed;
       net_fault = λ h. cc;
       exact = where_told _ _ call.content (λ at h. inr (inr (inr (inl (is, failed))))) told;
-      price = where_told _ _ call.content (λ at h. inr (asked, h, (replies, answers, part, cost))) told;
+      price = where_told _ _ call.content (λ at h. inr (Script census script, h, (replies, answers, part, cost))) told;
+      idle = same-idle call.ports call.ports_after same fresh;
+      others = λ h. same;
     }
-keeps_by_answer call command asked s named told (inr (inr (free, ended))) =
-    keeps_by_end call end.Memory s (λ h. cc) (λ h. cc) (λ file h. cc) (always_told _ call.content (λ at ne. absurd (ne refl))) free ended
+keeps_by_script call command census script s named told fresh same (inr (inr (free, ended))) =
+    keeps_by_end call end.Memory s (λ h. cc) (λ h. cc) (λ file h. cc) (always_told _ call.content (λ at ne. absurd (ne refl))) free fresh
+    same ended
+
+-- how what is asked for was answered, and the status
+abbrev pub IsAnsweredBy : Call → AskedValue → Status → Type 0
+IsAnsweredBy call asked s = IsAnswered asked call.ports call.ports_after s call.write_faults call.write_faults_after call.taken
+    call.taken_after call.steps call.steps_after
+
+-- a run that comes to its task keeps all
+keeps_by_answer : (call : Call) (command : Command) (asked : AskedValue) (s : Status) → command_of call.words ≡ Some command
+    → is_service asked ≡ asks_to_serve (Some command)
+    → IfSome call.content (λ at. asked_of at call.words ≡ Ok asked) → All IsFresh call.ports → IsAnsweredBy call asked s → Keeps call s
+keeps_by_answer call command (Script census script) s named serves told fresh (same, answered) =
+    keeps_by_script call command census script s named told fresh same answered
+keeps_by_answer call command (Serve census service) s named serves told fresh (free, answered) =
+    keeps_by_service call command census service s named (sym serves) told free fresh answered
 
 -- what a call saw of its files
 abbrev pub reading_of : Call → Option (List ℕ → Option (List ℕ)) → Reading
@@ -261,15 +281,22 @@ holds-files : (at : List ℕ → Option (List ℕ)) (recodes : Option (List ℕ)
 holds-files at None classes ptable people script threshold = (refl, (refl, (refl, (refl, tt))))
 holds-files at (Some name) classes ptable people script threshold = (refl, (refl, (refl, (refl, (refl, tt)))))
 
+holds-inputs : (at : List ℕ → Option (List ℕ)) (recodes : Option (List ℕ)) (classes ptable people : List ℕ) (threshold : ℕ)
+    → let inputs : Inputs = record { classes = classes; recodes = recodes; ptable = ptable; people = people; threshold = threshold } in
+    Hold at (input_files inputs) (contents_at at (input_files inputs))
+holds-inputs at None classes ptable people threshold = (refl, (refl, (refl, tt)))
+holds-inputs at (Some name) classes ptable people threshold = (refl, (refl, (refl, (refl, tt))))
+
 holds : (at : List ℕ → Option (List ℕ)) (c : Command) → Hold at (files_of c) (contents_at at (files_of c))
 holds at (command.Script inputs script) = holds-files at inputs.recodes inputs.classes inputs.ptable inputs.people script inputs.threshold
+holds at (command.Serve inputs service) = holds-inputs at inputs.recodes inputs.classes inputs.ptable inputs.people inputs.threshold
 
 -- how loading ended the run
 pub keeps_by_load : {A : Type 0} (view : A → AskedValue) (call : Call) (after : Option (List ℕ → Option (List ℕ))) (command : Command)
     (e : End) (s : Status) → command_of call.words ≡ Some command
     → Loads (reading_of call after) 0 (files_of command) view (asked_over command) (Err e) → call.steps_after ≡ call.steps
-    → IsToldBy call e s → Keeps call s
-keeps_by_load view call after command e s named loads free told =
+    → All IsFresh call.ports → call.ports_after ≡ call.ports → IsToldBy call e s → Keeps call s
+keeps_by_load view call after command e s named loads free fresh same told =
     let rose = λ (file : Input) (h : e ≡ end.Unread file). loads.risen file (ap (λ (x : End). Err x) h) in
     let last = λ (file : Input) (h : e ≡ end.Unread file). loads.last file (ap (λ (x : End). Err x) h) in
     keeps_by_end call e s
@@ -278,23 +305,25 @@ keeps_by_load view call after command e s named loads free told =
       rw named
           (g (contents_at at (files_of command)) (holds at command) ne),
       caused call command e named rose last,
+      same,
     )) loads.gives)
-    free told
+    free fresh same told
 
 -- other arguments end the run at once
-pub keeps_by_usage : (call : Call) (s : Status) → command_of call.words ≡ None → call.steps_after ≡ call.steps → IsToldBy call end.Usage s
-    → Keeps call s
-keeps_by_usage call s none free told =
+pub keeps_by_usage : (call : Call) (s : Status) → command_of call.words ≡ None → call.steps_after ≡ call.steps → All IsFresh call.ports
+    → call.ports_after ≡ call.ports → IsToldBy call end.Usage s → Keeps call s
+keeps_by_usage call s none free fresh same told =
     keeps_by_end call end.Usage s (λ h. none) (λ h. refl) (λ file h. cc)
-    (always_told _ call.content (λ at ne. (rw none refl, tt))) free told
+    (always_told _ call.content (λ at ne. (rw none refl, tt, same))) free fresh same told
 
 -- files that were all read lead to the task
 pub keeps_by_task : {A : Type 0} (view : A → AskedValue) (call : Call) (after : Option (List ℕ → Option (List ℕ))) (command : Command)
     (x : A) (s : Status) → command_of call.words ≡ Some command
-    → Loads (reading_of call after) 0 (files_of command) view (asked_over command) (Ok x) → IsAnsweredBy call (view x) s → Keeps call s
-keeps_by_task view call after command x s named loads answered =
-    keeps_by_answer call command (view x) s named
-    (where_told _ _ call.content (λ at g. rw named (g (contents_at at (files_of command)) (holds at command))) loads.gives) answered
+    → Loads (reading_of call after) 0 (files_of command) view (asked_over command) (Ok x)
+    → is_service (view x) ≡ asks_to_serve (Some command) → All IsFresh call.ports → IsAnsweredBy call (view x) s → Keeps call s
+keeps_by_task view call after command x s named loads serves fresh answered =
+    keeps_by_answer call command (view x) s named serves
+    (where_told _ _ call.content (λ at g. rw named (g (contents_at at (files_of command)) (holds at command))) loads.gives) fresh answered
 
 -- the text of a read fault is the line that names the file of the last reading
 pub line_of_read_fault : (call : Call) (at : List ℕ → Option (List ℕ)) (s : Status) (bytes : List ℕ) → IsTextOf call at s bytes
@@ -302,7 +331,7 @@ pub line_of_read_fault : (call : Call) (at : List ℕ → Option (List ℕ)) (s 
     → (file : Input) × (bytes ≡ last_line (end.Unread file)) ×
     ((command : Command) → command_of call.words ≡ Some command → IsReadTo (files_of command) file call.readings call.readings_after)
 line_of_read_fault call at s bytes (inl whole) h =
-    let (e, (by, cause), is, text) = subst (λ x. IsWhole call at x bytes) h whole in
+    let (e, (by, cause, same), is, text) = subst (λ x. IsWhole call at x bytes) h whole in
     let (file, unread) = status-read e is in
     let caused = subst (IsCaused call) unread cause in
     (file, text ∙ ap last_line unread, caused.1)

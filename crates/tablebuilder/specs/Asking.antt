@@ -1,6 +1,6 @@
 -- What the arguments and the files ask for: a task over a census; or why the run ends before it
 -- begins.
-use Rattle.std.specs.Prelude.{◌==◌, ℕ, List, [], ◌∷◌, length, Option, Some, None, Result, Ok, Err, ok_or, nat_lt, if◌then◌else◌}
+use Rattle.std.specs.Prelude.{◌==◌, ℕ, Bool, true, false, List, [], ◌∷◌, length, Option, Some, None, Result, Ok, Err, ok_or, nat_lt, if◌then◌else◌}
 use Rattle.tb_base.specs.declared.records.Record.{Record}
 use Rattle.tb_model.specs.declared.names.PerturbationLine.{PerturbationLine}
 use Rattle.tb_model.specs.Schemas.{SchemaValue}
@@ -28,7 +28,7 @@ use Rattle.tb_script.specs.declared.limits.TheConstants.{MOST_SCRIPT_BYTES}
 use Rattle.tablebuilder.specs.declared.command.Command.{Command}
 use Rattle.tablebuilder.specs.declared.command.Command.TheVariants as command
 use Rattle.tablebuilder.specs.declared.command.Inputs.{Inputs}
-use Rattle.tablebuilder.specs.Commands.{NamedFile, command_of, files_of}
+use Rattle.tablebuilder.specs.Commands.{NamedFile, Service, command_of, files_of}
 
 -- what the files hold: the bytes of each, where it is there
 abbrev pub Contents : Type 0
@@ -119,15 +119,23 @@ census_in inputs contents =
       records = records;
     }))))
 
--- what is asked for over a census: replies to the lines of a script
+-- what is asked for over a census: replies to the lines of a script, or sessions
 pub data AskedValue : Type 0 where
   Script : CensusValue → ScriptValue → AskedValue
+  Serve : CensusValue → Service → AskedValue
+
+-- whether it is sessions
+abbrev pub is_service : AskedValue → Bool
+is_service (Script census script) = false
+is_service (Serve census service) = true
 
 -- what a command asks for over what its files hold
 abbrev pub asked_over : Command → Contents → Result AskedValue End
 asked_over (command.Script inputs name) contents =
     census_in inputs contents >>= (λ census.
     script_in contents >>= (λ script. Ok (Script census script)))
+asked_over (command.Serve inputs service) contents =
+    census_in inputs contents >>= (λ census. Ok (Serve census service))
 
 -- the place of a file in the order of reading
 abbrev pub input_place : Input → ℕ

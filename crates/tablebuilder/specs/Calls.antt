@@ -1,19 +1,16 @@
 -- What a call of the top call saw.
-use Rattle.std.specs.Prelude.{◌≡◌, ℕ, suc, zero, List, ◌∷◌, ◌++◌, Any, Option, length, map, option_map}
+use Rattle.std.specs.Prelude.{◌≡◌, ℕ, suc, zero, List, ◌∷◌, ◌++◌, Option, length, map, option_map}
 use Rattle.tb_io.specs.Faults.{HasRisen, one_more}
 use Rattle.tb_io.specs.Taken.{Took}
+use Rattle.tb_serve.specs.Ports.{PortValue}
+use Rattle.tb_serve.specs.Stages.{HasRisenSome}
 use Rattle.tablebuilder.specs.declared.endings.Input.{Input}
 use Rattle.tablebuilder.specs.Commands.{NamedFile}
 
--- a count of faults before and after a call
-pub record Counts : Type 0 where
-  pub before : ℕ
-  pub after : ℕ
-
 -- The arguments; what stands under each name, where the files tell it; the counts of faults of the
--- files and of the sink, before and after, and of each listener; how many readings there were,
--- where the files tell it; the bytes that the sink took, where it tells them; and the counter of
--- steps.
+-- files and of the sink, before and after; how many readings there were, where the files tell it;
+-- the ports, of which each listener has a count of faults of its own; the bytes that the sink took,
+-- where it tells them; and the counter of steps.
 pub record Call : Type 0 where
   pub words : List (List ℕ)
   pub content : Option (List ℕ → Option (List ℕ))
@@ -23,13 +20,14 @@ pub record Call : Type 0 where
   pub readings_after : Option ℕ
   pub write_faults : ℕ
   pub write_faults_after : ℕ
-  pub net_faults : List Counts
+  pub ports : List PortValue
+  pub ports_after : List PortValue
   pub taken : Option (List ℕ)
   pub taken_after : Option (List ℕ)
   pub steps : ℕ
   pub steps_after : ℕ
 
--- a read failed, a write failed, and a listener failed
+-- a read failed, a write failed, and some listener failed
 abbrev pub ReadFailed : Call → Type 0
 ReadFailed call = HasRisen call.read_faults call.read_faults_after
 
@@ -37,7 +35,7 @@ abbrev pub WriteFailed : Call → Type 0
 WriteFailed call = HasRisen call.write_faults call.write_faults_after
 
 abbrev pub NetFailed : Call → Type 0
-NetFailed call = Any (λ counts. HasRisen counts.before counts.after) call.net_faults
+NetFailed call = HasRisenSome call.ports call.ports_after
 
 -- the sink took exactly these bytes
 abbrev pub HasTaken : Call → List ℕ → Type 0

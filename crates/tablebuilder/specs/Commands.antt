@@ -1,10 +1,11 @@
 -- The arguments of the command line: a command is one of several, each with its inputs and a task.
-use Rattle.std.specs.Prelude.{ℕ, ◌==◌, ◌&&◌, ◌||◌, Bool, false, not, List, [], ◌∷◌, ◌++◌, length, get_or, Option, Some, None, option_map, option_and_then, nat_le, bytes_eq, codes, if◌then◌else◌}
+use Rattle.std.specs.Prelude.{ℕ, ◌≤◌, ◌==◌, ◌&&◌, ◌||◌, Bool, true, false, not, List, [], ◌∷◌, ◌++◌, length, get_or, Option, Some, None, option_map, option_and_then, nat_le, bytes_eq, codes, if◌then◌else◌}
+use Rattle.std.specs.Option.{option_or}
 use Rattle.tb_base.specs.Numbers.{number_of}
 use Rattle.tablebuilder.specs.declared.command.Command.{Command}
 use Rattle.tablebuilder.specs.declared.command.Command.TheVariants as command
 use Rattle.tablebuilder.specs.declared.command.Inputs.{Inputs}
-use Rattle.tablebuilder.specs.declared.command.TheConstants.{MOST_THRESHOLD}
+use Rattle.tablebuilder.specs.declared.command.TheConstants.{MOST_PORT, MOST_SESSIONS, MOST_THRESHOLD, MOST_WORKERS}
 use Rattle.tablebuilder.specs.declared.endings.Input.{Input}
 use Rattle.tablebuilder.specs.declared.endings.Input.TheVariants as input
 
@@ -20,10 +21,14 @@ may_name_recodes word = bytes_eq word (codes "-") || is_file_name word
 abbrev pub recodes_name : List ℕ → Option (List ℕ)
 recodes_name word = if bytes_eq word (codes "-") then None else Some word
 
+-- a number that is neither below the least nor above the most
+abbrev pub number_within : (least most : ℕ) → List ℕ → Option ℕ
+number_within least most word =
+    option_and_then (λ n. if nat_le least n && nat_le n most then Some n else None) (number_of word)
+
 -- a threshold is a number up to a million
 abbrev pub threshold_in : List ℕ → Option ℕ
-threshold_in word =
-    option_and_then (λ n. if nat_le n MOST_THRESHOLD then Some n else None) (number_of word)
+threshold_in = number_within 0 MOST_THRESHOLD
 
 -- the inputs that five arguments name, `CLASSES RECODES PTABLE PEOPLE THRESHOLD`
 abbrev pub inputs_with : (classes recodes ptable people : List ℕ) → ℕ → Inputs
@@ -49,18 +54,60 @@ script_named classes recodes ptable people threshold script =
     (inputs_named classes recodes ptable people threshold)
     else None
 
+-- where sessions are served: the custodian's port, how many workers there are at the ports after
+-- it, and how many sessions each port has
+pub record Service : Type 0 where
+  pub port : ℕ
+  pub workers : ℕ
+  pub sessions : ℕ
+
+abbrev pub service_with : (port workers sessions : ℕ) → Service
+service_with port workers sessions =
+    record { port = port; workers = workers; sessions = sessions }
+
+-- there is a port for each worker
+pub record HasPorts (service : Service) : Type 0 where
+  pub first : service.port ≤ MOST_PORT
+  pub workers : service.workers ≤ MOST_WORKERS
+
+-- the service that three arguments name, `PORT WORKERS SESSIONS`, each from 1 on
+abbrev pub service_named : (port workers sessions : List ℕ) → Option Service
+service_named port workers sessions =
+    option_and_then (λ p. option_and_then (λ w.
+    option_map (service_with p w) (number_within 1 MOST_SESSIONS sessions))
+    (number_within 1 MOST_WORKERS workers)) (number_within 1 MOST_PORT port)
+
+-- a command of the inputs and the service
+abbrev pub serve_named : (classes recodes ptable people threshold port workers sessions : List ℕ)
+    → Option Command
+serve_named classes recodes ptable people threshold port workers sessions =
+    option_and_then (λ inputs.
+    option_map (command.Serve inputs) (service_named port workers sessions))
+    (inputs_named classes recodes ptable people threshold)
+
 -- the argument at a place
 abbrev pub word_at : List (List ℕ) → ℕ → List ℕ
 word_at words i = get_or words i []
 
--- what the arguments ask for, `script CLASSES RECODES PTABLE PEOPLE THRESHOLD SCRIPT`; others than
--- those of a command ask for nothing
-abbrev pub command_of : List (List ℕ) → Option Command
-command_of words =
+-- what `script CLASSES RECODES PTABLE PEOPLE THRESHOLD SCRIPT` asks for
+abbrev pub script_words : List (List ℕ) → Option Command
+script_words words =
     if (length words == 7) && bytes_eq (word_at words 0) (codes "script")
     then script_named (word_at words 1) (word_at words 2) (word_at words 3) (word_at words 4)
     (word_at words 5) (word_at words 6)
     else None
+
+-- what `serve CLASSES RECODES PTABLE PEOPLE THRESHOLD PORT WORKERS SESSIONS` asks for
+abbrev pub serve_words : List (List ℕ) → Option Command
+serve_words words =
+    if (length words == 9) && bytes_eq (word_at words 0) (codes "serve")
+    then serve_named (word_at words 1) (word_at words 2) (word_at words 3) (word_at words 4)
+    (word_at words 5) (word_at words 6) (word_at words 7) (word_at words 8)
+    else None
+
+-- what the arguments ask for; others than those of a command ask for nothing
+abbrev pub command_of : List (List ℕ) → Option Command
+command_of words = option_or (script_words words) (serve_words words)
 
 -- an input and the name of its file
 pub record NamedFile : Type 0 where
@@ -89,3 +136,10 @@ input_files inputs =
 abbrev pub files_of : Command → List NamedFile
 files_of (command.Script inputs script) =
     input_files inputs ++ (named input.Script script ∷ [])
+files_of (command.Serve inputs service) = input_files inputs
+
+-- whether sessions are asked for
+abbrev pub asks_to_serve : Option Command → Bool
+asks_to_serve (Some (command.Serve inputs service)) = true
+asks_to_serve (Some (command.Script inputs script)) = false
+asks_to_serve None = false

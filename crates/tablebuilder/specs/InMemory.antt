@@ -1,8 +1,9 @@
 -- What a run over files and a sink in memory tells.
-use Rattle.std.specs.Prelude.{◌≡◌, ℕ, List, [], ◌++◌, Some}
+use Rattle.std.specs.Prelude.{◌≡◌, ℕ, List, ◌++◌, Some}
 use Rattle.tb_base.specs.declared.status.Status.{Status}
 use Rattle.tb_io.specs.BoundedSink.{BoundedSink}
 use Rattle.tb_io.specs.HeldFiles.{FailingFiles, bytes_of}
+use Rattle.tb_serve.specs.Ports.{PortValue}
 use Rattle.tablebuilder.specs.declared.endings.Input.{Input}
 use Rattle.tablebuilder.specs.declared.endings.End.TheVariants as end
 use Rattle.tablebuilder.specs.declared.command.Command.{Command}
@@ -13,8 +14,8 @@ use Rattle.tablebuilder.specs.Promises.{IsTextOf}
 
 -- what such a call saw
 abbrev pub memory_call : List (List ℕ) → FailingFiles → FailingFiles → BoundedSink → BoundedSink
-    → ℕ → ℕ → Call
-memory_call words files files' out out' steps steps' = record {
+    → List PortValue → List PortValue → ℕ → ℕ → Call
+memory_call words files files' out out' ports ports' steps steps' = record {
   words = words;
   content = Some (bytes_of files.held);
   read_faults = files.faults;
@@ -23,7 +24,8 @@ memory_call words files files' out out' steps steps' = record {
   readings_after = Some files'.calls;
   write_faults = out.faults;
   write_faults_after = out'.faults;
-  net_faults = [];
+  ports = ports;
+  ports_after = ports';
   taken = Some out.taken;
   taken_after = Some out'.taken;
   steps = steps;

@@ -1,6 +1,7 @@
 pub mod Commands
 pub mod Endings
 pub mod Asking
+pub mod Services
 pub mod Outputs
 pub mod Calls
 pub mod Promises

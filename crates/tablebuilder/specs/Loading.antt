@@ -10,7 +10,7 @@ use Rattle.tablebuilder.specs.declared.endings.End.TheVariants as end
 use Rattle.tablebuilder.specs.declared.load.Asked.{Asked}
 use Rattle.tablebuilder.specs.declared.load.Asked.TheVariants as asked
 use Rattle.tablebuilder.specs.declared.load.Census.{Census}
-use Rattle.tablebuilder.specs.Asking.{AskedValue, CensusValue, Contents, Script, contents_for, input_place}
+use Rattle.tablebuilder.specs.Asking.{AskedValue, CensusValue, Contents, Script, Serve, contents_for, input_place}
 use Rattle.tablebuilder.specs.Calls.{IsReadTo, readings_more}
 use Rattle.tablebuilder.specs.Commands.{NamedFile}
 
@@ -72,6 +72,7 @@ census_value c = record { setup = c.setup; records = c.release.records }
 
 abbrev pub asked_value : Asked → AskedValue
 asked_value (asked.Script census script) = Script (census_value census) script
+asked_value (asked.Serve census service) = Serve (census_value census) service
 
 -- a census begins at release 0 of its records, which fit its schema
 abbrev pub IsFirst : Census → Type 0
@@ -82,3 +83,4 @@ IsFirst c =
 -- so does what is asked for
 abbrev pub AskedIsFirst : Asked → Type 0
 AskedIsFirst (asked.Script census script) = IsFirst census
+AskedIsFirst (asked.Serve census service) = IsFirst census

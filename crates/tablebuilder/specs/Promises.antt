@@ -1,5 +1,5 @@
 -- What each status of the top call tells.
-use Rattle.std.specs.Prelude.{◌≡◌, ◌⊎◌, ◌+◌, ◌≤◌, ℕ, List, ◌++◌, Option, None, Some, Result, Ok, Err, IfSome}
+use Rattle.std.specs.Prelude.{◌≡◌, ◌⊎◌, ◌+◌, ◌≤◌, ℕ, List, ◌++◌, All, Bool, false, Option, None, Some, Result, Ok, Err, IfSome}
 use Rattle.tb_base.specs.declared.status.Status.{Status}
 use Rattle.tb_base.specs.declared.status.Status.TheVariants as status
 use Rattle.tb_io.specs.Taken.{TookPart}
@@ -9,10 +9,12 @@ use Rattle.tablebuilder.specs.declared.endings.End.{End}
 use Rattle.tablebuilder.specs.declared.endings.End.TheVariants as end
 use Rattle.tablebuilder.specs.Asking.{AskedValue, asked_by, asked_of, contents_at, contents_for}
 use Rattle.tablebuilder.specs.Calls.{Call, HasTaken, IsReadTo, NetFailed, ReadFailed, WriteFailed}
-use Rattle.tablebuilder.specs.Commands.{command_of, files_of}
+use Rattle.tablebuilder.specs.Commands.{asks_to_serve, command_of, files_of}
 use Rattle.tablebuilder.specs.declared.command.Command.{Command}
 use Rattle.tablebuilder.specs.Endings.{last_line, status_of}
 use Rattle.tablebuilder.specs.Outputs.{AreAnswers, IsOutput}
+use Rattle.tablebuilder.specs.Services.{IsIdle, IsUnserved}
+use Rattle.tb_serve.specs.Ports.{Each}
 
 -- an end at a file that couldn't be read: a read failed, and it was the last, at that file
 abbrev pub IsReadingAt : Call → Input → Type 0
@@ -29,22 +31,28 @@ IsCaused call (end.Refused file name at) = Unit {0}
 IsCaused call (end.BadLine at) = Unit {0}
 IsCaused call end.Memory = Unit {0}
 
--- the run ends so before the script's first line: by the arguments, by what the files hold, or at a
--- file that couldn't be read, where each earlier file is there, not too long and accepted
+-- the run ends so before its task: by the arguments, by what the files hold, or at a file that
+-- couldn't be read, where each earlier file is there, not too long and accepted; no port changed
 abbrev pub EndsBy : Call → (List ℕ → Option (List ℕ)) → End → Type 0
 EndsBy call at e =
     (asked_by (λ command. contents_for e (contents_at at (files_of command))) call.words ≡ Err e)
-    × IsCaused call e
+    × IsCaused call e × (call.ports_after ≡ call.ports)
 
 -- a text is the last line of a run that ends so with this status, and nothing else
 abbrev pub IsLastLine : Call → (List ℕ → Option (List ℕ)) → Status → List ℕ → Type 0
 IsLastLine call at s text = (e : End) × EndsBy call at e × (status_of e ≡ s) × (text ≡ last_line e)
 
--- a text is what a run with this status writes where no write fails: with Done an output of the
--- script, with another status its last line
+-- a text is an output of what is asked for, with this status
+abbrev pub IsAskedOutput : Call → (List ℕ → Option (List ℕ)) → Status → List ℕ → Type 0
+IsAskedOutput call at s text =
+    (asked : AskedValue) × (asked_of at call.words ≡ Ok asked)
+    × IsOutput asked call.ports call.ports_after s text
+
+-- a text is what a run with this status writes where no write fails: with Done and NetFault an
+-- output, with another status its last line; with Memory no session
+-- came or went
 abbrev pub IsWhole : Call → (List ℕ → Option (List ℕ)) → Status → List ℕ → Type 0
-IsWhole call at status.Done text =
-    (asked : AskedValue) × (asked_of at call.words ≡ Ok asked) × IsOutput asked text
+IsWhole call at status.Done text = IsAskedOutput call at status.Done text
 IsWhole call at status.Usage text = IsLastLine call at status.Usage text
 IsWhole call at status.Schema text = IsLastLine call at status.Schema text
 IsWhole call at status.Perturbation text = IsLastLine call at status.Perturbation text
@@ -52,8 +60,9 @@ IsWhole call at status.Microdata text = IsLastLine call at status.Microdata text
 IsWhole call at status.Script text = IsLastLine call at status.Script text
 IsWhole call at status.ReadFault text = IsLastLine call at status.ReadFault text
 IsWhole call at status.WriteFault text = ⊥
-IsWhole call at status.Memory text = text ≡ last_line end.Memory
-IsWhole call at status.NetFault text = ⊥
+IsWhole call at status.Memory text =
+    (text ≡ last_line end.Memory) × Each (λ _. IsUnserved) call.ports call.ports_after
+IsWhole call at status.NetFault text = IsAskedOutput call at status.NetFault text
 
 -- the same, or, where a write failed, a beginning of such a text
 abbrev pub IsTextOf : Call → (List ℕ → Option (List ℕ)) → Status → List ℕ → Type 0
@@ -80,7 +89,7 @@ IsDefined call at s =
     ⊎ (((s ≡ status.WriteFault) × WriteFailed call)
     ⊎ ((s ≡ status.NetFault) × NetFailed call))))
 
--- the counter rose by no more than the price of some replies to the script, of whose text the sink
+-- the counter rose by no more than the price of some replies to a script, of whose text the sink
 -- took a beginning
 abbrev pub IsPriced : Call → (List ℕ → Option (List ℕ)) → Type 0
 IsPriced call at =
@@ -106,3 +115,6 @@ pub record Keeps (call : Call) (s : Status) : Type 0 where
   -- The counter rises by no more than the replies' price, and not at all where no line is answered.
   pub price : IfSome call.content (λ at.
       (call.steps_after ≡ call.steps) ⊎ IsPriced call at)
+  -- At the return no one is served at a port, and where no sessions are asked for none changed.
+  pub idle : All IsIdle call.ports_after
+  pub others : asks_to_serve (command_of call.words) ≡ false → call.ports_after ≡ call.ports

@@ -1,13 +1,25 @@
 // The arguments of the command line.
 
 ghost use Rattle.std.specs.Prelude.{◌≡◌, None, Some, if◌then◌else◌, map, string_bytes};
-ghost use Rattle.tablebuilder.specs.Commands.{command_of, inputs_named, is_file_name as names_a_file, may_name_recodes, recodes_name as name_of_recodes, script_named, threshold_in};
+ghost use Rattle.tablebuilder.specs.Commands.{command_of, inputs_named, is_file_name as names_a_file};
+ghost use Rattle.tablebuilder.specs.Commands.{HasPorts, may_name_recodes, number_within};
+ghost use Rattle.tablebuilder.specs.Commands.{recodes_name as name_of_recodes, script_named};
+ghost use Rattle.tablebuilder.specs.Commands.{script_words, serve_named, serve_words, service_named};
 
 use std::marker::Model;
 use tb_base::read_number;
 
 /// The greatest threshold.
 pub const MOST_THRESHOLD: u32 = 1_000_000;
+
+/// The most workers that serve analysts.
+pub const MOST_WORKERS: u32 = 16;
+
+/// The greatest port of a custodian, after which there is a port for each worker.
+pub const MOST_PORT: u16 = 65_519;
+
+/// The most sessions of a port.
+pub const MOST_SESSIONS: u32 = 1_000_000;
 
 /// The name of a file.
 #[derive(Drop)]
@@ -34,13 +46,61 @@ pub struct Inputs<'a> {
     pub threshold: u32,
 }
 
+/// Where sessions are served: the custodian's at `port`, analysts' at as many ports after it as
+/// there are workers, and so many at each.
+#[derive(Clone, Copy)]
+pub struct Service {
+    port: u16,
+    workers: u32,
+    sessions: u32,
+}
+
+impl Model for Service {
+    ghost use Rattle.tablebuilder.specs.Commands.{HasPorts, Service as ServiceValue, service_with};
+
+    ghost Value = { ServiceValue };
+
+    ghost view = { λ s. service_with s.port s.workers s.sessions };
+
+    ghost invariant = { λ s. HasPorts (service_with s.port s.workers s.sessions) };
+}
+
+impl Service {
+    /// The custodian's port. With the number of workers it is at most the last port there is.
+    pub fn port(&self) -> u16
+        ensures port { result ≡ self.now.port }
+        ensures ports { HasPorts self.now }
+    {
+        let _ = self.workers;
+        self.port
+    }
+
+    /// How many workers serve analysts.
+    pub fn workers(&self) -> u32
+        ensures { result ≡ self.now.workers }
+    {
+        self.workers
+    }
+
+    /// How many sessions each port has.
+    pub fn sessions(&self) -> u32
+        ensures { result ≡ self.now.sessions }
+    {
+        self.sessions
+    }
+}
+
 /// A command: one of several, each with its inputs and its task. `Script` answers the lines of the
-/// script of that name.
+/// script of that name; `Serve` serves sessions.
 #[derive(Drop)]
 pub enum Command<'a> {
     Script {
         inputs: Inputs<'a>,
         script: FileName<'a>,
+    },
+    Serve {
+        inputs: Inputs<'a>,
+        service: Service,
     },
 }
 
@@ -88,12 +148,13 @@ fn recodes_name(word: &str) -> Option<FileName<'_>>
     }
 }
 
-fn read_threshold(word: &str) -> Option<u32>
-    ensures { result ≡ threshold_in word.now }
+// The number of an argument, where it is neither below the least nor above the most.
+fn read_within(least: u32, most: u32, word: &str) -> Option<u32>
+    ensures { result ≡ number_within least most word.now }
 {
-    let threshold = read_number(word.as_bytes())?;
-    if threshold <= MOST_THRESHOLD {
-        Some(threshold)
+    let number = read_number(word.as_bytes())?;
+    if least <= number && number <= most {
+        Some(number)
     } else {
         None
     }
@@ -122,7 +183,7 @@ fn read_inputs<'a>(
         recodes: recodes_name(recodes),
         ptable: FileName::of(ptable),
         people: FileName::of(people),
-        threshold: read_threshold(threshold)?,
+        threshold: read_within(0, MOST_THRESHOLD, threshold)?,
     })
 }
 
@@ -150,10 +211,47 @@ fn read_script<'a>(
     }
 }
 
-/// What the arguments `script CLASSES RECODES PTABLE PEOPLE THRESHOLD SCRIPT` ask for, RECODES
-/// being a file's name or `-`. None at all other arguments.
-pub fn read_command(words: &[String]) -> Option<Command<'_>>
-    ensures { result ≡ command_of (map string_bytes words.now) }
+// The service that the arguments `PORT WORKERS SESSIONS` name.
+fn read_service(port: &str, workers: &str, sessions: &str) -> Option<Service>
+    ensures { result ≡ service_named port.now workers.now sessions.now }
+{
+    let port = read_within(1, u32::from(MOST_PORT), port)? as u16;
+    let workers = read_within(1, MOST_WORKERS, workers)?;
+    let sessions = read_within(1, MOST_SESSIONS, sessions)?;
+    Some(Service {
+        port,
+        workers,
+        sessions,
+    })
+}
+
+// The command that the arguments `CLASSES RECODES PTABLE PEOPLE THRESHOLD PORT WORKERS SESSIONS`
+// name.
+fn read_serve<'a>(
+    classes: &'a str,
+    recodes: &'a str,
+    ptable: &'a str,
+    people: &'a str,
+    threshold: &str,
+    port: &str,
+    workers: &str,
+    sessions: &str,
+) -> Option<Command<'a>>
+    ensures { result ≡ serve_named classes.now recodes.now ptable.now people.now threshold.now
+        port.now workers.now sessions.now }
+{
+    match read_inputs(classes, recodes, ptable, people, threshold) {
+        Some(inputs) => match read_service(port, workers, sessions) {
+            Some(service) => Some(Command::Serve { inputs, service }),
+            None => None,
+        },
+        None => None,
+    }
+}
+
+// What the arguments `script CLASSES RECODES PTABLE PEOPLE THRESHOLD SCRIPT` ask for.
+fn read_script_words(words: &[String]) -> Option<Command<'_>>
+    ensures { result ≡ script_words (map string_bytes words.now) }
 {
     let [command, classes, recodes, ptable, people, threshold, script] = words else {
         return None;
@@ -169,4 +267,39 @@ pub fn read_command(words: &[String]) -> Option<Command<'_>>
         threshold.as_str(),
         script.as_str(),
     )
+}
+
+// What the arguments `serve CLASSES RECODES PTABLE PEOPLE THRESHOLD PORT WORKERS SESSIONS` ask for.
+fn read_serve_words(words: &[String]) -> Option<Command<'_>>
+    ensures { result ≡ serve_words (map string_bytes words.now) }
+{
+    let [command, classes, recodes, ptable, people, threshold, port, workers, sessions] = words
+    else {
+        return None;
+    };
+    if command.as_str() != "serve" {
+        return None;
+    }
+    read_serve(
+        classes.as_str(),
+        recodes.as_str(),
+        ptable.as_str(),
+        people.as_str(),
+        threshold.as_str(),
+        port.as_str(),
+        workers.as_str(),
+        sessions.as_str(),
+    )
+}
+
+/// What the arguments ask for: `script CLASSES RECODES PTABLE PEOPLE THRESHOLD SCRIPT`, or `serve
+/// CLASSES RECODES PTABLE PEOPLE THRESHOLD PORT WORKERS SESSIONS`, RECODES being a file's name or
+/// `-`. None at all other arguments.
+pub fn read_command(words: &[String]) -> Option<Command<'_>>
+    ensures { result ≡ command_of (map string_bytes words.now) }
+{
+    match read_script_words(words) {
+        Some(command) => Some(command),
+        None => read_serve_words(words),
+    }
 }

@@ -1,17 +1,21 @@
 // The files of a run, read in their order.
 
-ghost use Rattle.std.specs.Prelude.{◌≡◌, ◌≤◌, [], ◌∷◌, ◌++◌, Option, length, IfOk, option_map};
+ghost use Rattle.std.specs.Prelude.{◌≡◌, ◌≤◌, [], ◌∷◌, ◌++◌, Option, Some, true, false, length, IfOk};
+ghost use Rattle.std.specs.Prelude.{option_map};
 ghost use Rattle.tb_base.specs.declared.people.TheConstants.{MOST_PERSONS};
 ghost use Rattle.tb_base.specs.Records.{AllFit};
 ghost use Rattle.tb_model.specs.Releases.{first_release};
 ghost use Rattle.tb_model.specs.Schemas.{shape_of};
 ghost use Rattle.tablebuilder.specs.declared.command.Command.TheVariants as command;
 ghost use Rattle.tablebuilder.specs.declared.endings.Input.TheVariants as input;
-ghost use Rattle.tablebuilder.specs.Asking.{asked_over, bytes_in, census_in, input_place, most_bytes, people_in, perturbation_in, recodes_in, schema_in, script_in};
-ghost use Rattle.tablebuilder.specs.Commands.{class_files, files_of, input_files, named, recodes_files};
+ghost use Rattle.tablebuilder.specs.Asking.{asked_over, bytes_in, census_in, input_place, is_service};
+ghost use Rattle.tablebuilder.specs.Asking.{most_bytes, people_in, perturbation_in, recodes_in};
+ghost use Rattle.tablebuilder.specs.Asking.{schema_in, script_in};
+ghost use Rattle.tablebuilder.specs.Commands.{asks_to_serve, class_files, files_of, input_files};
+ghost use Rattle.tablebuilder.specs.Commands.{named, recodes_files};
 ghost use Rattle.tablebuilder.specs.Loading.{AskedIsFirst, IsFirst, Loads, asked_value, census_value, reading};
 
-use crate::command::{Command, FileName, Inputs};
+use crate::command::{Command, FileName, Inputs, Service};
 use crate::endings::{End, Input};
 use std::alloc::Global;
 use tb_base::People;
@@ -33,10 +37,11 @@ pub struct Census {
     pub release: Release,
 }
 
-/// What a run is asked for over a census: to answer the lines of a script.
+/// What a run is asked for over a census: to answer the lines of a script, or to serve sessions.
 #[derive(Drop)]
 pub enum Asked {
     Script { census: Census, script: Script },
+    Serve { census: Census, service: Service },
 }
 
 fn most_bytes_of(file: Input) -> u64
@@ -198,6 +203,7 @@ fn load_for_script<F: Files>(
     script: &FileName<'_>,
 ) -> Result<Asked, End>
     ensures first { IfOk result AskedIsFirst }
+    ensures kind { IfOk result (λ asked. is_service (asked_value asked) ≡ false) }
     ensures loads { Loads
         (reading F.content F.faults F.readings files.old files.new)
         0
@@ -210,11 +216,33 @@ fn load_for_script<F: Files>(
     Ok(Asked::Script { census, script })
 }
 
+// The census alone, over which sessions are served.
+fn load_for_service<F: Files>(
+    alloc: Global,
+    files: &mut F,
+    inputs: &Inputs<'_>,
+    service: Service,
+) -> Result<Asked, End>
+    ensures first { IfOk result AskedIsFirst }
+    ensures kind { IfOk result (λ asked. is_service (asked_value asked) ≡ true) }
+    ensures loads { Loads
+        (reading F.content F.faults F.readings files.old files.new)
+        0
+        (files_of (command.Serve inputs.now service))
+        asked_value
+        (asked_over (command.Serve inputs.now service)) result }
+{
+    let census = load_census(alloc, files, inputs)?;
+    Ok(Asked::Serve { census, service })
+}
+
 /// Reads the files of a command: CLASSES and RECODES, both before either is checked, then PTABLE,
-/// PEOPLE and the task's, each checked before the next is read. It takes memory for each file while
+/// PEOPLE and the task's, if it has one, each checked before the next is read. It takes memory for each file while
 /// it is read, and for what it says.
 pub fn load<F: Files>(alloc: Global, files: &mut F, command: &Command<'_>) -> Result<Asked, End>
     ensures first { IfOk result AskedIsFirst }
+    ensures kind { IfOk result (λ asked. is_service (asked_value asked)
+        ≡ asks_to_serve (Some command.now)) }
     ensures loads { Loads
         (reading F.content F.faults F.readings files.old files.new)
         0
@@ -224,5 +252,6 @@ pub fn load<F: Files>(alloc: Global, files: &mut F, command: &Command<'_>) -> Re
 {
     match command {
         Command::Script { inputs, script } => load_for_script(alloc, files, inputs, script),
+        Command::Serve { inputs, service } => load_for_service(alloc, files, inputs, *service),
     }
 }

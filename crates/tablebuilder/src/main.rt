@@ -4,14 +4,17 @@
 //! The top call is `top::tablebuilder`; its contract tells, for each status, what was written
 //! (`specs/Promises`). A command is one of several, each with its inputs and a task
 //! (`specs/Commands`); what it asks for over its files is a function (`specs/Asking`), what is
-//! answered a relation (`specs/Outputs`). Of the lemmas `proofs/CommandWords` serves the reading of
-//! the arguments, `LoadSteps` that of the files, step after step, and `Finishing` the top call.
+//! answered a relation (`specs/Outputs`, and `Services` for sessions). Of the lemmas
+//! `proofs/CommandWords` serves the reading of the arguments, `LoadSteps` that of the files, step
+//! after step, and `Finishing` the top call, of which `Serving` has the part on sessions, and
+//! `PortLemmas` what is true of all ports.
 #![tactic(auto)]
 
 mod command;
 mod endings;
 mod laws;
 mod load;
+mod ports;
 mod top;
 
 ghost use Rattle.std.specs.Prelude.{◌≡◌, ◌<◌};
@@ -20,6 +23,7 @@ use endings::End;
 use std::alloc::AllocError;
 use std::io::ErrorKind;
 use std::marker::Brand;
+use std::net::{Net, TcpListener, TcpStream};
 use std::process::ExitCode;
 use std::rt::{Env, Files as FileSystem};
 use std::sync::Wait;
@@ -41,10 +45,21 @@ fn arguments<R: Env + AllocGlobal>(rt: &R) -> io::Result<Vec<String>> {
     Ok(words)
 }
 
-// Runs the command of the arguments over the system's files, writing into `out`, with a counter of
-// its own.
-fn run_command<R: Env + FileSystem + Print + AllocGlobal + Threads + Wait + Sync, L: Ledger>(
+// Runs the command of these arguments over the system's files and listeners, writing into `out`,
+// with a counter of its own.
+fn run_words<
+    R: FileSystem
+        + Print
+        + Eprint
+        + AllocGlobal
+        + Threads
+        + Wait
+        + Net<Listener = TcpListener, Stream = TcpStream>
+        + Sync,
+    L: Ledger,
+>(
     rt: &R,
+    words: &[String],
     out: &mut RealSink<'_, R>,
     blank: Blank,
 ) -> Status
@@ -52,28 +67,61 @@ fn run_command<R: Env + FileSystem + Print + AllocGlobal + Threads + Wait + Sync
     requires parts { blank.parts ≡ L.parts }
     requires some { 0 < L.parts }
 {
-    let words = match arguments(rt) {
-        Ok(words) => words,
-        Err(e) if e.kind() == ErrorKind::OutOfMemory => return top::end_by(&End::Memory, out),
-        // An argument that isn't UTF-8 is none of the command's.
-        Err(_) => return top::end_by(&End::Usage, out),
+    let Ok(mut net) = ports::real_ports(rt, rt.alloc()) else {
+        return top::end_by(&End::Memory, out);
     };
     let mut steps = Steps::<L>::new(blank);
     top::tablebuilder(
         rt,
         rt.alloc(),
-        &words,
+        words,
         &mut RealFiles::new(rt),
         out,
+        &mut net,
         &mut steps,
     )
 }
 
-fn run<R: Env + FileSystem + Print + AllocGlobal + Threads + Wait + Sync>(rt: &R) -> Status {
+// Runs the command of the arguments.
+fn run_command<
+    R: Env
+        + FileSystem
+        + Print
+        + Eprint
+        + AllocGlobal
+        + Threads
+        + Wait
+        + Net<Listener = TcpListener, Stream = TcpStream>
+        + Sync,
+>(
+    rt: &R,
+    out: &mut RealSink<'_, R>,
+) -> Status {
+    match arguments(rt) {
+        Ok(words) => run_words::<R, Brand>(rt, &words, out, Blank::new(1)),
+        Err(e) if e.kind() == ErrorKind::OutOfMemory => top::end_by(&End::Memory, out),
+        // An argument that isn't UTF-8 is none of the command's.
+        Err(_) => top::end_by(&End::Usage, out),
+    }
+}
+
+fn run<
+    R: Env
+        + FileSystem
+        + Print
+        + Eprint
+        + AllocGlobal
+        + Threads
+        + Wait
+        + Net<Listener = TcpListener, Stream = TcpStream>
+        + Sync,
+>(
+    rt: &R,
+) -> Status {
     let Ok(mut out) = RealSink::new(rt, rt.alloc()) else {
         return Status::Memory;
     };
-    let status = run_command::<R, Brand>(rt, &mut out, Blank::new(1));
+    let status = run_command(rt, &mut out);
     match out.flush() {
         Wrote::All => status,
         Wrote::Failed => Status::WriteFault,
@@ -81,7 +129,8 @@ fn run<R: Env + FileSystem + Print + AllocGlobal + Threads + Wait + Sync>(rt: &R
 }
 
 // What the arguments may be, for whoever reads the standard error.
-const USAGE: &str = "usage: tablebuilder script CLASSES RECODES PTABLE PEOPLE THRESHOLD SCRIPT";
+const USAGE: &str = "usage: tablebuilder script CLASSES RECODES PTABLE PEOPLE THRESHOLD SCRIPT\n       \
+    tablebuilder serve CLASSES RECODES PTABLE PEOPLE THRESHOLD PORT WORKERS SESSIONS";
 
 fn main(rt: HostRuntime) -> ExitCode {
     let status = run(&rt);

@@ -2,8 +2,11 @@
 // is a run with the bytes that it writes; the tables stand behind functions, so that no proof reads
 // them.
 
-ghost use Rattle.std.specs.Prelude.{◌≡◌, ◌<◌};
+ghost use Rattle.std.specs.Prelude.{◌≡◌, ◌<◌, ◌+◌, All, IfOk, vec_len};
+ghost use Rattle.tb_serve.specs.Stages.{IsFresh};
+ghost use Rattle.tablebuilder.specs.declared.command.TheConstants.{MOST_WORKERS};
 
+use crate::command::MOST_WORKERS;
 use crate::laws::{run_in_memory, run_surely};
 use std::alloc::Global;
 use std::marker::Brand;
@@ -11,7 +14,8 @@ use std::sync::Wait;
 use std::sync::ledger::{Blank, Ledger};
 use std::thread::Threads;
 use tb_base::{Memory, Status, Steps};
-use tb_io::{MemFiles, MemSink, SureFiles, SureSink};
+use tb_io::{MemFiles, MemListen, MemSink, SureFiles, SureSink};
+use tb_serve::Port;
 use tb_small::{CLASSES, PEOPLE, PTABLE, RECODES};
 
 mod faults;
@@ -19,6 +23,8 @@ mod large;
 mod memory;
 mod runs;
 mod scripts;
+mod serving;
+mod talks;
 
 const WITHOUT_RECODES: &str = "script classes - ptable people 0 script";
 
@@ -60,6 +66,25 @@ fn files_of(alloc: Global, others: &[(&str, &[u8])], fails: &[u32]) -> Result<Me
     Ok(files)
 }
 
+// A listener to which no session is to come.
+fn quiet(alloc: Global) -> Result<Port<MemListen>, Memory>
+    ensures { IfOk result IsFresh }
+{
+    Ok(Port::of(MemListen::new(alloc, false, Vec::new(alloc), &[])?))
+}
+
+// As many as a run has ports.
+fn quiet_ports(alloc: Global) -> Result<Vec<Port<MemListen>>, Memory>
+    ensures ports { IfOk result (λ net. vec_len net ≡ MOST_WORKERS + 1) }
+    ensures fresh { IfOk result (λ net. All IsFresh net.items) }
+{
+    let mut net = Vec::new(alloc);
+    for _ in 0..=MOST_WORKERS {
+        net.push(quiet(alloc)?)?;
+    }
+    Ok(net)
+}
+
 // A run over forms in memory, with a counter of its own.
 fn count_in_memory<L: Ledger>(
     rt: &(impl Threads + Wait + Sync),
@@ -67,14 +92,17 @@ fn count_in_memory<L: Ledger>(
     words: &[String],
     files: &mut MemFiles,
     out: &mut MemSink,
+    net: &mut Vec<Port<MemListen>>,
     blank: Blank,
 ) -> Status
+    requires ports { vec_len net.old ≡ MOST_WORKERS + 1 }
+    requires fresh { All IsFresh net.old.items }
     requires name { blank.name ≡ L.name }
     requires parts { blank.parts ≡ L.parts }
     requires some { 0 < L.parts }
 {
     let mut steps = Steps::<L>::new(blank);
-    run_in_memory(rt, alloc, words, files, out, &mut steps)
+    run_in_memory(rt, alloc, words, files, out, net, &mut steps)
 }
 
 // The same over forms that never fail.
@@ -84,14 +112,17 @@ fn count_surely<L: Ledger>(
     words: &[String],
     files: &mut SureFiles,
     out: &mut SureSink,
+    net: &mut Vec<Port<MemListen>>,
     blank: Blank,
 ) -> Status
+    requires ports { vec_len net.old ≡ MOST_WORKERS + 1 }
+    requires fresh { All IsFresh net.old.items }
     requires name { blank.name ≡ L.name }
     requires parts { blank.parts ≡ L.parts }
     requires some { 0 < L.parts }
 {
     let mut steps = Steps::<L>::new(blank);
-    run_surely(rt, alloc, words, files, out, &mut steps)
+    run_surely(rt, alloc, words, files, out, net, &mut steps)
 }
 
 fn run_over(
@@ -100,8 +131,9 @@ fn run_over(
     words: &[String],
     files: &mut SureFiles,
     out: &mut SureSink,
-) -> Status {
-    count_surely::<Brand>(rt, alloc, words, files, out, Blank::new(1))
+) -> Result<Status, Memory> {
+    let mut net = quiet_ports(alloc)?;
+    Ok(count_surely::<Brand>(rt, alloc, words, files, out, &mut net, Blank::new(1)))
 }
 
 // Whether the sink took the bytes of the row, and the status is its.
@@ -109,6 +141,15 @@ fn is_so(rt: &(impl Threads + Wait + Sync), alloc: Global, row: &Run<'_>) -> Res
     let words = words_of(alloc, row.arguments)?;
     let mut files = files_of(alloc, row.others, row.fails)?;
     let mut out = MemSink::new(alloc, row.bound)?;
-    let status = count_in_memory::<Brand>(rt, alloc, &words, &mut files, &mut out, Blank::new(1));
+    let mut net = quiet_ports(alloc)?;
+    let status = count_in_memory::<Brand>(
+        rt,
+        alloc,
+        &words,
+        &mut files,
+        &mut out,
+        &mut net,
+        Blank::new(1),
+    );
     Ok(status.number() == row.status && out.taken() == row.text)
 }

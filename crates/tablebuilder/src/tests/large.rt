@@ -75,7 +75,7 @@ fn is_written(
     let mut files = files_of(alloc, one, classes)?;
     let words = words_of(alloc, WITHOUT_RECODES)?;
     let mut out = SureSink::new(alloc);
-    run_over(rt, alloc, &words, &mut files, &mut out);
+    run_over(rt, alloc, &words, &mut files, &mut out)?;
     let text = out.text()?;
     Ok(text.ends_with(one.last) && text.iter().filter(|c| **c == b'\n').count() == one.lines)
 }

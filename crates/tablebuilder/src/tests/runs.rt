@@ -7,6 +7,12 @@ const SEX: &[u8] = b"release 0\nSEX,count\n1,1\n2,2\n.\n";
 
 const USAGE: &[u8] = b"fault usage\n";
 
+const NOBODY_SERVED: &[u8] = b"worker 0 sessions 0\nworker 1 sessions 0\nworker 2 sessions 0\n\
+    worker 3 sessions 0\nworker 4 sessions 0\nworker 5 sessions 0\nworker 6 sessions 0\n\
+    worker 7 sessions 0\nworker 8 sessions 0\nworker 9 sessions 0\nworker 10 sessions 0\n\
+    worker 11 sessions 0\nworker 12 sessions 0\nworker 13 sessions 0\nworker 14 sessions 0\n\
+    worker 15 sessions 0\nworker 16 sessions 0\nrelease 0\n";
+
 // What a run shows, the arguments, the files with other bytes than the small setup's, the number of
 // the status, and the text.
 type Over = (
@@ -17,7 +23,7 @@ type Over = (
     &'static [u8],
 );
 
-static RUNS: [Over; 29] = [
+static RUNS: [Over; 39] = [
     ("one_variable", WITHOUT_RECODES, &[], 0, SEX),
     ("one_variable", WITH_RECODES, &[], 0, SEX),
     (
@@ -214,6 +220,76 @@ static RUNS: [Over; 29] = [
         2,
         USAGE,
     ),
+    (
+        "arguments_of_a_service",
+        "serve classes - ptable people 0 5000 1",
+        &[],
+        2,
+        USAGE,
+    ),
+    (
+        "arguments_of_a_service",
+        "serve classes - ptable people 0 5000 1 1 1",
+        &[],
+        2,
+        USAGE,
+    ),
+    (
+        "arguments_of_a_service",
+        "serve classes - ptable people 0 0 1 1",
+        &[],
+        2,
+        USAGE,
+    ),
+    (
+        "arguments_of_a_service",
+        "serve classes - ptable people 0 65520 1 1",
+        &[],
+        2,
+        USAGE,
+    ),
+    (
+        "arguments_of_a_service",
+        "serve classes - ptable people 0 5000 0 1",
+        &[],
+        2,
+        USAGE,
+    ),
+    (
+        "arguments_of_a_service",
+        "serve classes - ptable people 0 5000 17 1",
+        &[],
+        2,
+        USAGE,
+    ),
+    (
+        "arguments_of_a_service",
+        "serve classes - ptable people 0 5000 1 0",
+        &[],
+        2,
+        USAGE,
+    ),
+    (
+        "arguments_of_a_service",
+        "serve classes - ptable people 0 5000 1 1000001",
+        &[],
+        2,
+        USAGE,
+    ),
+    (
+        "a_service_without_sessions",
+        "serve classes - ptable people 0 65519 16 1000000",
+        &[],
+        0,
+        NOBODY_SERVED,
+    ),
+    (
+        "a_service_over_a_file_at_fault",
+        "serve classes - ptable people 0 5000 1 1",
+        &[("people", b"person,record_key,SEX,AGE,AREA\n0,1,1,65+,E1\n")],
+        5,
+        b"fault people 2 BadPerson 1\n",
+    ),
 ];
 
 fn runs() -> &'static [Over] {
@@ -227,7 +303,7 @@ fn worked_runs(rt: HostRuntime) -> Result<(), Fail> {
             arguments,
             others,
             fails: &[],
-            bound: 200,
+            bound: 400,
             status: *status,
             text,
         };

@@ -1,13 +1,13 @@
 use Rattle.std.proofs.Common.{◌≡◌, ◌∙◌, arith, length, map, string_bytes}
 use Rattle.std.proofs.lemmas.List.{length-map}
-use Rattle.tablebuilder.proofs.CommandWords.{command-named, is-equal, word-read}
-use Rattle.tablebuilder.proofs.command.read_command.Goals as goal
+use Rattle.tablebuilder.proofs.CommandWords.{script-named, is-equal, word-read}
+use Rattle.tablebuilder.proofs.command.read_script_words.Goals as goal
 
 pub returns : goal.returns
 returns c =
     let words = c.args.words.now in
     let seven : length words ≡ 7 = omega (arith, c.in-len7.len_at_least, c.in-len7.len_below) in
-    c.read_script.ensures ∙ command-named (map string_bytes words) _ _ _ _ _ _ _ (length-map words string_bytes ∙ seven)
+    c.read_script.ensures ∙ script-named (map string_bytes words) _ _ _ _ _ _ _ (length-map words string_bytes ∙ seven)
     (word-read words string_bytes 0 c.command-item.result c.as_str.result.now
     (omega (arith, c.in-len7.len_at_least)) c.command-item.is c.as_str.ensures.value)
     (is-equal _ c.if-ne.ensures)

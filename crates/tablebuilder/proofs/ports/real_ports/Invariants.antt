@@ -1,0 +1,8 @@
+use Rattle.std.proofs.Common.{◌≡◌, All, vec_len}
+use Rattle.tb_serve.specs.Stages.{IsFresh}
+use Rattle.tablebuilder.proofs.ports.real_ports.Given as goal
+
+abbrev pub invariant-loop : goal.invariant-loop
+invariant-loop l = record {
+  fresh : All IsFresh l.net.items;
+}
