@@ -1,4 +1,4 @@
-.PHONY: test try build demo guide bench bench-tools
+.PHONY: test try build demo serve guide bench bench-tools
 
 # The whole gate: every proof, the wrong bodies that must be refused, the tests and the program.
 test:
@@ -15,6 +15,13 @@ build:
 # The first tables, from the files of examples/small.
 demo: build
 	cd examples/small && ../../crates/tablebuilder/out/tablebuilder script classes.csv recodes.csv ptable.csv people.csv 0 script.txt
+
+# The server over the files of examples/small: two workers, 1,000 sessions at each port.
+serve: build
+	@echo "ask for a table:      printf 'table SEX\\n' | nc -N 127.0.0.1 4001"
+	@echo "revise, as custodian: printf 'drop 104\\npublish\\n' | nc -N 127.0.0.1 4000"
+	@echo "stop the server:      Ctrl-C"
+	cd examples/small && ../../crates/tablebuilder/out/tablebuilder serve classes.csv recodes.csv ptable.csv people.csv 0 4000 2 1000
 
 # Runs every example of the guide with the built program and compares what it prints; and compares
 # examples/small with the program's own files.
