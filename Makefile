@@ -1,4 +1,4 @@
-.PHONY: test try build demo serve guide bench bench-tools
+.PHONY: test try build demo serve guide bench bench-serve bench-tools
 
 # The whole gate: every proof, the wrong bodies that must be refused, the tests and the program.
 test:
@@ -34,7 +34,14 @@ bench: bench-tools build
 	rustc -O --edition 2021 -o bench/out/baseline bench/baseline.rs
 	python3 bench/bench.py crates/tablebuilder/out/tablebuilder bench/out/baseline
 
+# Sessions over connections to this machine: rates beside a plain server and a script, and memory.
+bench-serve: bench-tools build
+	mkdir -p bench/out
+	rustc -O --edition 2021 -o bench/out/client bench/client.rs
+	rustc -O --edition 2021 -o bench/out/prepared bench/prepared.rs
+	python3 bench/serve.py crates/tablebuilder/out/tablebuilder bench/out/client bench/out/prepared
+
 bench-tools:
 	@for tool in rt rustc python3; do \
-		command -v $$tool >/dev/null || { echo "make bench needs $$tool, which is not on the path"; exit 1; }; \
+		command -v $$tool >/dev/null || { echo "the bench needs $$tool, which is not on the path"; exit 1; }; \
 	done

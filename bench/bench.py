@@ -165,9 +165,14 @@ def make_script(path, case):
         out.writelines(script_lines(case))
 
 
-def words_of(program, folder, script):
+def input_words(folder):
+    """The files and the threshold, as a command takes them."""
     files = [f"{folder}/{name}.csv" for name in ("classes", "recodes", "ptable", "people")]
-    return [program, "script", *files, str(THRESHOLD), script]
+    return [*files, str(THRESHOLD)]
+
+
+def words_of(program, folder, script):
+    return [program, "script", *input_words(folder), script]
 
 
 def seconds_of(words, path):
@@ -178,14 +183,19 @@ def seconds_of(words, path):
         return time.perf_counter() - before
 
 
+def peak_so_far(pid):
+    """The most bytes that a process has held; 0 where the system tells none any more."""
+    with open(f"/proc/{pid}/status", encoding="ascii") as status:
+        told = [line.split()[1] for line in status if line.startswith("VmHWM")]
+    return max((int(kib) * 1024 for kib in told), default=0)
+
+
 def peak_of(words):
     """Runs once more and answers the most bytes that the process held, as the system last told."""
     peak = 0
     with subprocess.Popen(words, stdout=subprocess.DEVNULL) as child:
         while child.poll() is None:
-            with open(f"/proc/{child.pid}/status", encoding="ascii") as status:
-                told = [line.split()[1] for line in status if line.startswith("VmHWM")]
-            peak = max([peak, *(int(kib) * 1024 for kib in told)])
+            peak = max(peak, peak_so_far(child.pid))
     return peak
 
 

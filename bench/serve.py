@@ -1,0 +1,427 @@
+#!/usr/bin/env python3
+"""Measures sessions of the program's `serve` and prints tables of medians, spreads and ratios.
+
+    serve.py PROGRAM CLIENT PREPARED [PERSONS]
+
+The client asks for one table, whose cube is kept, over connections to 127.0.0.1: a line at a time,
+where it reads the whole reply before it writes the next line, or 100 lines at once. Measured are
+
+- one connection, a line at a time, beside a server of std's threads that sends prepared bytes;
+- one connection, 100 lines at once, and refused lines so, beside what a line of `script` takes,
+  which is what a script of many lines takes beyond one of a single line (that of refused lines runs
+  over no persons, since loading many differs from run to run by more than the lines take);
+- four connections at once beside one;
+- 16 connections while the custodian publishes batches, beside 16 without publications;
+- what a session takes of memory, over `examples/small`, where loading takes less than sessions do:
+  the peak of a process with 16 sessions less that of one with one session.
+
+Runs follow each other in turn, and a ratio is the median of the ratios of such runs. The client
+compares every reply, byte by byte, with what `script` prints over the same input, where amends and
+publications make another table of each release; it checks that no table is older than one that its
+session had seen, and that the custodian's publications count up by one. A server must end by itself
+with its report once each port had its sessions. Nothing here fails because of a time: a target that
+is missed is printed.
+"""
+import contextlib
+import os
+import socket
+import statistics
+import subprocess
+import sys
+import tempfile
+import time
+import typing
+
+# So that nothing is written beside the files of the bench.
+sys.dont_write_bytecode = True
+from bench import ASCENDING, HERE, LARGE, NONE
+from bench import input_words, machine, make_input, median_ratio, peak_so_far, seconds_of, words_of
+
+QUERY, REFUSED = "table AREA by SEX with totals", "table NOSUCH"
+# Lines that are written at once; how many of them a session asks for, and how many a script has.
+AT_ONCE = 100
+LINES, REFUSED_LINES, REFUSED_IN_SCRIPT = 50_000, 10_000, 400_000
+BATCHES, EDITS = 100, 100
+FOUR, WORKERS = 4, 16
+# How often all is run in turn, and for how long a line at a time is asked.
+RUNS, PUBLISH_RUNS, MEMORY_RUNS = 7, 3, 7
+SECONDS, MANY_SECONDS = 1, 3
+NO_LIMIT = 990_000
+# The sessions at one port in a run: one connection, one of four, tables and refused lines at once.
+SESSIONS_A_RUN = 4
+FIRST_PORT, LAST_PORT = 20_000, 32_000
+# A session asks for so many seconds at most, and what doesn't end within PATIENCE is killed.
+MOST_SECONDS, PATIENCE = 60, 120
+SMALL_INPUT = f"{HERE}/../examples/small"
+
+
+class Tools(typing.NamedTuple):
+    program: str
+    client: str
+    prepared: str
+
+
+def are_free(ports):
+    try:
+        with contextlib.ExitStack() as sockets:
+            for port in ports:
+                sockets.enter_context(socket.socket()).bind(("127.0.0.1", port))
+        return True
+    except OSError:
+        return False
+
+
+def free_ports(count):
+    """The first of so many free ports in a row."""
+    for first in range(FIRST_PORT, LAST_PORT, count):
+        if are_free(range(first, first + count)):
+            return first
+    sys.exit(f"bench: no {count} ports in a row are free")
+
+
+class Server:
+    """A process that serves so many sessions at each of its ports, of which the first is the
+    custodian's."""
+
+    def __init__(self, words, folder, workers, sessions):
+        self.first, self.workers, self.sessions = free_ports(workers + 1), workers, sessions
+        self.ports = range(self.first, self.first + workers + 1)
+        self.had = [0] * (workers + 1)
+        name = os.path.basename(words[0])
+        self.out, self.err = f"{folder}/{name}.served", f"{folder}/{name}.told"
+        words = [*words, *map(str, (self.first, workers, sessions))]
+        with open(self.out, "wb") as out, open(self.err, "wb") as err:
+            self.process = subprocess.Popen(
+                words, stdin=subprocess.DEVNULL, stdout=out, stderr=err
+            )
+
+    def told(self):
+        with open(self.err, encoding="utf-8", errors="replace") as err:
+            return err.read().splitlines()
+
+    def wait_for_ports(self):
+        lines = {f"listening on 127.0.0.1:{port}" for port in self.ports}
+        end = time.monotonic() + PATIENCE
+        while not lines <= set(self.told()):
+            if self.process.poll() is not None or time.monotonic() > end:
+                sys.exit(f"bench: {self.process.args} doesn't listen: {self.told()}")
+            time.sleep(0.01)
+
+    def visit(self, port):
+        """A session without a line."""
+        with socket.create_connection(("127.0.0.1", port), PATIENCE) as connection:
+            connection.shutdown(socket.SHUT_WR)
+            if connection.recv(1):
+                sys.exit("bench: a session without a line had a reply")
+
+    def end(self, report):
+        """Gives each port the sessions that it hasn't had, so that the process ends by itself."""
+        for port, had in zip(self.ports, self.had):
+            for _ in range(had, self.sessions):
+                self.visit(port)
+        try:
+            status = self.process.wait(PATIENCE)
+        except subprocess.TimeoutExpired:
+            sys.exit(f"bench: {self.process.args} doesn't end")
+        with open(self.out, "rb") as out:
+            if status != 0 or out.read() != report.encode():
+                sys.exit(f"bench: {self.process.args} ended with {status} or a wrong report")
+
+    def report(self, release):
+        workers = [f"worker {i} sessions {self.sessions}\n" for i in range(self.workers + 1)]
+        return "".join(workers) + f"release {release}\n"
+
+
+@contextlib.contextmanager
+def killed_at_last(server):
+    try:
+        server.wait_for_ports()
+        yield server
+    finally:
+        server.process.kill()
+        server.process.wait()
+
+
+def serve_words(tools, folder):
+    return [tools.program, "serve", *input_words(folder)]
+
+
+def numbers_of(tools, words):
+    """What the client tells, by name."""
+    words = [tools.client, *map(str, words)]
+    try:
+        told = subprocess.run(words, stdout=subprocess.PIPE, timeout=PATIENCE, check=True).stdout
+    except (subprocess.CalledProcessError, subprocess.TimeoutExpired) as fault:
+        sys.exit(f"bench: {fault}")
+    words = told.split()
+    return {name.decode(): float(number) for name, number in zip(words[::2], words[1::2])}
+
+
+class Asking(typing.NamedTuple):
+    """How the client asks, for what, and the file of the replies that it must get."""
+
+    connections: int
+    at_once: int
+    lines: int
+    seconds: float
+    query: str
+    replies: str
+
+
+def rate(tools, server, asking):
+    """How many replies came in a second."""
+    for i in range(1, asking.connections + 1):
+        server.had[i] += 1
+    how = (asking.connections, asking.at_once, asking.lines, asking.seconds)
+    told = numbers_of(tools, ["ask", server.first, *how, asking.replies, asking.query])
+    return told["replies"] / told["seconds"]
+
+
+def write_script(path, query, count):
+    with open(path, "w", encoding="ascii") as out:
+        out.writelines(f"a {query}\n" for _ in range(count))
+
+
+def is_repeated(path, text, count):
+    with open(path, "rb") as out:
+        return all(out.read(len(text)) == text for _ in range(count)) and not out.read(1)
+
+
+class Script:
+    """A script of one line and one of many, the same each, and the reply to it in a file."""
+
+    def __init__(self, tools, folder, query, count):
+        self.count, self.query = count, query
+        self.top = f"{folder}/{query.replace(' ', '-')}"
+        self.words = {}
+        for lines in (1, count):
+            write_script(f"{self.top}-{lines}.txt", query, lines)
+            self.words[lines] = words_of(tools.program, folder, f"{self.top}-{lines}.txt")
+        self.reply = f"{self.top}.reply"
+        seconds_of(self.words[1], self.reply)
+        with open(self.reply, "rb") as reply:
+            self.text = reply.read()
+        self.one, self.many = [], []
+
+    def run(self):
+        self.one.append(seconds_of(self.words[1], f"{self.top}.out"))
+        self.many.append(seconds_of(self.words[self.count], f"{self.top}.out"))
+        if not is_repeated(f"{self.top}.out", self.text, self.count):
+            sys.exit("bench: a line of a script has another reply than the line before it")
+
+    def rates(self):
+        """Lines a second, run by run."""
+        one = statistics.median(self.one)
+        return [(self.count - 1) / (seconds - one) for seconds in self.many]
+
+
+class Rates(typing.NamedTuple):
+    """Replies a second, run by run."""
+
+    one: list
+    prepared: list
+    four: list
+    at_once: list
+    script: list
+    refused: list
+    refused_script: list
+
+
+def measure_lines(tools, folder, empty):
+    """Sessions of one process, with the server of prepared bytes and scripts in turn."""
+    tables = Script(tools, folder, QUERY, LINES)
+    refusals = Script(tools, empty, REFUSED, REFUSED_IN_SCRIPT)
+    one = Asking(1, 1, NO_LIMIT, SECONDS, QUERY, tables.reply)
+    at_once = Asking(1, AT_ONCE, LINES, MOST_SECONDS, QUERY, tables.reply)
+    refused = Asking(1, AT_ONCE, REFUSED_LINES, MOST_SECONDS, REFUSED, refusals.reply)
+    rates = Rates(*([] for _ in Rates._fields))
+    served = Server(serve_words(tools, folder), folder, FOUR, SESSIONS_A_RUN * RUNS)
+    with killed_at_last(served):
+        prepared = Server([tools.prepared, tables.reply], folder, 1, RUNS)
+        with killed_at_last(prepared):
+            for _ in range(RUNS):
+                rates.one.append(rate(tools, served, one))
+                rates.prepared.append(rate(tools, prepared, one))
+                rates.four.append(rate(tools, served, one._replace(connections=FOUR)))
+                rates.at_once.append(rate(tools, served, at_once))
+                tables.run()
+                rates.refused.append(rate(tools, served, refused))
+                refusals.run()
+            prepared.end("")
+        served.end(served.report(0))
+    rates.script.extend(tables.rates())
+    rates.refused_script.extend(refusals.rates())
+    return len(tables.text), rates
+
+
+def amend(place, persons):
+    return f"amend {place % persons + 1} AREA=a{place % 100} SEX={place % 2 + 1}\n"
+
+
+class Publications:
+    """The custodian's lines, their replies and the table of each release, each in a file."""
+
+    def __init__(self, tools, folder, persons):
+        self.edits, self.answers = f"{folder}/edits.txt", f"{folder}/answers.txt"
+        self.tables = f"{folder}/tables.txt"
+        script, out = f"{folder}/publish.txt", f"{folder}/publish.out"
+        lines = []
+        for batch in range(BATCHES):
+            places = range(batch * EDITS, (batch + 1) * EDITS)
+            lines += [*(amend(place, persons) for place in places), "publish\n"]
+        with open(self.edits, "w", encoding="ascii") as edits:
+            edits.writelines(lines)
+        with open(script, "w", encoding="ascii") as text:
+            text.write(f"a {QUERY}\n")
+            for line in lines:
+                text.write(f"custodian {line}" + f"a {QUERY}\n" * (line == "publish\n"))
+        seconds_of(words_of(tools.program, folder, script), out)
+        self.split(out)
+
+    def split(self, out):
+        with contextlib.ExitStack() as files:
+            tables, answers = (
+                files.enter_context(open(path, "wb")) for path in (self.tables, self.answers)
+            )
+            is_table = False
+            for line in files.enter_context(open(out, "rb")):
+                is_table = is_table or line.startswith(b"release ")
+                (tables if is_table else answers).write(line)
+                is_table = is_table and line != b".\n"
+
+
+class Published(typing.NamedTuple):
+    """Replies a second without publications and with them, publications a second, and the fewest
+    releases that a session saw, run by run."""
+
+    without: list
+    beside: list
+    published: list
+    releases: list
+
+
+def measure_publications(tools, folder, persons):
+    what = Publications(tools, folder, persons)
+    figures = Published([], [], [], [])
+    asking = Asking(WORKERS, 1, NO_LIMIT, MANY_SECONDS, QUERY, what.tables)
+    for _ in range(PUBLISH_RUNS):
+        server = Server(serve_words(tools, folder), folder, WORKERS, 2)
+        with killed_at_last(server):
+            figures.without.append(rate(tools, server, asking))
+            server.had = [1] + [2] * WORKERS
+            words = ["publish", server.first, WORKERS, MOST_SECONDS, what.tables, QUERY]
+            told = numbers_of(tools, [*words, what.edits, what.answers])
+            figures.beside.append(told["replies"] / told["seconds"])
+            figures.published.append(told["published"] / told["seconds"])
+            figures.releases.append(told["releases"])
+            server.end(server.report(BATCHES))
+    return figures
+
+
+def peak_with(tools, folder, workers, reply):
+    """The peak of a process each of whose workers has a session, all at once, in bytes."""
+    server = Server([tools.program, "serve", *input_words(SMALL_INPUT)], folder, workers, 1)
+    with killed_at_last(server):
+        rate(tools, server, Asking(workers, 1, NO_LIMIT, SECONDS / 2, QUERY, reply))
+        peak = peak_so_far(server.process.pid)
+        server.end(server.report(0))
+    return peak
+
+
+def measure_memory(tools, folder):
+    """What a session takes, in KiB, run by run."""
+    script, reply = f"{folder}/small.txt", f"{folder}/small.reply"
+    write_script(script, QUERY, 1)
+    seconds_of(words_of(tools.program, SMALL_INPUT, script), reply)
+    peaks = [
+        [peak_with(tools, folder, workers, reply) for workers in (WORKERS, 1)]
+        for _ in range(MEMORY_RUNS)
+    ]
+    return [(many - one) / (WORKERS - 1) / 1024 for many, one in peaks]
+
+
+class Row(typing.NamedTuple):
+    what: str
+    reached: float
+    target: str
+    holds: bool
+
+
+def at_least(what, reached, least):
+    return Row(what, reached, f"at least {least}", reached >= least)
+
+
+def at_most(what, reached, most):
+    return Row(what, reached, f"at most {most}", reached <= most)
+
+
+def targets(rates, figures, memory):
+    alone = median_ratio(rates.one, rates.prepared)
+    at_once = median_ratio(rates.at_once, rates.script)
+    four = median_ratio(rates.four, rates.one)
+    beyond = [
+        (1 / ours - 1 / script) * 1e6 for ours, script in zip(rates.refused, rates.refused_script)
+    ]
+    beside = median_ratio(figures.beside, figures.without)
+    yield at_least("a line at a time: rate beside that of prepared bytes", alone, 0.45)
+    yield at_least(f"{AT_ONCE} lines at once: rate beside that of `script`", at_once, 0.65)
+    on = f"on {os.cpu_count()} processors"
+    yield at_least(f"{FOUR} connections: rate beside that of one, {on}", four, 2.0)
+    what = "a refused line, microseconds above one of `script`"
+    yield at_most(what, statistics.median(beyond), 2)
+    what = f"{WORKERS} connections beside publications: rate beside that without them"
+    yield at_least(what, beside, 0.5)
+    what = "memory of a session over `examples/small`, KiB"
+    yield at_most(what, statistics.median(memory), 96)
+
+
+def print_figures(rates, figures, memory):
+    batches = f"{BATCHES} batches of {EDITS} amends"
+    print("| What | Runs | Median (least to most) |")
+    print("|---|---|---|")
+    for what, told in [
+        ("one connection, a line at a time, replies a second", rates.one),
+        ("the same from the server of prepared bytes", rates.prepared),
+        (f"{FOUR} connections, a line at a time, replies a second", rates.four),
+        (f"one connection, {AT_ONCE} lines at once, replies a second", rates.at_once),
+        ("`script`, tables a second", rates.script),
+        (f"one connection, {AT_ONCE} refused lines at once, replies a second", rates.refused),
+        ("`script`, refused lines a second", rates.refused_script),
+        (f"{WORKERS} connections, a line at a time, replies a second", figures.without),
+        (f"the same beside {batches}", figures.beside),
+        ("publications a second meanwhile", figures.published),
+        ("fewest different releases that a session saw after its first", figures.releases),
+        ("memory of a session, KiB", memory),
+    ]:
+        spread = f"{statistics.median(told):,.0f} ({min(told):,.0f} to {max(told):,.0f})"
+        print(f"| {what} | {len(told)} | {spread} |")
+
+
+def print_targets(rows):
+    print("| What | Reached | Target | |")
+    print("|---|---|---|---|")
+    for row in rows:
+        holds = "holds" if row.holds else "missed"
+        print(f"| {row.what} | {row.reached:.2f} | {row.target} | {holds} |")
+
+
+def main(program, client, prepared, persons=LARGE):
+    tools = Tools(*map(os.path.abspath, (program, client, prepared)))
+    persons = int(persons)
+    with tempfile.TemporaryDirectory(prefix="tablebuilder-serve-") as top:
+        folder, empty = f"{top}/persons", f"{top}/none"
+        for path, count in ((folder, persons), (empty, NONE)):
+            os.mkdir(path)
+            make_input(path, count, ASCENDING)
+        length, rates = measure_lines(tools, folder, empty)
+        figures = measure_publications(tools, folder, persons)
+        memory = measure_memory(tools, folder)
+    print(f"{machine()}; replies equal byte by byte, no release of a session fell")
+    print(f"{persons:,} persons, `{QUERY}`, its cube kept: {length:,} bytes a reply\n")
+    print_figures(rates, figures, memory)
+    print()
+    print_targets(targets(rates, figures, memory))
+
+
+if __name__ == "__main__":
+    main(*sys.argv[1:])
