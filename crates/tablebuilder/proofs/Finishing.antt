@@ -101,10 +101,10 @@ module _ (call : Call) (at : List ℕ → Option (List ℕ)) (same : call.ports_
       ((file : Input) → e ≡ end.Unread file → ReadFailed call) → IsDefined call at s
   defined_by_end end.Memory s is ends rose = inr (inl is)
   defined_by_end (end.Unread file) s is ends rose = inr (inr (inl (is, rose file refl)))
-  defined_by_end end.Usage s is ends rose = let (by, caused) = ends (λ h. cc) in inl (is ∙ sym (ap defined_status by))
-  defined_by_end (end.TooLong file) s is ends rose = let (by, caused) = ends (λ h. cc) in inl (is ∙ sym (ap defined_status by))
-  defined_by_end (end.Refused file name n) s is ends rose = let (by, caused) = ends (λ h. cc) in inl (is ∙ sym (ap defined_status by))
-  defined_by_end (end.BadLine n) s is ends rose = let (by, caused) = ends (λ h. cc) in inl (is ∙ sym (ap defined_status by))
+  defined_by_end end.Usage s is ends rose = let (by, caused, still) = ends (λ h. cc) in inl (is ∙ sym (ap defined_status by))
+  defined_by_end (end.TooLong file) s is ends rose = let (by, caused, still) = ends (λ h. cc) in inl (is ∙ sym (ap defined_status by))
+  defined_by_end (end.Refused file name n) s is ends rose = let (by, caused, still) = ends (λ h. cc) in inl (is ∙ sym (ap defined_status by))
+  defined_by_end (end.BadLine n) s is ends rose = let (by, caused, still) = ends (λ h. cc) in inl (is ∙ sym (ap defined_status by))
 
   exact_by_end : (e : End) (s : Status) → (e ≢ end.Memory → EndsBy call at e) → ((file : Input) → e ≡ end.Unread file → ReadFailed call)
       → IsToldBy call e s → IsDefined call at s
@@ -242,8 +242,8 @@ keeps_by_answer : (call : Call) (command : Command) (asked : AskedValue) (s : St
     → IfSome call.content (λ at. asked_of at call.words ≡ Ok asked) → All IsFresh call.ports → IsAnsweredBy call asked s → Keeps call s
 keeps_by_answer call command (Script census script) s named serves told fresh (same, answered) =
     keeps_by_script call command census script s named told fresh same answered
-keeps_by_answer call command (Serve census service) s named serves told fresh (free, answered) =
-    keeps_by_service call command census service s named (sym serves) told free fresh answered
+keeps_by_answer call command (Serve census service) s named serves told fresh answered =
+    keeps_by_service call command census service s named (sym serves) told answered.0 fresh answered.1
 
 -- what a call saw of its files
 abbrev pub reading_of : Call → Option (List ℕ → Option (List ℕ)) → Reading

@@ -1,6 +1,6 @@
 -- Ports: what is true of those of a service is true of all.
 use Rattle.std.proofs.Common.{◌≡◌, ◌∙◌, ap, sym, subst, refl, ℕ, ◌+◌, ◌-◌, ◌<◌, ◌≤◌, List, ◌++◌, length, take, drop, get_or, All, Bool, true, false, Option, None, Some, inl, inr, arith, Any}
-use Rattle.std.proofs.lemmas.List.{get_or-drop, get_or-take, length-drop, length-take-le, take-append-drop}
+use Rattle.std.proofs.lemmas.List.{get_or-drop, get_or-take, length-append, length-drop, length-take-le, take-append-drop, take_at}
 use Rattle.std.proofs.lemmas.List.Elements.{All-append}
 use Rattle.std.proofs.lemmas.List.Folds.{Any-from_list_any}
 use Rattle.std.proofs.lemmas.Bool.{cases_lt}
@@ -11,7 +11,7 @@ use Rattle.tb_serve.specs.Serves.{IsPortServed}
 use Rattle.tb_serve.specs.Stages.{HasRisenSome, IsFresh, IsUntouched}
 use Rattle.tablebuilder.specs.Services.{IsIdle, IsUnserved}
 
-unserved : (p : PortValue) → IsUnserved p p
+pub unserved : (p : PortValue) → IsUnserved p p
 unserved p = record { out = refl; to_come = refl; came_back = refl }
 
 -- ports that didn't change
@@ -40,8 +40,10 @@ module _ (n : ℕ) (ports ports' : List PortValue) (long : n ≤ length ports)
   whole-length =
       let ours : length (take n ports ++ drop n ports) ≡ length ports = ap length (take-append-drop n ports) in
       let theirs : length (take n ports' ++ drop n ports') ≡ length ports' = ap length (take-append-drop n ports') in
-      let same : length (take n ports' ++ drop n ports') ≡ length (take n ports ++ drop n ports) = grind (short, rest) in
-      sym theirs ∙ same ∙ ours
+      let left : length (take n ports ++ drop n ports) ≡ length (take n ports) + length (drop n ports) = length-append (take n ports) (drop n ports) in
+      let right : length (take n ports' ++ drop n ports') ≡ length (take n ports') + length (drop n ports') = length-append (take n ports') (drop n ports') in
+      let others : length (drop n ports') ≡ length (drop n ports) = ap length rest in
+      omega (arith, ours, theirs, left, right, others, short)
 
   -- what is true of each of the first, and of each port and itself, is true of each
   pub each-whole : (R : PortValue → PortValue → Type 0) → ((p : PortValue) → R p p) → Each (λ _. R) (take n ports) (take n ports')
@@ -101,3 +103,8 @@ pub take-fresh : (n : ℕ) (ports : List PortValue) → n ≤ length ports → A
 take-fresh n ports long fresh = λ i d below.
     let low : i < n = omega (arith, below, length-take-le n ports long) in
     rw (get_or-take n ports i d low) (fresh i d (omega (arith, low, long)))
+
+-- ports that are written back where they stood
+pub written-back : (n : ℕ) (ports new : List PortValue) → length ports ≡ n → length new ≡ n
+    → take n (new ++ drop (length new) ports) ≡ new
+written-back n ports new long same = take_at new (drop (length new) ports) n same

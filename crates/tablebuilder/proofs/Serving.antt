@@ -13,7 +13,8 @@ use Rattle.tb_serve.specs.Serves.{IsEnded, IsPortServed, Output, final_status, o
 use Rattle.tb_serve.specs.Stages.{HasRisenSome, IsFresh, IsUntouched}
 use Rattle.tablebuilder.specs.Asking.{AskedValue, CensusValue, Serve, asked_of}
 use Rattle.tablebuilder.specs.Calls.{Call, HasTaken, NetFailed}
-use Rattle.tablebuilder.specs.Commands.{Service, asks_to_serve, command_of}
+use Rattle.tablebuilder.specs.Commands.{asks_to_serve, command_of}
+use Rattle.tablebuilder.specs.ServicePorts.{Service}
 use Rattle.tablebuilder.specs.Promises.{IsAskedOutput, IsDefined, IsTextOf, IsWhole, Keeps, defined_status}
 use Rattle.tablebuilder.specs.Services.{IsIdle, IsServiceAnswered, base_of, ports_of}
 use Rattle.tablebuilder.specs.declared.command.Command.{Command}
@@ -21,7 +22,7 @@ use Rattle.tablebuilder.proofs.PortLemmas.{each-idle, each-unserved, each-whole,
 use Rattle.tablebuilder.proofs.Telling.{always_told, where_told}
 
 -- the statuses of a service whose last line was written
-IsFinal : Status → Type 0
+abbrev IsFinal : Status → Type 0
 IsFinal status.Done = Unit {0}
 IsFinal status.Memory = Unit {0}
 IsFinal status.NetFault = Unit {0}
@@ -46,7 +47,7 @@ module _ (call : Call) (command : Command) (census : CensusValue) (service : Ser
   text_told : (at : List ℕ → Option (List ℕ)) → asked_of at call.words ≡ Ok (Serve census service)
       → IsEnded text final (output_of call) s → (bytes : List ℕ) × IsTextOf call at s bytes × HasTaken call bytes
   text_told at asked (inl (is, took)) = (text, inl (rw is (whole at asked)), took)
-  text_told at asked (inr (is, (part, rose))) =
+  text_told at asked (inr (is, part, rose)) =
       let all : IsWhole call at final (take part.0 text ++ drop part.0 text) = rw (take-append-drop part.0 text) (whole at asked) in
       (take part.0 text, inr (is, (final, drop part.0 text, all)), part.1)
 
@@ -66,20 +67,20 @@ module _ (call : Call) (command : Command) (census : CensusValue) (service : Ser
   -- it has no other status than the final one and WriteFault
   never : (other : Status) → IsEnded text final (output_of call) s → other ≢ status.WriteFault → (IsFinal other → ⊥) → s ≢ other
   never other (inl (is, took)) write none h = none (subst IsFinal (sym is ∙ h) is_final)
-  never other (inr (is, part)) write none h = write (sym h ∙ is)
+  never other (inr (is, part, rose)) write none h = write (sym h ∙ is)
 
   exact_told : (at : List ℕ → Option (List ℕ)) → IsEnded text final (output_of call) s
       → asked_of at call.words ≡ Ok (Serve census service) → IsDefined call at s
   exact_told at (inl (is, took)) asked = defined_told at asked final is_final failed is
-  exact_told at (inr (is, (part, rose))) asked = inr (inr (inr (inl (is, rose))))
+  exact_told at (inr (is, part, rose)) asked = inr (inr (inr (inl (is, rose))))
 
   write_told : IsEnded text final (output_of call) s → s ≡ status.WriteFault → HasRisen call.write_faults call.write_faults_after
   write_told (inl (is, took)) h = absurd (subst IsFinal (sym is ∙ h) is_final)
-  write_told (inr (is, (part, rose))) h = rose
+  write_told (inr (is, part, rose)) h = rose
 
   net_told : IsEnded text final (output_of call) s → s ≡ status.NetFault → NetFailed call
   net_told (inl (is, took)) h = failed (sym is ∙ h)
-  net_told (inr (is, part)) h = cc
+  net_told (inr (is, part, rose)) h = cc
 
   keeps_by_final : IsEnded text final (output_of call) s → Keeps call s
   keeps_by_final ended = record {
@@ -144,7 +145,7 @@ failed-risen : (call : Call) (census : CensusValue) (service : Service) (chain :
 failed-risen call census service chain ports ports' each some =
     let (i, x, below, at, failed) = Any-from_list_any (λ (p : PortValue). p.failed) ports' some in
     let inside : i < length ports = omega (arith, below, each.same_length) in
-    (i, inside, λ d. (each.at i d inside).sessions.enough.risen (failed_at ports' i x d below at failed))
+    (i, inside, λ d. (each.at i d inside).sessions.enough.risen (failed_at ports' i x d below (sym at) failed))
 
 -- the ports of a service that was answered, and the others
 module _ (call : Call) (command : Command) (census : CensusValue) (service : Service) (s : Status)
@@ -152,7 +153,7 @@ module _ (call : Call) (command : Command) (census : CensusValue) (service : Ser
     (told : IfSome call.content (λ at. asked_of at call.words ≡ Ok (Serve census service))) (free : call.steps_after ≡ call.steps)
     (fresh : All IsFresh call.ports) (long : service.workers + 1 ≤ length call.ports)
     (rest : drop (service.workers + 1) call.ports_after ≡ drop (service.workers + 1) call.ports) where
-  n : ℕ
+  abbrev n : ℕ
   n = service.workers + 1
 
   ours : All IsFresh (take n call.ports)
@@ -202,9 +203,9 @@ pub keeps_by_service : (call : Call) (command : Command) (census : CensusValue) 
     → All IsFresh call.ports
     → IsServiceAnswered census service call.ports call.ports_after s call.write_faults call.write_faults_after call.taken call.taken_after
     → Keeps call s
-keeps_by_service call command census service s named serves told free fresh (long, (rest, inl (each, ended))) =
+keeps_by_service call command census service s named serves told free fresh (long, rest, inl (each, ended)) =
     by_memory call command census service s named serves told free fresh long rest each ended
-keeps_by_service call command census service s named serves told free fresh (long, (rest, inr (inl (each, (rose, ended))))) =
+keeps_by_service call command census service s named serves told free fresh (long, rest, inr (inl (each, rose, ended))) =
     by_unbound call command census service s named serves told free fresh long rest each rose ended
-keeps_by_service call command census service s named serves told free fresh (long, (rest, inr (inr (chain, (each, ended))))) =
+keeps_by_service call command census service s named serves told free fresh (long, rest, inr (inr (chain, each, ended))) =
     by_sessions call command census service s named serves told free fresh long rest chain each ended

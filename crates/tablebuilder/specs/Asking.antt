@@ -28,7 +28,8 @@ use Rattle.tb_script.specs.declared.limits.TheConstants.{MOST_SCRIPT_BYTES}
 use Rattle.tablebuilder.specs.declared.command.Command.{Command}
 use Rattle.tablebuilder.specs.declared.command.Command.TheVariants as command
 use Rattle.tablebuilder.specs.declared.command.Inputs.{Inputs}
-use Rattle.tablebuilder.specs.Commands.{NamedFile, Service, command_of, files_of}
+use Rattle.tablebuilder.specs.Commands.{NamedFile, command_of, files_of}
+use Rattle.tablebuilder.specs.ServicePorts.{Service}
 
 -- what the files hold: the bytes of each, where it is there
 abbrev pub Contents : Type 0

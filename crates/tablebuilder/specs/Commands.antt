@@ -1,11 +1,12 @@
 -- The arguments of the command line: a command is one of several, each with its inputs and a task.
-use Rattle.std.specs.Prelude.{ℕ, ◌≤◌, ◌==◌, ◌&&◌, ◌||◌, Bool, true, false, not, List, [], ◌∷◌, ◌++◌, length, get_or, Option, Some, None, option_map, option_and_then, nat_le, bytes_eq, codes, if◌then◌else◌}
+use Rattle.std.specs.Prelude.{ℕ, ◌==◌, ◌&&◌, ◌||◌, Bool, true, false, not, List, [], ◌∷◌, ◌++◌, length, get_or, Option, Some, None, option_map, option_and_then, bytes_eq, codes, if◌then◌else◌}
 use Rattle.std.specs.Option.{option_or}
-use Rattle.tb_base.specs.Numbers.{number_of}
 use Rattle.tablebuilder.specs.declared.command.Command.{Command}
 use Rattle.tablebuilder.specs.declared.command.Command.TheVariants as command
 use Rattle.tablebuilder.specs.declared.command.Inputs.{Inputs}
-use Rattle.tablebuilder.specs.declared.command.TheConstants.{MOST_PORT, MOST_SESSIONS, MOST_THRESHOLD, MOST_WORKERS}
+use Rattle.tablebuilder.specs.declared.command.TheConstants.{MOST_THRESHOLD}
+use Rattle.tablebuilder.specs.Numbers.{number_within}
+use Rattle.tablebuilder.specs.ServicePorts.{service_named}
 use Rattle.tablebuilder.specs.declared.endings.Input.{Input}
 use Rattle.tablebuilder.specs.declared.endings.Input.TheVariants as input
 
@@ -20,11 +21,6 @@ may_name_recodes word = bytes_eq word (codes "-") || is_file_name word
 
 abbrev pub recodes_name : List ℕ → Option (List ℕ)
 recodes_name word = if bytes_eq word (codes "-") then None else Some word
-
--- a number that is neither below the least nor above the most
-abbrev pub number_within : (least most : ℕ) → List ℕ → Option ℕ
-number_within least most word =
-    option_and_then (λ n. if nat_le least n && nat_le n most then Some n else None) (number_of word)
 
 -- a threshold is a number up to a million
 abbrev pub threshold_in : List ℕ → Option ℕ
@@ -53,29 +49,6 @@ script_named classes recodes ptable people threshold script =
     then option_map (λ inputs. command.Script inputs script)
     (inputs_named classes recodes ptable people threshold)
     else None
-
--- where sessions are served: the custodian's port, how many workers there are at the ports after
--- it, and how many sessions each port has
-pub record Service : Type 0 where
-  pub port : ℕ
-  pub workers : ℕ
-  pub sessions : ℕ
-
-abbrev pub service_with : (port workers sessions : ℕ) → Service
-service_with port workers sessions =
-    record { port = port; workers = workers; sessions = sessions }
-
--- there is a port for each worker
-pub record HasPorts (service : Service) : Type 0 where
-  pub first : service.port ≤ MOST_PORT
-  pub workers : service.workers ≤ MOST_WORKERS
-
--- the service that three arguments name, `PORT WORKERS SESSIONS`, each from 1 on
-abbrev pub service_named : (port workers sessions : List ℕ) → Option Service
-service_named port workers sessions =
-    option_and_then (λ p. option_and_then (λ w.
-    option_map (service_with p w) (number_within 1 MOST_SESSIONS sessions))
-    (number_within 1 MOST_WORKERS workers)) (number_within 1 MOST_PORT port)
 
 -- a command of the inputs and the service
 abbrev pub serve_named : (classes recodes ptable people threshold port workers sessions : List ℕ)

@@ -1,3 +1,5 @@
+pub mod Numbers
+pub mod ServicePorts
 pub mod Commands
 pub mod Endings
 pub mod Asking

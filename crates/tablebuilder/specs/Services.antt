@@ -9,7 +9,7 @@ use Rattle.tb_serve.specs.Reports.{net_line, report}
 use Rattle.tb_serve.specs.Serves.{IsPortServed, Serves, final_status, output}
 use Rattle.tb_serve.specs.Stages.{HasRisenSome, IsUntouched}
 use Rattle.tablebuilder.specs.Asking.{CensusValue}
-use Rattle.tablebuilder.specs.Commands.{Service}
+use Rattle.tablebuilder.specs.ServicePorts.{Service}
 
 -- release 0 of a census
 abbrev pub base_of : CensusValue → ReleaseValue
@@ -39,11 +39,11 @@ abbrev pub IsServiceOutput : CensusValue → Service → (before after : List Po
     → List ℕ → Type 0
 IsServiceOutput census service before after s text =
     ((chain : List BatchValue) × AreSessionsServed census service chain before after
-    × ((s ≡ final_status (ports_of service after))
-    × (text ≡ report (ports_of service after) (length chain))))
+    × (s ≡ final_status (ports_of service after))
+    × (text ≡ report (ports_of service after) (length chain)))
     ⊎ (EachPort service (IsUntouched service.port) before after
-    × (HasRisenSome (ports_of service before) (ports_of service after)
-    × ((s ≡ status.NetFault) × (text ≡ net_line))))
+    × HasRisenSome (ports_of service before) (ports_of service after)
+    × (s ≡ status.NetFault) × (text ≡ net_line))
 
 -- a service was answered: there is a port for each worker, and it served, or ended before its first
 -- accept
@@ -51,9 +51,9 @@ abbrev pub IsServiceAnswered : CensusValue → Service → (before after : List 
     → (faults faults' : ℕ) → (taken taken' : Option (List ℕ)) → Type 0
 IsServiceAnswered census service before after s faults faults' taken taken' =
     (service.workers + 1 ≤ length before)
-    × ((drop (service.workers + 1) after ≡ drop (service.workers + 1) before)
+    × (drop (service.workers + 1) after ≡ drop (service.workers + 1) before)
     × Serves census.setup (base_of census) service.port service.sessions (ports_of service before)
-    (ports_of service after) (output taken taken' faults faults') s)
+    (ports_of service after) (output taken taken' faults faults') s
 
 -- no session came or went at a port
 pub record IsUnserved (before after : PortValue) : Type 0 where

@@ -2,24 +2,16 @@
 
 ghost use Rattle.std.specs.Prelude.{◌≡◌, None, Some, if◌then◌else◌, map, string_bytes};
 ghost use Rattle.tablebuilder.specs.Commands.{command_of, inputs_named, is_file_name as names_a_file};
-ghost use Rattle.tablebuilder.specs.Commands.{HasPorts, may_name_recodes, number_within};
+ghost use Rattle.tablebuilder.specs.Commands.{may_name_recodes};
 ghost use Rattle.tablebuilder.specs.Commands.{recodes_name as name_of_recodes, script_named};
-ghost use Rattle.tablebuilder.specs.Commands.{script_words, serve_named, serve_words, service_named};
+ghost use Rattle.tablebuilder.specs.Commands.{script_words, serve_named, serve_words};
 
+use crate::numbers::read_within;
+use crate::service::{Service, read_service};
 use std::marker::Model;
-use tb_base::read_number;
 
 /// The greatest threshold.
 pub const MOST_THRESHOLD: u32 = 1_000_000;
-
-/// The most workers that serve analysts.
-pub const MOST_WORKERS: u32 = 16;
-
-/// The greatest port of a custodian, after which there is a port for each worker.
-pub const MOST_PORT: u16 = 65_519;
-
-/// The most sessions of a port.
-pub const MOST_SESSIONS: u32 = 1_000_000;
 
 /// The name of a file.
 #[derive(Drop)]
@@ -44,50 +36,6 @@ pub struct Inputs<'a> {
     pub ptable: FileName<'a>,
     pub people: FileName<'a>,
     pub threshold: u32,
-}
-
-/// Where sessions are served: the custodian's at `port`, analysts' at as many ports after it as
-/// there are workers, and so many at each.
-#[derive(Clone, Copy)]
-pub struct Service {
-    port: u16,
-    workers: u32,
-    sessions: u32,
-}
-
-impl Model for Service {
-    ghost use Rattle.tablebuilder.specs.Commands.{HasPorts, Service as ServiceValue, service_with};
-
-    ghost Value = { ServiceValue };
-
-    ghost view = { λ s. service_with s.port s.workers s.sessions };
-
-    ghost invariant = { λ s. HasPorts (service_with s.port s.workers s.sessions) };
-}
-
-impl Service {
-    /// The custodian's port. With the number of workers it is at most the last port there is.
-    pub fn port(&self) -> u16
-        ensures port { result ≡ self.now.port }
-        ensures ports { HasPorts self.now }
-    {
-        let _ = self.workers;
-        self.port
-    }
-
-    /// How many workers serve analysts.
-    pub fn workers(&self) -> u32
-        ensures { result ≡ self.now.workers }
-    {
-        self.workers
-    }
-
-    /// How many sessions each port has.
-    pub fn sessions(&self) -> u32
-        ensures { result ≡ self.now.sessions }
-    {
-        self.sessions
-    }
 }
 
 /// A command: one of several, each with its inputs and its task. `Script` answers the lines of the
@@ -148,18 +96,6 @@ fn recodes_name(word: &str) -> Option<FileName<'_>>
     }
 }
 
-// The number of an argument, where it is neither below the least nor above the most.
-fn read_within(least: u32, most: u32, word: &str) -> Option<u32>
-    ensures { result ≡ number_within least most word.now }
-{
-    let number = read_number(word.as_bytes())?;
-    if least <= number && number <= most {
-        Some(number)
-    } else {
-        None
-    }
-}
-
 // The inputs that the arguments `CLASSES RECODES PTABLE PEOPLE THRESHOLD` name, RECODES being a
 // file's name or `-`.
 fn read_inputs<'a>(
@@ -209,20 +145,6 @@ fn read_script<'a>(
         }),
         None => None,
     }
-}
-
-// The service that the arguments `PORT WORKERS SESSIONS` name.
-fn read_service(port: &str, workers: &str, sessions: &str) -> Option<Service>
-    ensures { result ≡ service_named port.now workers.now sessions.now }
-{
-    let port = read_within(1, u32::from(MOST_PORT), port)? as u16;
-    let workers = read_within(1, MOST_WORKERS, workers)?;
-    let sessions = read_within(1, MOST_SESSIONS, sessions)?;
-    Some(Service {
-        port,
-        workers,
-        sessions,
-    })
 }
 
 // The command that the arguments `CLASSES RECODES PTABLE PEOPLE THRESHOLD PORT WORKERS SESSIONS`

@@ -5,7 +5,7 @@ ghost use Rattle.tb_base.specs.declared.status.Status.TheVariants as status;
 ghost use Rattle.tb_io.specs.HeldFiles.{bytes_of, bytes_or_none};
 ghost use Rattle.tb_serve.specs.Stages.{IsFresh};
 ghost use Rattle.tb_serve.specs.Stages.{HasRisenSome};
-ghost use Rattle.tablebuilder.specs.declared.command.TheConstants.{MOST_WORKERS};
+ghost use Rattle.tablebuilder.specs.declared.service.TheConstants.{MOST_WORKERS};
 ghost use Rattle.tablebuilder.specs.Asking.{asked_of};
 ghost use Rattle.tablebuilder.specs.InMemory.{Adds, NamesTheFailingRead, memory_call};
 ghost use Rattle.tablebuilder.specs.Promises.{IsDefined, defined_status};

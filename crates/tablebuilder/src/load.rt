@@ -15,8 +15,9 @@ ghost use Rattle.tablebuilder.specs.Commands.{asks_to_serve, class_files, files_
 ghost use Rattle.tablebuilder.specs.Commands.{named, recodes_files};
 ghost use Rattle.tablebuilder.specs.Loading.{AskedIsFirst, IsFirst, Loads, asked_value, census_value, reading};
 
-use crate::command::{Command, FileName, Inputs, Service};
+use crate::command::{Command, FileName, Inputs};
 use crate::endings::{End, Input};
+use crate::service::Service;
 use std::alloc::Global;
 use tb_base::People;
 use tb_io::{FileRead, Files};
@@ -221,18 +222,19 @@ fn load_for_service<F: Files>(
     alloc: Global,
     files: &mut F,
     inputs: &Inputs<'_>,
-    service: Service,
+    service: &Service,
 ) -> Result<Asked, End>
     ensures first { IfOk result AskedIsFirst }
     ensures kind { IfOk result (λ asked. is_service (asked_value asked) ≡ true) }
     ensures loads { Loads
         (reading F.content F.faults F.readings files.old files.new)
         0
-        (files_of (command.Serve inputs.now service))
+        (files_of (command.Serve inputs.now service.now))
         asked_value
-        (asked_over (command.Serve inputs.now service)) result }
+        (asked_over (command.Serve inputs.now service.now)) result }
 {
     let census = load_census(alloc, files, inputs)?;
+    let service = service.copy();
     Ok(Asked::Serve { census, service })
 }
 
@@ -252,6 +254,6 @@ pub fn load<F: Files>(alloc: Global, files: &mut F, command: &Command<'_>) -> Re
 {
     match command {
         Command::Script { inputs, script } => load_for_script(alloc, files, inputs, script),
-        Command::Serve { inputs, service } => load_for_service(alloc, files, inputs, *service),
+        Command::Serve { inputs, service } => load_for_service(alloc, files, inputs, service),
     }
 }

@@ -3,7 +3,7 @@
 //!
 //! The top call is `top::tablebuilder`; its contract tells, for each status, what was written
 //! (`specs/Promises`). A command is one of several, each with its inputs and a task
-//! (`specs/Commands`); what it asks for over its files is a function (`specs/Asking`), what is
+//! (`specs/Commands`, and `ServicePorts` for sessions); what it asks for over its files is a function (`specs/Asking`), what is
 //! answered a relation (`specs/Outputs`, and `Services` for sessions). Of the lemmas
 //! `proofs/CommandWords` serves the reading of the arguments, `LoadSteps` that of the files, step
 //! after step, and `Finishing` the top call, of which `Serving` has the part on sessions, and
@@ -14,7 +14,9 @@ mod command;
 mod endings;
 mod laws;
 mod load;
+mod numbers;
 mod ports;
+mod service;
 mod top;
 
 ghost use Rattle.std.specs.Prelude.{◌≡◌, ◌<◌};

@@ -4,9 +4,9 @@
 
 ghost use Rattle.std.specs.Prelude.{◌≡◌, ◌<◌, ◌+◌, All, IfOk, vec_len};
 ghost use Rattle.tb_serve.specs.Stages.{IsFresh};
-ghost use Rattle.tablebuilder.specs.declared.command.TheConstants.{MOST_WORKERS};
+ghost use Rattle.tablebuilder.specs.declared.service.TheConstants.{MOST_WORKERS};
 
-use crate::command::MOST_WORKERS;
+use crate::service::MOST_WORKERS;
 use crate::laws::{run_in_memory, run_surely};
 use std::alloc::Global;
 use std::marker::Brand;

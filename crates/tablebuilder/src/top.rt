@@ -4,7 +4,7 @@ ghost use Rattle.std.specs.Prelude.{◌≡◌, ◌≤◌, ◌+◌, All, map, str
 ghost use Rattle.tb_model.specs.Releases.{first_release};
 ghost use Rattle.tb_model.specs.Schemas.{shape_of};
 ghost use Rattle.tb_serve.specs.Stages.{IsFresh};
-ghost use Rattle.tablebuilder.specs.declared.command.TheConstants.{MOST_WORKERS};
+ghost use Rattle.tablebuilder.specs.declared.service.TheConstants.{MOST_WORKERS};
 ghost use Rattle.tablebuilder.specs.Asking.{Script as AskedScript};
 ghost use Rattle.tablebuilder.specs.Endings.{IsEnded};
 ghost use Rattle.tablebuilder.specs.Loading.{AskedIsFirst, IsFirst, asked_value, census_value};
@@ -12,9 +12,10 @@ ghost use Rattle.tablebuilder.specs.Outputs.{IsAnswered, IsScriptAnswered};
 ghost use Rattle.tablebuilder.specs.Services.{IsServiceAnswered};
 ghost use Rattle.tablebuilder.specs.Promises.{Keeps};
 
-use crate::command::{Service, read_command};
+use crate::command::read_command;
 use crate::endings::End;
 use crate::load::{Asked, Census, load};
+use crate::service::Service;
 use std::alloc::Global;
 use std::marker::Brand;
 use std::sync::Wait;

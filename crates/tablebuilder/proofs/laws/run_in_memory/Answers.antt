@@ -7,6 +7,6 @@ use Rattle.tablebuilder.proofs.laws.run_in_memory.Goals as goal
 pub returns-clause-read : goal.returns-clause-read
 returns-clause-read g c = λ h.
     memory_read_fault (memory_call (map string_bytes c.args.words.now) c.args.files.now c.tablebuilder.new.files c.args.out.now
-    c.tablebuilder.new.out c.args.steps.now c.tablebuilder.new.steps)
+    c.tablebuilder.new.out c.args.net.now.items c.tablebuilder.new.net.items c.args.steps.now c.tablebuilder.new.steps)
     (bytes_of c.args.files.now.held) c.tablebuilder.result c.args.out.now.taken c.tablebuilder.new.out.taken
     c.tablebuilder.ensures.text h

@@ -1,4 +1,4 @@
-use Rattle.std.proofs.Common.{inl, inr, arith}
+use Rattle.std.proofs.Common.{inl, inr}
 use Rattle.tb_io.proofs.FaultLemmas.{HasRisen-zero}
 use Rattle.tablebuilder.proofs.laws.run_surely.Goals as goal
 
@@ -12,13 +12,12 @@ pub returns-clause-defined : goal.returns-clause-defined
 returns-clause-defined g c = elim c.tablebuilder.ensures.exact [
   | inl defined ↦ inl defined
   | inr other ↦ elim other [
-    | inl memory ↦ inr memory
+    | inl memory ↦ inr (inl memory)
     | inr fault ↦ elim fault [
       | inl read ↦ absurd (HasRisen-zero read.1)
       | inr more ↦ elim more [
         | inl write ↦ absurd (HasRisen-zero write.1)
-        | inr net ↦ let (is, (k, x, below, at, rose)) = net in absurd
-            (omega (arith, below))
+        | inr net ↦ inr (inr net)
       ]
     ]
   ]
