@@ -1,0 +1,67 @@
+-- Listeners that are bound, each to the port of its number.
+use Rattle.std.proofs.Common.{◌≡◌, ◌∙◌, refl, sym, ℕ, ◌+◌, ◌<◌, List, length, arith, subst, get_or-set_same, inl, inr}
+use Rattle.std.specs.Prelude.{slice_index_or}
+use Rattle.std.proofs.Math.ListN.{set}
+use Rattle.std.proofs.lemmas.List.{get_or_default, length-set}
+use Rattle.tb_io.specs.Faults.{HasRisen}
+use Rattle.tb_io.specs.Listeners.{IsSameBut}
+use Rattle.tb_serve.specs.Each.{Each}
+use Rattle.tb_serve.specs.Ports.{PortValue}
+use Rattle.tb_serve.specs.Stages.{HasRisenSome, IsBoundAt, IsUntouched}
+use Rattle.tb_serve.proofs.Each.{Halfway, half_more, half_weaker}
+
+-- a port that was bound is as it was, as far as sessions go
+untouched : (first i : ℕ) (p q : PortValue) → IsBoundAt first i p q → IsUntouched first i p q
+untouched first i p q b = record {
+  rest = b.rest;
+  count = b.bound.count;
+  port = inr b.bound.port;
+  out = b.bound.out;
+  to_come =
+      b.bound.to_come;
+  came_back = b.bound.came_back;
+}
+
+stays : (first i : ℕ) (p : PortValue) → IsUntouched first i p p
+stays first i p = record { rest = refl; count = omega arith; port = inl refl; out = refl; to_come = refl; came_back = refl }
+
+-- a bind that failed
+pub not_bound : (first i : ℕ) (p q : PortValue) → q ≡ record p { listener = q.listener } → IsSameBut p.listener q.listener → IsUntouched
+    first i p q
+not_bound first i p q rest b = record {
+  rest = rest;
+  count = b.count;
+  port = inl b.port;
+  out = b.out;
+  to_come = b.to_come;
+  came_back =
+      b.came_back;
+}
+
+-- all are untouched where one failed after some were bound
+pub all_untouched : (k : ℕ) (first now : List PortValue) (index : ℕ) (e new : PortValue) → index < length now
+    → length now ≡ length first → Halfway (IsBoundAt k) first now index
+    → IsUntouched k index (slice_index_or now index e) new → Each (IsUntouched k) first (set now index new)
+all_untouched k first now index e new lt same h step =
+    let weaker : Halfway (IsUntouched k) first now index = record {
+      done = λ i d below. untouched k i (slice_index_or first i d)
+          (slice_index_or now i d) (h.done i d below);
+      rest = h.rest;
+    } in
+    half_weaker (IsUntouched k) (IsUntouched k) first (set now index new) (index + 1) (half_more
+    (IsUntouched k) first now index e new lt weaker step)
+    (length-set now index new ∙ same) (λ i x y u. u) (stays k)
+
+-- and the count of that one rose
+pub risen_there : (k : ℕ) (first now : List PortValue) (index : ℕ) (e new : PortValue) → index < length now → length now ≡ length first
+    → Halfway (IsBoundAt k) first now index
+    → HasRisen (slice_index_or now index e).listener.faults new.listener.faults → HasRisenSome first (set now index new)
+risen_there k first now index e new lt same h risen = (
+  index,
+  omega arith,
+  λ d.
+      subst (λ (x : PortValue). HasRisen (slice_index_or first index d).listener.faults x.listener.faults) (sym
+      (get_or-set_same now index new d lt))
+      (subst (λ (x : PortValue). HasRisen x.listener.faults new.listener.faults) (get_or_default now index e d lt ∙ h.rest index d
+      (omega arith)) risen),
+)

@@ -1,0 +1,10 @@
+pub mod Each
+pub mod Visiting
+pub mod Working
+pub mod Binding
+pub mod Seats
+pub mod Confirming
+pub mod PortEnds
+pub mod Wholes
+pub mod Lines
+pub mod Endings

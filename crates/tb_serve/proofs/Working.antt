@@ -1,0 +1,188 @@
+-- Sessions that are served one after another, and where a worker stops.
+use Rattle.std.proofs.Common.{◌≡◌, ◌∙◌, sym, ap, refl, subst, ℕ, ◌≤◌, true, false, List, [], ◌∷◌, ◌++◌, length, append_assoc, append-nil, arith, inl, inr}
+use Rattle.std.specs.Prelude.{Option, Some, None, option_map}
+use Rattle.std.proofs.lemmas.List.{map-append}
+use Rattle.tb_board.specs.Starts.{StartValue}
+use Rattle.tb_front.specs.Holders.{Name}
+use Rattle.tb_io.proofs.FaultLemmas.{HasRisen-earlier}
+use Rattle.tb_model.specs.Releases.{ReleaseValue}
+use Rattle.tb_model.specs.Schemas.{shape_of}
+use Rattle.tb_model.specs.Setups.{SetupValue}
+use Rattle.tb_io.specs.Listeners.{CanAccept, Connection, Gives, IsSameBut, ListenerValue, given_back}
+use Rattle.tb_io.specs.Sources.{IsAtEnd}
+use Rattle.tb_release.specs.Batches.{BatchValue}
+use Rattle.tb_serve.specs.Visits.{AreVisits, IsVisit, Visit}
+use Rattle.tb_serve.specs.Workers.{AreServed, HasGiven, HasStepped, HasWorked, came_of, went_of}
+use Rattle.tb_serve.specs.declared.next.Next.TheVariants as next
+use Rattle.tb_session.specs.Parties.{GoesOn, IsPartyOf, role_of, seen_by}
+use Rattle.tb_session.specs.declared.party.Party.{Party}
+use Rattle.tb_session.specs.declared.party.Role.{Role}
+
+-- ---- what a listener gives and gets back
+-- what comes in front of what comes
+map_twice : {A : Type 0} (xs ys : List A) (o : Option (List A))
+    → option_map (λ rest. xs ++ rest) (option_map (λ rest. ys ++ rest) o) ≡ option_map (λ rest. (xs ++ ys) ++ rest) o
+map_twice xs ys None = refl
+map_twice xs ys (Some zs) = ap Some (sym (append_assoc xs ys zs))
+
+map_behind : {A : Type 0} (xs ys : List A) (o : Option (List A))
+    → option_map (λ back. back ++ ys) (option_map (λ back. back ++ xs) o) ≡ option_map (λ back. back ++ (xs ++ ys)) o
+map_behind xs ys None = refl
+map_behind xs ys (Some zs) = ap Some (append_assoc zs xs ys)
+
+map_nothing : {A : Type 0} (o : Option (List A)) → o ≡ option_map (λ back. back ++ []) o
+map_nothing None = refl
+map_nothing (Some zs) = ap Some (sym (append-nil zs))
+
+map_none : {A : Type 0} (o : Option (List A)) → o ≡ option_map (λ (rest : List A). rest) o
+map_none None = refl
+map_none (Some zs) = refl
+
+given_more : (a b c : ListenerValue) (vs ws : List Visit) → HasGiven a b vs → HasGiven b c ws → HasGiven a c (vs ++ ws)
+given_more a b c vs ws p q = record {
+  count = omega (arith, p.count, q.count);
+  free = q.free;
+  to_come = p.to_come ∙ ap (λ (o : Option (List Connection)). option_map (λ rest. came_of vs ++ rest) o) q.to_come ∙ map_twice
+      (came_of vs) (came_of ws) c.to_come
+      ∙ ap (λ (l : List Connection). option_map (λ rest. l ++ rest) c.to_come) (sym (map-append (λ (v : Visit). v.came) vs ws));
+  came_back = q.came_back ∙ ap (λ (o : Option (List Connection)). option_map (λ back. back ++ went_of ws) o) p.came_back ∙ map_behind
+      (went_of vs) (went_of ws) a.came_back
+      ∙ ap (λ (l : List Connection). option_map (λ back. back ++ l) a.came_back) (sym (map-append (λ (v : Visit). v.went) vs ws));
+}
+
+given_one : (before mid after : ListenerValue) (v : Visit) → Gives before mid v.came → after ≡ given_back mid v.went
+    → HasGiven before after (v ∷ [])
+given_one before mid after v gives back =
+    let given : HasGiven before (given_back mid v.went) (v ∷ []) = record {
+      count = gives.count;
+      free = refl;
+      to_come = gives.to_come;
+      came_back = ap (λ (o : Option (List Connection)). option_map (λ back. back ++ v.went ∷ []) o) gives.came_back;
+    } in
+    subst (λ (l : ListenerValue). HasGiven before l (v ∷ [])) (sym back) given
+
+given_none : (a b : ListenerValue) → CanAccept a → IsSameBut a b → HasGiven a b []
+given_none a b can same = record {
+  count = same.count;
+  free = same.out ∙ can.free;
+  to_come = sym same.to_come ∙ map_none b.to_come;
+  came_back = same.came_back ∙ map_nothing a.came_back;
+}
+
+-- it may accept again
+pub can_again : (a b : ListenerValue) (vs : List Visit) → CanAccept a → b.port ≡ a.port → HasGiven a b vs → CanAccept b
+can_again a b vs can port given =
+    let bound : CanAccept (record b { port = a.port }) = record { bound = can.bound; free = given.free } in
+    subst (λ (o : Option ℕ). CanAccept (record b { port = o })) (sym port) bound
+
+-- ---- where sessions lead
+-- visits that lead on from where others led to
+visits_more : (who : Role) (setup : SetupValue) (base : ReleaseValue) (from mid to : List BatchValue) (vs ws : List Visit)
+    → AreVisits who setup base from vs mid → AreVisits who setup base mid ws to → AreVisits who setup base from (vs ++ ws) to
+visits_more who setup base from mid to [] ws p q = subst (λ (l : List BatchValue). AreVisits who setup base l ws to) p q
+visits_more who setup base from mid to (v ∷ vs) ws p q = (p.0, p.1, visits_more who setup base p.0 mid to vs ws p.2 q)
+
+goes_nowhere : (p : Party) → GoesOn p p
+goes_nowhere p = record { who = refl; front = refl; start = refl }
+
+goes_further : (p q r : Party) → GoesOn p q → GoesOn q r → GoesOn p r
+goes_further p q r one more = record { who = more.who ∙ one.who; front = more.front ∙ one.front; start = more.start ∙ one.start }
+
+module _ (name : Name) (setup : SetupValue) where
+  -- a session that was accepted, served and given back
+  pub one_served : (before mid after : ListenerValue) (from to : Party) (v : Visit) → Gives before mid v.came
+      → after ≡ given_back mid v.went → IsPartyOf name (shape_of setup.schema) to → GoesOn from to
+      → IsVisit (role_of from) setup (seen_by from).start.base (seen_by from).list v
+      (seen_by to).list → HasStepped name setup before after from to next.Served
+  one_served before mid after from to v gives back own goes visit = (
+    v,
+    record {
+      given = given_one before mid after v gives back;
+      port = ap (λ (l : ListenerValue). l.port) back ∙ gives.port;
+      own = own;
+      goes_on = goes;
+      lead = ((seen_by to).list, visit, refl);
+    },
+  )
+
+  -- nothing was served, and nothing changed but the count of faults
+  pub none_served : (a b : ListenerValue) (p : Party) → CanAccept a → IsSameBut a b → IsPartyOf name (shape_of setup.schema) p
+      → AreServed name setup a b p p []
+  none_served a b p can same own = record {
+    given = given_none a b can same;
+    port = same.port;
+    own = own;
+    goes_on = goes_nowhere p;
+    lead
+        = refl;
+  }
+
+  pub none_came : (a b : ListenerValue) (p : Party) → CanAccept a → IsAtEnd a.to_come → IsSameBut a b
+      → IsPartyOf name (shape_of setup.schema) p → HasStepped name setup a b p p next.NoneCame
+  none_came a b p can at_end same own = (
+    none_served a b p can same own,
+    subst (λ (o : Option (List Connection)). IsAtEnd o)
+        (sym same.to_come) at_end,
+  )
+
+  -- more sessions served after others
+  pub served_more : (a b c : ListenerValue) (p q r : Party) (vs ws : List Visit) → AreServed name setup a b p q vs
+      → AreServed name setup b c q r ws → AreServed name setup a c p r (vs ++ ws)
+  served_more a b c p q r vs ws x y =
+      let on : AreVisits (role_of p) setup (seen_by p).start.base (seen_by q).list ws (seen_by r).list =
+      subst (λ (k : Role × StartValue). AreVisits k.0 setup k.1.base (seen_by q).list ws (seen_by r).list) (λ i.
+      (x.goes_on.who i, x.goes_on.start i)) y.lead in
+      record {
+        given = given_more a b c vs ws x.given y.given;
+        port = y.port ∙ x.port;
+        own = y.own;
+        goes_on = goes_further p q r x.goes_on y.goes_on;
+        lead = visits_more (role_of p) setup (seen_by p).start.base (seen_by p).list (seen_by q).list (seen_by r).list vs ws x.lead on;
+      }
+
+  none_more : (a b c : ListenerValue) (p q r : Party) (vs : List Visit) → AreServed name setup a b p q vs
+      → AreServed name setup b c q r [] → AreServed name setup a c p r vs
+  none_more a b c p q r vs x y = subst (λ (l : List Visit). AreServed name setup a c p r l) (append-nil vs)
+      (served_more a b c p q r vs [] x y)
+
+  -- a worker stops where it served all that it was to
+  pub worked_all : (most : ℕ) (a b : ListenerValue) (p q : Party) (vs : List Visit) → AreServed name setup a b p q vs
+      → length vs ≡ most → HasWorked name setup most a b p q most false
+  worked_all most a b p q vs x n = record {
+    visits = vs;
+    visited = x;
+    counted = sym n;
+    enough = record {
+      within = omega arith;
+      enough =
+          inl refl;
+      risen = λ h. absurd (cc (h));
+    };
+  }
+
+  -- where none is left to come
+  pub worked_out : (most served : ℕ) (a b c : ListenerValue) (p q r : Party) (vs : List Visit) → AreServed name setup a b p q vs
+      → length vs ≡ served → served ≤ most
+      → HasStepped name setup b c q r next.NoneCame → HasWorked name setup most a c p r served false
+  worked_out most served a b c p q r vs x n le step = record {
+    visits = vs;
+    visited = none_more a b c p q r vs x step.0;
+    counted = sym n;
+    enough = record { within = le; enough = inr (inl step.1); risen = λ h. absurd (cc (h)) };
+  }
+
+  -- and where the accept failed
+  pub worked_badly : (most served : ℕ) (a b c : ListenerValue) (p q r : Party) (vs : List Visit) → AreServed name setup a b p q vs
+      → length vs ≡ served → served ≤ most
+      → HasStepped name setup b c q r next.Failed → HasWorked name setup most a c p r served true
+  worked_badly most served a b c p q r vs x n le step = record {
+    visits = vs;
+    visited = none_more a b c p q r vs x step.0;
+    counted = sym n;
+    enough = record {
+      within = le;
+      enough = inr (inr refl);
+      risen = λ _. HasRisen-earlier a.faults b.faults c.faults x.given.count step.1
+          step.0.given.count;
+    };
+  }

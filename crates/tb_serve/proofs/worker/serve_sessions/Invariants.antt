@@ -1,0 +1,10 @@
+use Rattle.std.proofs.Common.{◌≡◌, List, length}
+use Rattle.tb_serve.specs.Visits.{Visit}
+use Rattle.tb_serve.specs.Workers.{AreServed}
+use Rattle.tb_serve.proofs.worker.serve_sessions.Given as goal
+
+-- the sessions so far were served
+abbrev pub invariant-loop-served : goal.invariant-loop-served
+invariant-loop-served g l =
+    (visits : List Visit) × AreServed g.B.Named.name l.setup (g.N.Listen.seen l.fn.listener)
+    (g.N.Listen.seen l.listener) l.fn.party l.party visits × (length visits ≡ l.served)

@@ -1,0 +1,79 @@
+-- How edits, parties and ports are coded, for a type whose value is a port.
+use Rattle.std.specs.Prelude.{◌≡◌, ◌⊎◌, ℕ, Bool, List, Option, refl}
+use Rattle.std.specs.Coded.{Coded, code_by, coded×, coded⊎, coded_ℕ, coded_bool, coded_list}
+use Rattle.std.specs.Coded.{coded_option}
+use mathlib.Core.Logic.{inl, inr}
+use Rattle.tb_board.specs.Custodians.{CustodianValue, custodian_code}
+use Rattle.tb_board.specs.Holders.{HolderValue, holder_value_code}
+use Rattle.tb_io.specs.Listeners.{ListenerValue, listener_code}
+use Rattle.tb_release.specs.declared.edits.Edit.{Edit}
+use Rattle.tb_release.specs.declared.edits.Edit.TheVariants as edit
+use Rattle.tb_serve.specs.Ports.{PortValue}
+use Rattle.tb_session.specs.declared.party.Party.{Party}
+use Rattle.tb_session.specs.declared.party.Party.TheVariants as party
+
+-- what an edit is made of
+abbrev EditParts : Type 0
+EditParts = (ℕ × (ℕ × List ℕ)) ⊎ (ℕ ⊎ (ℕ × List (ℕ × ℕ)))
+
+-- an edit's parts, and the edit of some parts
+abbrev parts_of_edit : Edit → EditParts
+parts_of_edit (edit.Add person key codes) = inl (person, (key, codes))
+parts_of_edit (edit.Drop person) = inr (inl person)
+parts_of_edit (edit.Amend person sets) = inr (inr (person, sets))
+
+abbrev edit_of : EditParts → Edit
+edit_of (inl (person, (key, codes))) = edit.Add person key codes
+edit_of (inr (inl person)) = edit.Drop person
+edit_of (inr (inr (person, sets))) = edit.Amend person sets
+
+-- the edit of its parts is the edit itself
+pub edit_back : (e : Edit) → edit_of (parts_of_edit e) ≡ e
+edit_back (edit.Add person key codes) = refl
+edit_back (edit.Drop person) = refl
+edit_back (edit.Amend person sets) = refl
+
+abbrev pub edit_code : Coded Edit
+edit_code =
+    code_by EditParts
+    (coded⊎ (coded× coded_ℕ (coded× coded_ℕ (coded_list coded_ℕ)))
+    (coded⊎ coded_ℕ (coded× coded_ℕ (coded_list (coded× coded_ℕ coded_ℕ)))))
+    parts_of_edit edit_of edit_back
+
+-- what a party is made of
+abbrev PartyParts : Type 0
+PartyParts = HolderValue ⊎ (CustodianValue × List Edit)
+
+-- a party's parts, and the party of some parts
+abbrev parts_of_party : Party → PartyParts
+parts_of_party (party.Analyst pass) = inl pass
+parts_of_party (party.Custodian custodian held) = inr (custodian, held)
+
+abbrev party_of : PartyParts → Party
+party_of (inl pass) = party.Analyst pass
+party_of (inr (custodian, held)) = party.Custodian custodian held
+
+-- the party of its parts is the party itself
+pub party_back : (p : Party) → party_of (parts_of_party p) ≡ p
+party_back (party.Analyst pass) = refl
+party_back (party.Custodian custodian held) = refl
+
+abbrev pub party_code : Coded Party
+party_code =
+    code_by PartyParts (coded⊎ holder_value_code (coded× custodian_code (coded_list edit_code)))
+    parts_of_party party_of party_back
+
+abbrev pub port_code : Coded PortValue
+port_code =
+    code_by (ListenerValue × (ℕ × (Bool × (Option Party × Bool))))
+    (coded× listener_code (coded× coded_ℕ (coded× coded_bool
+    (coded× (coded_option party_code) coded_bool))))
+    (λ p. (p.listener, (p.served, (p.failed, (p.party, p.has_lines)))))
+    (λ p. record {
+      listener = p.0;
+      served = p.1.0;
+      failed = p.1.1.0;
+      party = p.1.1.1.0;
+      has_lines = p.1.1.1.1;
+    })
+    (λ _. refl)

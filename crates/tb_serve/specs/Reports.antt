@@ -1,0 +1,42 @@
+-- What `serve` writes once its workers ended.
+use Rattle.std.specs.Prelude.{ℕ, ◌+◌, Bool, List, [], ◌∷◌, ◌++◌, codes, decimal, if◌then◌else◌}
+use Rattle.std.specs.List.{concat, list_any}
+use Rattle.tb_serve.specs.Ports.{PortValue}
+
+-- the line of a worker: its number, and how many sessions it served
+abbrev pub worker_line : ℕ → ℕ → List ℕ
+worker_line i served =
+    codes "worker " ++ decimal i ++ codes " sessions " ++ decimal served ++ codes "\n"
+
+-- the lines of the workers of some ports, from a number on
+abbrev pub worker_lines : ℕ → List PortValue → List (List ℕ)
+worker_lines i [] = []
+worker_lines i (port ∷ ports) = worker_line i port.served ∷ worker_lines (i + 1) ports
+
+-- the line of the last release
+abbrev pub release_line : ℕ → List ℕ
+release_line release = codes "release " ++ decimal release ++ codes "\n"
+
+-- the last line where a bind or an accept failed
+abbrev pub net_line : List ℕ
+net_line = codes "fault net\n"
+
+-- the one line where memory was refused
+abbrev pub memory_line : List ℕ
+memory_line = codes "fault memory\n"
+
+-- whether the accept of some port failed
+abbrev pub some_failed : List PortValue → Bool
+some_failed ports = list_any (λ port. port.failed) ports
+
+-- the line after that of the release, where an accept failed
+abbrev pub last_lines : Bool → List (List ℕ)
+last_lines failed = if failed then net_line ∷ [] else []
+
+-- the lines after those of the workers
+abbrev pub closing : ℕ → Bool → List ℕ
+closing release failed = release_line release ++ concat (last_lines failed)
+
+-- the whole report
+abbrev pub report : List PortValue → ℕ → List ℕ
+report ports release = concat (worker_lines 0 ports) ++ closing release (some_failed ports)

@@ -1,0 +1,127 @@
+-- What is done with all ports before their workers begin, and after they ended.
+use Rattle.std.specs.Prelude.{◌≡◌, ◌⊎◌, ℕ, zero, suc, ◌+◌, ◌<◌, ◌≤◌, true, false, List, [], length}
+use Rattle.std.specs.Prelude.{Option, None, Some, IfSome, slice_index_or}
+use Rattle.tb_board.specs.Custodians.{CustodianValue}
+use Rattle.tb_board.specs.Holders.{HolderValue}
+use Rattle.tb_front.specs.Holders.{IsLater, Name}
+use Rattle.tb_io.specs.Faults.{HasRisen}
+use Rattle.tb_io.specs.Listeners.{CanAccept, CanBind, IsSameBut}
+use Rattle.tb_serve.specs.Each.{Each}
+use Rattle.tb_serve.specs.Ports.{PortValue, fresh_port}
+use Rattle.tb_serve.specs.declared.readiness.Readiness.{Readiness}
+use Rattle.tb_serve.specs.declared.readiness.Readiness.TheVariants as readiness
+use Rattle.tb_session.specs.Parties.{seen_by}
+use Rattle.tb_session.specs.declared.party.Party.{Party}
+use Rattle.tb_session.specs.declared.party.Party.TheVariants as party
+
+-- ---- before the first accept
+
+-- a port is as it was made, and its listener can be bound
+pub record IsFresh (port : PortValue) : Type 0 where
+  pub made : port ≡ fresh_port port.listener
+  pub can : CanBind port.listener
+
+-- a port's listener can be bound
+abbrev pub CanBeBound : PortValue → Type 0
+CanBeBound port = CanBind port.listener
+
+-- a port got a reader of lines
+abbrev pub HasLines : PortValue → PortValue → Type 0
+HasLines before after = after ≡ record before { has_lines = true }
+
+-- it may have got one
+abbrev pub IsSameButLines : PortValue → PortValue → Type 0
+IsSameButLines before after = after ≡ record before { has_lines = after.has_lines }
+
+-- the listener of port i was bound to the port of its number
+pub record IsBoundAt (first i : ℕ) (before after : PortValue) : Type 0 where
+  pub rest : after ≡ record before { listener = after.listener }
+  pub bound : IsSameBut (record before.listener { port = Some (first + i) }) after.listener
+
+-- nothing was accepted at port i: at most its listener was bound, and its count of faults rose
+pub record IsUntouched (first i : ℕ) (before after : PortValue) : Type 0 where
+  pub rest : after ≡ record before { listener = after.listener }
+  pub count : before.listener.faults ≤ after.listener.faults
+  pub port : (after.listener.port ≡ before.listener.port)
+      ⊎ (after.listener.port ≡ Some (first + i))
+  pub out : after.listener.is_out ≡ before.listener.is_out
+  pub to_come : after.listener.to_come ≡ before.listener.to_come
+  pub came_back : after.listener.came_back ≡ before.listener.came_back
+
+-- the count of faults of some listener rose
+abbrev pub HasRisenSome : List PortValue → List PortValue → Type 0
+HasRisenSome before after =
+    (i : ℕ) × (i < length before)
+    × ((d : PortValue) → HasRisen (slice_index_or before i d).listener.faults
+    (slice_index_or after i d).listener.faults)
+
+-- a port is ready for a party: its listener may accept, and it has a reader of lines
+pub record IsReady (port : PortValue) : Type 0 where
+  pub can : CanAccept port.listener
+  pub lines : port.has_lines ≡ true
+
+-- port i got ready
+pub record GetsReady (first i : ℕ) (before after : PortValue) : Type 0 where
+  pub can : IsReady after
+  pub bound : IsSameBut (record before.listener { port = Some (first + i) }) after.listener
+  pub rest : after ≡ record before { listener = after.listener; has_lines = true }
+
+-- all ports got ready; or memory was refused; or a bind failed, for which a count rose
+abbrev pub HasPrepared : ℕ → List PortValue → List PortValue → Readiness → Type 0
+HasPrepared first before after readiness.Ready = Each (GetsReady first) before after
+HasPrepared first before after readiness.NoMemory = Each (IsUntouched first) before after
+HasPrepared first before after readiness.NotBound =
+    Each (IsUntouched first) before after × HasRisenSome before after
+
+-- ---- the parties
+
+-- who is served at port i: the custodian at the first, and at each other one an analyst who has
+-- seen what the custodian has
+abbrev pub party_at : CustodianValue → ℕ → Party
+party_at custodian zero = party.Custodian custodian []
+party_at custodian (suc i) = party.Analyst custodian.writer
+
+-- port i got its party
+abbrev pub IsSeated : CustodianValue → ℕ → PortValue → PortValue → Type 0
+IsSeated custodian i before after = after ≡ record before { party = Some (party_at custodian i) }
+
+-- a party belongs to the front of this name
+abbrev pub IsOfFront : Name → Party → Type 0
+IsOfFront name one = (seen_by one).name ≡ name
+
+-- so does a port's party, if it has one
+abbrev pub HasOwnParty : Name → PortValue → Type 0
+HasOwnParty name port = IfSome port.party (IsOfFront name)
+
+-- an analyst has seen a beginning of what the custodian's writer wrote
+abbrev pub IsBehind : HolderValue → Option Party → Type 0
+IsBehind writer (Some (party.Analyst pass)) = IsLater pass writer
+IsBehind writer (Some (party.Custodian custodian held)) = Unit {0}
+IsBehind writer None = Unit {0}
+
+-- this is the custodian, with some held edits
+abbrev pub IsCustodian : CustodianValue → Option Party → Type 0
+IsCustodian custodian (Some (party.Analyst pass)) = ⊥
+IsCustodian custodian (Some (party.Custodian other held)) = other ≡ custodian
+IsCustodian custodian None = ⊥
+
+-- the custodian is served here
+abbrev pub HasCustodian : Option Party → Type 0
+HasCustodian (Some (party.Analyst pass)) = ⊥
+HasCustodian (Some (party.Custodian custodian held)) = Unit {0}
+HasCustodian None = ⊥
+
+-- a port's party left, and its pass was confirmed
+pub record IsConfirmed (writer : HolderValue) (before after : PortValue) : Type 0 where
+  pub rest : after ≡ record before { party = None }
+  pub behind : IsBehind writer before.party
+
+-- a port is left without a party and a reader of lines
+abbrev pub IsCleared : PortValue → PortValue → Type 0
+IsCleared before after = after ≡ record before { party = None; has_lines = false }
+
+-- a port's listener stays bound, and no party and no reader of lines is left
+pub record IsLeft (before after : PortValue) : Type 0 where
+  pub port : after.listener.port ≡ before.listener.port
+  pub party : after.party ≡ None
+  pub lines : after.has_lines ≡ false

@@ -1,0 +1,100 @@
+// What is written once all workers ended. It takes no memory.
+
+ghost use Rattle.std.specs.Prelude.{◌≡◌, ◌<◌, ◌^◌, length};
+ghost use Rattle.std.specs.List.{concat};
+ghost use Rattle.tb_io.specs.Taken.{IsWritten};
+ghost use Rattle.tb_serve.specs.Ports.{PortValue};
+ghost use Rattle.tb_serve.specs.Reports.{closing, last_lines, release_line, report};
+ghost use Rattle.tb_serve.specs.Reports.{some_failed, worker_line, worker_lines};
+
+use crate::port::Port;
+use tb_base::print_number;
+use tb_io::{Listen, Sink, Wrote, write_all};
+
+// Writes the line of a worker.
+fn write_worker<O: Sink>(out: &mut O, i: u32, served: u32) -> Wrote
+    ensures written { IsWritten result (O.faults out.old) (O.faults out.new) (O.taken out.old)
+        (O.taken out.new) (worker_line i served) }
+{
+    let mut first = [0; 10];
+    let mut second = [0; 10];
+    let number_len = print_number(i, &mut first);
+    let served_len = print_number(served, &mut second);
+    let number = &first[..number_len];
+    let sessions = &second[..served_len];
+    write_all(out, &[b"worker ", number, b" sessions ", sessions, b"\n"])
+}
+
+// Writes the lines of all workers.
+fn write_workers<O: Sink, N: Listen>(out: &mut O, ports: &[Port<N>]) -> Wrote
+    requires { length ports.now < 2 ^ 32 }
+    ensures written { IsWritten result (O.faults out.old) (O.faults out.new) (O.taken out.old)
+        (O.taken out.new) (concat (worker_lines 0 ports.now)) }
+{
+    for (i, port) in ports.iter().enumerate() {
+        let served = port.served();
+        match write_worker(out, i as u32, served) {
+            Wrote::All => {}
+            Wrote::Failed => return Wrote::Failed,
+        }
+    }
+    Wrote::All
+}
+
+// Writes the line of the release.
+fn write_release<O: Sink>(out: &mut O, release: u32) -> Wrote
+    ensures written { IsWritten result (O.faults out.old) (O.faults out.new) (O.taken out.old)
+        (O.taken out.new) (release_line release) }
+{
+    let mut digits = [0; 10];
+    let len = print_number(release, &mut digits);
+    write_all(out, &[b"release ", &digits[..len], b"\n"])
+}
+
+// Writes the last line, where an accept failed.
+fn write_last<O: Sink>(out: &mut O, failed: bool) -> Wrote
+    ensures written { IsWritten result (O.faults out.old) (O.faults out.new) (O.taken out.old)
+        (O.taken out.new) (concat (last_lines failed)) }
+{
+    if failed {
+        out.write(b"fault net\n")
+    } else {
+        Wrote::All
+    }
+}
+
+// Writes the lines after those of the workers.
+fn write_closing<O: Sink>(out: &mut O, release: u32, failed: bool) -> Wrote
+    ensures written { IsWritten result (O.faults out.old) (O.faults out.new) (O.taken out.old)
+        (O.taken out.new) (closing release failed) }
+{
+    match write_release(out, release) {
+        Wrote::All => write_last(out, failed),
+        Wrote::Failed => Wrote::Failed,
+    }
+}
+
+// Whether the accept of some port failed.
+pub(crate) fn has_failed<N: Listen>(ports: &[Port<N>]) -> bool
+    ensures { result ≡ some_failed ports.now }
+{
+    ports.iter().any(|port| port.has_failed())
+}
+
+// Writes the whole report.
+pub(crate) fn write_report<O: Sink, N: Listen>(
+    out: &mut O,
+    ports: &[Port<N>],
+    release: u32,
+    failed: bool,
+) -> Wrote
+    requires few { length ports.now < 2 ^ 32 }
+    requires failed { failed ≡ some_failed ports.now }
+    ensures written { IsWritten result (O.faults out.old) (O.faults out.new) (O.taken out.old)
+        (O.taken out.new) (report ports.now release) }
+{
+    match write_workers(out, ports) {
+        Wrote::All => write_closing(out, release, failed),
+        Wrote::Failed => Wrote::Failed,
+    }
+}

@@ -1,0 +1,186 @@
+// The command `serve`, over the ports of its workers.
+
+ghost use Rattle.std.specs.Prelude.{◌≡◌, ◌≤◌, ◌<◌, ◌+◌, ◌^◌, All, IfOk, List, drop, length, take};
+ghost use Rattle.tb_base.specs.Records.{AllFit};
+ghost use Rattle.tb_model.specs.Schemas.{shape_of};
+ghost use Rattle.tb_release.specs.Batches.{BatchValue};
+ghost use Rattle.tb_serve.specs.Each.{Each};
+ghost use Rattle.tb_serve.specs.Ports.{PortValue};
+ghost use Rattle.tb_serve.specs.Serves.{HasServed, IsEnded, IsReported, Serves, output};
+ghost use Rattle.tb_serve.specs.Stages.{IsFresh, IsLeft, IsReady};
+
+use crate::closing::{clear_all, confirm_all};
+use crate::port::Port;
+use crate::preparing::prepare;
+use crate::readiness::Readiness;
+use crate::report::{has_failed, write_report};
+use crate::seating::seat_all;
+use crate::workers::work_all;
+use std::alloc::Global;
+use std::marker::Brand;
+use std::sync::Wait;
+use std::thread::Threads;
+use tb_base::{Memory, Status};
+use tb_board::{Board, Named, Opening};
+use tb_io::{Listen, Sink, Wrote};
+use tb_release::Release;
+use tb_text::Setup;
+
+// How many cubes are kept at first.
+const FIRST_CAPACITY: u32 = 64;
+
+// What the board is made of.
+fn open(alloc: Global, setup: &Setup, base: Release) -> Result<Opening, Memory>
+    requires first { base.number ≡ 0 }
+    requires fit { AllFit (shape_of setup.now.schema) base.records }
+    ensures { IfOk result (λ opening. opening.start
+        ≡ record { shape = shape_of setup.now.schema; base = base }) }
+{
+    Opening::new(alloc, setup.schema.shape(), base, FIRST_CAPACITY)
+}
+
+// Serves the sessions of ports that are ready: the custodian's at the first, and analysts' at the
+// others. Returns the number of the last release.
+fn serve_over_board<B: Named + Send + Sync, N: Listen + Send, R: Threads + Wait + Sync>(
+    rt: &R,
+    alloc: Global,
+    setup: &Setup,
+    opening: Opening,
+    sessions: u32,
+    ports: &mut [Port<N>],
+) -> u32
+    requires name { opening.name ≡ B.name }
+    requires shape { opening.start.shape ≡ shape_of setup.now.schema }
+    requires first { opening.start.base.number ≡ 0 }
+    requires some { 0 < length ports.old }
+    requires can { All IsReady ports.old }
+    ensures served { (chain : List BatchValue) × (result ≡ length chain)
+        × Each (HasServed setup.now opening.start.base sessions chain) ports.old ports.new }
+    ensures left { Each (λ _. IsLeft) ports.old ports.new }
+{
+    let (board, custodian) = Board::<B>::new(opening);
+    seat_all(&board, rt, alloc, custodian, ports);
+    work_all(setup, &board, rt, alloc, sessions, ports);
+    let custodian = confirm_all(&board, ports);
+    let release = custodian.number();
+    clear_all(ports);
+    release
+}
+
+// The same, and writes the report.
+fn serve_and_report<B: Named + Send + Sync, O: Sink, N: Listen + Send, R: Threads + Wait + Sync>(
+    rt: &R,
+    alloc: Global,
+    setup: &Setup,
+    opening: Opening,
+    sessions: u32,
+    out: &mut O,
+    ports: &mut [Port<N>],
+) -> Status
+    requires name { opening.name ≡ B.name }
+    requires shape { opening.start.shape ≡ shape_of setup.now.schema }
+    requires first { opening.start.base.number ≡ 0 }
+    requires some { 0 < length ports.old }
+    requires few { length ports.old < 2 ^ 32 }
+    requires can { All IsReady ports.old }
+    ensures served { (chain : List BatchValue)
+        × Each (HasServed setup.now opening.start.base sessions chain) ports.old ports.new
+        × IsReported ports.new chain (output (O.taken out.old) (O.taken out.new)
+        (O.faults out.old) (O.faults out.new)) result }
+    ensures left { Each (λ _. IsLeft) ports.old ports.new }
+{
+    let release = serve_over_board::<B, N, R>(rt, alloc, setup, opening, sessions, ports);
+    let failed = has_failed(ports);
+    match write_report(out, ports, release, failed) {
+        Wrote::All => {
+            if failed {
+                Status::NetFault
+            } else {
+                Status::Done
+            }
+        }
+        Wrote::Failed => Status::WriteFault,
+    }
+}
+
+// Writes the one line of a call that served none.
+fn write_end<O: Sink>(out: &mut O, line: &[u8], status: Status) -> Status
+    ensures { IsEnded line.now status (output (O.taken out.old) (O.taken out.new)
+        (O.faults out.old) (O.faults out.new)) result }
+{
+    match out.write(line) {
+        Wrote::All => status,
+        Wrote::Failed => Status::WriteFault,
+    }
+}
+
+// The whole command, over just the ports that are served.
+fn serve_ports<O: Sink, N: Listen + Send, R: Threads + Wait + Sync>(
+    rt: &R,
+    alloc: Global,
+    setup: &Setup,
+    base: Release,
+    first: u16,
+    sessions: u32,
+    out: &mut O,
+    ports: &mut [Port<N>],
+) -> Status
+    requires first { base.number ≡ 0 }
+    requires fit { AllFit (shape_of setup.now.schema) base.records }
+    requires some { 0 < length ports.old }
+    requires numbers { first + length ports.old ≤ 65536 }
+    requires fresh { All IsFresh ports.old }
+    ensures { Serves setup.now base first sessions ports.old ports.new (output (O.taken out.old)
+        (O.taken out.new) (O.faults out.old) (O.faults out.new)) result }
+{
+    match prepare(alloc, first, ports) {
+        Readiness::Ready => {}
+        Readiness::NoMemory => return write_end(out, b"fault memory\n", Status::Memory),
+        Readiness::NotBound => return write_end(out, b"fault net\n", Status::NetFault),
+    }
+    let Ok(opening) = open(alloc, setup, base) else {
+        clear_all(ports);
+        return write_end(out, b"fault memory\n", Status::Memory);
+    };
+    serve_and_report::<Brand, O, N, R>(rt, alloc, setup, opening, sessions, out, ports)
+}
+
+/// Serves sessions over this release 0: the custodian's at the first port and analysts' at the
+/// `workers` ports after it, all over one board. Ports past these stay as they are.
+///
+/// Each port gets its reader of lines, and then the listener of port i is bound to `first + i`;
+/// a bind that fails ends the call. Then a worker for each port, in a thread of its own where one
+/// can be made, serves up to `sessions` sessions, one after another, until none is to come or its
+/// accept failed; a session that ends by a fault ends no other. An analyst's port has one pass for
+/// all its sessions, and the custodian holds no edits when a session begins.
+///
+/// `out` takes, in writes that need no memory, `worker I sessions N` for each port, `release R`
+/// with the number of the custodian's release, and `fault net` last where an accept failed; only
+/// `fault net` where a bind failed, and only `fault memory` where memory was refused. Memory for
+/// the command is taken before the first accept, and then only for the replies. At the return no
+/// port has a party or a reader of lines.
+pub fn serve<O: Sink, N: Listen + Send, R: Threads + Wait + Sync>(
+    rt: &R,
+    alloc: Global,
+    setup: &Setup,
+    base: Release,
+    first: u16,
+    workers: u32,
+    sessions: u32,
+    out: &mut O,
+    net: &mut [Port<N>],
+) -> Status
+    requires first { base.number ≡ 0 }
+    requires fit { AllFit (shape_of setup.now.schema) base.records }
+    requires there { workers < length net.old }
+    requires numbers { first + workers < 65536 }
+    requires fresh { All IsFresh net.old }
+    ensures served { Serves setup.now base first sessions (take (workers + 1) net.old)
+        (take (workers + 1) net.new) (output (O.taken out.old) (O.taken out.new)
+        (O.faults out.old) (O.faults out.new)) result }
+    ensures rest { drop (workers + 1) net.new ≡ drop (workers + 1) net.old }
+{
+    let count = workers as usize + 1;
+    let (ports, _) = net.split_at_mut(count);
+    serve_ports(rt, alloc, setup, base, first, sessions, out, ports)
+}
