@@ -1,5 +1,5 @@
 -- What a script's run over a new board says of what was asked for.
-use Rattle.std.proofs.Common.{◌≡◌, sym, subst, ℕ, ◌≤◌, List, [], Option, inl, inr}
+use Rattle.std.proofs.Common.{◌≡◌, subst, ℕ, ◌≤◌, List, [], Option, inl, inr}
 use Rattle.tb_base.specs.declared.status.Status.{Status}
 use Rattle.tb_board.specs.Custodians.{CustodianValue, OpeningValue, first_custodian}
 use Rattle.tb_io.proofs.FaultLemmas.{HasRisen-earlier}

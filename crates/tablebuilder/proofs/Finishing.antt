@@ -202,9 +202,9 @@ keeps_by_script call command census script s named told fresh same (inl (is, (re
       net_fault = λ h. cc;
       exact = where_told _ _ call.content (λ at h. inl (is ∙ sym (ap defined_status h))) told;
       price = where_told _ _ call.content (λ at h. inr (
-          Script census script,
-          h,
-          (replies, answers, TookPart-all call.taken call.taken_after (text_of replies) took, cost),
+        Script census script,
+        h,
+        (replies, answers, TookPart-all call.taken call.taken_after (text_of replies) took, cost),
       )) told;
       idle = same-idle call.ports call.ports_after same fresh;
       others = λ h. same;

@@ -1,13 +1,10 @@
 -- Ports: what is true of those of a service is true of all.
-use Rattle.std.proofs.Common.{◌≡◌, ◌∙◌, ap, sym, subst, refl, ℕ, ◌+◌, ◌-◌, ◌<◌, ◌≤◌, List, ◌++◌, length, take, drop, get_or, All, Bool, true, false, Option, None, Some, inl, inr, arith, Any}
+use Rattle.std.proofs.Common.{◌≡◌, ◌∙◌, ap, sym, subst, refl, ℕ, ◌+◌, ◌-◌, ◌<◌, ◌≤◌, List, ◌++◌, length, take, drop, get_or, All, inl, inr, arith}
 use Rattle.std.proofs.lemmas.List.{get_or-drop, get_or-take, length-append, length-drop, length-take-le, take-append-drop, take_at}
 use Rattle.std.proofs.lemmas.List.Elements.{All-append}
-use Rattle.std.proofs.lemmas.List.Folds.{Any-from_list_any}
 use Rattle.std.proofs.lemmas.Bool.{cases_lt}
-use Rattle.tb_io.specs.Faults.{HasRisen}
-use Rattle.tb_serve.specs.Ports.{Each, PortValue}
-use Rattle.tb_serve.specs.Reports.{some_failed}
-use Rattle.tb_serve.specs.Serves.{IsPortServed}
+use Rattle.tb_serve.specs.Each.{Each}
+use Rattle.tb_serve.specs.Ports.{PortValue}
 use Rattle.tb_serve.specs.Stages.{HasRisenSome, IsFresh, IsUntouched}
 use Rattle.tablebuilder.specs.Services.{IsIdle, IsUnserved}
 
@@ -67,8 +64,8 @@ module _ (n : ℕ) (ports ports' : List PortValue) (long : n ≤ length ports)
   pub idle-whole : All IsFresh ports → All IsIdle (take n ports') → All IsIdle ports'
   idle-whole fresh idle =
       let others : All IsIdle (drop n ports) = λ i d below.
-          subst IsIdle (sym (get_or-drop n ports i d))
-          (all-fresh-idle ports fresh (n + i) d (omega (arith, below, length-drop n ports))) in
+      subst IsIdle (sym (get_or-drop n ports i d))
+      (all-fresh-idle ports fresh (n + i) d (omega (arith, below, length-drop n ports))) in
       subst (All IsIdle) (take-append-drop n ports') (All-append IsIdle (take n ports') (drop n ports') idle (subst (All IsIdle) (sym rest) others))
 
   -- a count that rose among the first rose

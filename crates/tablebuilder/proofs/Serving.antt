@@ -1,5 +1,5 @@
 -- What a call keeps that served sessions.
-use Rattle.std.proofs.Common.{◌≡◌, ◌≢◌, ◌⊎◌, ◌∙◌, sym, ap, subst, refl, ℕ, ◌+◌, ◌<◌, ◌≤◌, List, ◌++◌, length, take, drop, get_or, All, Any, Bool, true, false, Option, Some, None, Ok, Err, inl, inr, arith}
+use Rattle.std.proofs.Common.{◌≡◌, ◌≢◌, ◌⊎◌, ◌∙◌, sym, ap, subst, refl, ℕ, ◌+◌, ◌<◌, ◌≤◌, List, ◌++◌, length, take, drop, get_or, All, Bool, true, false, Option, Some, Ok, inl, inr, arith}
 use Rattle.std.specs.Prelude.{IfSome}
 use Rattle.std.proofs.lemmas.List.{get_or_default, take-append-drop}
 use Rattle.std.proofs.lemmas.List.Folds.{Any-from_list_any}
@@ -7,16 +7,17 @@ use Rattle.tb_base.specs.declared.status.Status.{Status}
 use Rattle.tb_base.specs.declared.status.Status.TheVariants as status
 use Rattle.tb_io.specs.Faults.{HasRisen}
 use Rattle.tb_release.specs.Batches.{BatchValue}
-use Rattle.tb_serve.specs.Ports.{Each, PortValue}
+use Rattle.tb_serve.specs.Each.{Each}
+use Rattle.tb_serve.specs.Ports.{PortValue}
 use Rattle.tb_serve.specs.Reports.{memory_line, net_line, report, some_failed}
 use Rattle.tb_serve.specs.Serves.{IsEnded, IsPortServed, Output, final_status, output}
 use Rattle.tb_serve.specs.Stages.{HasRisenSome, IsFresh, IsUntouched}
-use Rattle.tablebuilder.specs.Asking.{AskedValue, CensusValue, Serve, asked_of}
+use Rattle.tablebuilder.specs.Asking.{CensusValue, Serve, asked_of}
 use Rattle.tablebuilder.specs.Calls.{Call, HasTaken, NetFailed}
 use Rattle.tablebuilder.specs.Commands.{asks_to_serve, command_of}
 use Rattle.tablebuilder.specs.ServicePorts.{Service}
 use Rattle.tablebuilder.specs.Promises.{IsAskedOutput, IsDefined, IsTextOf, IsWhole, Keeps, defined_status}
-use Rattle.tablebuilder.specs.Services.{IsIdle, IsServiceAnswered, base_of, ports_of}
+use Rattle.tablebuilder.specs.Services.{IsIdle, IsServiceAnswered, base_of}
 use Rattle.tablebuilder.specs.declared.command.Command.{Command}
 use Rattle.tablebuilder.proofs.PortLemmas.{each-idle, each-unserved, each-whole, idle-whole, risen-whole, take-fresh, unserved}
 use Rattle.tablebuilder.proofs.Telling.{always_told, where_told}
@@ -189,8 +190,8 @@ module _ (call : Call) (command : Command) (census : CensusValue) (service : Ser
       let text = report ports (length chain) in
       let idle = idle-whole n call.ports call.ports_after long each.same_length rest fresh (served-idle census service chain _ _ each) in
       let whole = λ (at : List ℕ → Option (List ℕ)) (asked : asked_of at call.words ≡ Ok (Serve census service)).
-          whole_by_output call at (final_status ports) text (done_or_net ports ending)
-          (Serve census service, asked, inl (chain, (each, rest), refl, refl)) in
+      whole_by_output call at (final_status ports) text (done_or_net ports ending)
+      (Serve census service, asked, inl (chain, (each, rest), refl, refl)) in
       keeps_by_final call command census service s (final_status ports) text named serves told free
       (final_is (final_status ports) (done_or_net ports ending))
       (λ h. risen-whole n call.ports call.ports_after long each.same_length rest

@@ -1,5 +1,5 @@
 -- What each status of the top call tells.
-use Rattle.std.specs.Prelude.{◌≡◌, ◌⊎◌, ◌+◌, ◌≤◌, ℕ, List, ◌++◌, All, Bool, false, Option, None, Some, Result, Ok, Err, IfSome}
+use Rattle.std.specs.Prelude.{◌≡◌, ◌⊎◌, ◌+◌, ◌≤◌, ℕ, List, ◌++◌, All, false, Option, None, Some, Result, Ok, Err, IfSome}
 use Rattle.tb_base.specs.declared.status.Status.{Status}
 use Rattle.tb_base.specs.declared.status.Status.TheVariants as status
 use Rattle.tb_io.specs.Taken.{TookPart}
@@ -14,7 +14,7 @@ use Rattle.tablebuilder.specs.declared.command.Command.{Command}
 use Rattle.tablebuilder.specs.Endings.{last_line, status_of}
 use Rattle.tablebuilder.specs.Outputs.{AreAnswers, IsOutput}
 use Rattle.tablebuilder.specs.Services.{IsIdle, IsUnserved}
-use Rattle.tb_serve.specs.Ports.{Each}
+use Rattle.tb_serve.specs.Each.{Each}
 
 -- an end at a file that couldn't be read: a read failed, and it was the last, at that file
 abbrev pub IsReadingAt : Call → Input → Type 0

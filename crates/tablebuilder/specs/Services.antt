@@ -1,10 +1,11 @@
 -- What a service of sessions did, and what it writes.
-use Rattle.std.specs.Prelude.{◌≡◌, ◌⊎◌, ◌+◌, ◌≤◌, ℕ, List, Option, None, Bool, false, length, take, drop}
+use Rattle.std.specs.Prelude.{◌≡◌, ◌⊎◌, ◌+◌, ◌≤◌, ℕ, List, Option, None, false, length, take, drop}
 use Rattle.tb_base.specs.declared.status.Status.{Status}
 use Rattle.tb_base.specs.declared.status.Status.TheVariants as status
 use Rattle.tb_model.specs.Releases.{ReleaseValue, first_release}
 use Rattle.tb_release.specs.Batches.{BatchValue}
-use Rattle.tb_serve.specs.Ports.{Each, PortValue}
+use Rattle.tb_serve.specs.Each.{Each}
+use Rattle.tb_serve.specs.Ports.{PortValue}
 use Rattle.tb_serve.specs.Reports.{net_line, report}
 use Rattle.tb_serve.specs.Serves.{IsPortServed, Serves, final_status, output}
 use Rattle.tb_serve.specs.Stages.{HasRisenSome, IsUntouched}

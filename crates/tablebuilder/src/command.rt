@@ -195,7 +195,17 @@ fn read_script_words(words: &[String]) -> Option<Command<'_>>
 fn read_serve_words(words: &[String]) -> Option<Command<'_>>
     ensures { result ≡ serve_words (map string_bytes words.now) }
 {
-    let [command, classes, recodes, ptable, people, threshold, port, workers, sessions] = words
+    let [
+        command,
+        classes,
+        recodes,
+        ptable,
+        people,
+        threshold,
+        port,
+        workers,
+        sessions,
+    ] = words
     else {
         return None;
     };

@@ -60,14 +60,14 @@ pub fn run_in_memory<N: Listen + Send, L: Ledger>(
     // The bytes are the text of the status.
     ensures bytes { let arguments = map string_bytes words.now in
         let call = memory_call arguments files.old files.new out.old out.new
-            net.old.items net.new.items steps.old steps.new in
+        net.old.items net.new.items steps.old steps.new in
         Adds call files.old out.old out.new result }
     // A read fault's line names the file of the reading that failed, which was the last.
     ensures read { result ≡ status.ReadFault
         → NamesTheFailingRead (map string_bytes words.now) files.old files.new out.old out.new }
     ensures defined { let arguments = map string_bytes words.now in
         let call = memory_call arguments files.old files.new out.old out.new
-            net.old.items net.new.items steps.old steps.new in
+        net.old.items net.new.items steps.old steps.new in
         IsDefined call (bytes_of files.old.held) result }
 {
     tablebuilder(rt, alloc, words, files, out, net, steps)

@@ -59,12 +59,7 @@ fn run_words<
         + Net<Listener = TcpListener, Stream = TcpStream>
         + Sync,
     L: Ledger,
->(
-    rt: &R,
-    words: &[String],
-    out: &mut RealSink<'_, R>,
-    blank: Blank,
-) -> Status
+>(rt: &R, words: &[String], out: &mut RealSink<'_, R>, blank: Blank) -> Status
     requires name { blank.name ≡ L.name }
     requires parts { blank.parts ≡ L.parts }
     requires some { 0 < L.parts }
@@ -95,10 +90,7 @@ fn run_command<
         + Wait
         + Net<Listener = TcpListener, Stream = TcpStream>
         + Sync,
->(
-    rt: &R,
-    out: &mut RealSink<'_, R>,
-) -> Status {
+>(rt: &R, out: &mut RealSink<'_, R>) -> Status {
     match arguments(rt) {
         Ok(words) => run_words::<R, Brand>(rt, &words, out, Blank::new(1)),
         Err(e) if e.kind() == ErrorKind::OutOfMemory => top::end_by(&End::Memory, out),
@@ -117,9 +109,7 @@ fn run<
         + Wait
         + Net<Listener = TcpListener, Stream = TcpStream>
         + Sync,
->(
-    rt: &R,
-) -> Status {
+>(rt: &R) -> Status {
     let Ok(mut out) = RealSink::new(rt, rt.alloc()) else {
         return Status::Memory;
     };
@@ -131,7 +121,8 @@ fn run<
 }
 
 // What the arguments may be, for whoever reads the standard error.
-const USAGE: &str = "usage: tablebuilder script CLASSES RECODES PTABLE PEOPLE THRESHOLD SCRIPT\n       \
+const USAGE: &str =
+    "usage: tablebuilder script CLASSES RECODES PTABLE PEOPLE THRESHOLD SCRIPT\n       \
     tablebuilder serve CLASSES RECODES PTABLE PEOPLE THRESHOLD PORT WORKERS SESSIONS";
 
 fn main(rt: HostRuntime) -> ExitCode {

@@ -6,8 +6,8 @@ ghost use Rattle.std.specs.Prelude.{◌≡◌, ◌<◌, ◌+◌, All, IfOk, vec_
 ghost use Rattle.tb_serve.specs.Stages.{IsFresh};
 ghost use Rattle.tablebuilder.specs.declared.service.TheConstants.{MOST_WORKERS};
 
-use crate::service::MOST_WORKERS;
 use crate::laws::{run_in_memory, run_surely};
+use crate::service::MOST_WORKERS;
 use std::alloc::Global;
 use std::marker::Brand;
 use std::sync::Wait;

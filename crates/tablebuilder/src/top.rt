@@ -110,7 +110,17 @@ fn serve_census<R: Threads + Wait + Sync, O: Sink, N: Listen + Send>(
 {
     let Census { setup, release } = census;
     let (port, workers, sessions) = (service.port(), service.workers(), service.sessions());
-    serve(rt, alloc, &setup, release, port, workers, sessions, out, net.as_mut_slice())
+    serve(
+        rt,
+        alloc,
+        &setup,
+        release,
+        port,
+        workers,
+        sessions,
+        out,
+        net.as_mut_slice(),
+    )
 }
 
 // Does what is asked for.

@@ -6,8 +6,8 @@ ghost use Rattle.tablebuilder.specs.declared.service.TheConstants.{MOST_WORKERS}
 
 use super::talks::{Part, Talk};
 use super::{files_of, quiet, words_of};
-use crate::service::MOST_WORKERS;
 use crate::laws::run_in_memory;
+use crate::service::MOST_WORKERS;
 use std::alloc::Global;
 use std::marker::Brand;
 use std::process::Abort;
@@ -95,10 +95,7 @@ fn got_at<'a>(net: &'a [Port<Talk<'_>>], place: usize) -> &'a [u8] {
     }
 }
 
-fn late_publication(
-    rt: &(impl Threads + Wait + Abort + Sync),
-    alloc: Global,
-) -> Result<(), Fail> {
+fn late_publication(rt: &(impl Threads + Wait + Abort + Sync), alloc: Global) -> Result<(), Fail> {
     let own = AtomicU32::new(0);
     let analyst = AtomicU32::new(0);
     let first = Talk::of(&OWN, &analyst, MemSink::new(alloc, 200)?, &own);
@@ -127,10 +124,7 @@ fn sessions_share_cubes(rt: HostRuntime) -> Result<(), Fail> {
     late_publication(&rt, rt.alloc())
 }
 
-fn crossed_sessions(
-    rt: &(impl Threads + Wait + Abort + Sync),
-    alloc: Global,
-) -> Result<(), Fail> {
+fn crossed_sessions(rt: &(impl Threads + Wait + Abort + Sync), alloc: Global) -> Result<(), Fail> {
     let one = AtomicU32::new(0);
     let other = AtomicU32::new(0);
     let first = Talk::of(&CROSSED, &other, MemSink::new(alloc, 200)?, &one);
@@ -158,11 +152,7 @@ fn sessions_run_at_the_same_time(rt: HostRuntime) -> Result<(), Fail> {
 }
 
 // A listener in memory with one session to come, a query, whose bind or first accept may fail.
-fn asked_once(
-    alloc: Global,
-    bind_fails: bool,
-    fails: &[u32],
-) -> Result<Port<MemListen>, Memory>
+fn asked_once(alloc: Global, bind_fails: bool, fails: &[u32]) -> Result<Port<MemListen>, Memory>
     ensures { IfOk result IsFresh }
 {
     let source = MemSource::new(alloc, b"table SEX\n", 10, &[])?;
@@ -218,7 +208,15 @@ fn listeners_that_fail(rt: HostRuntime) -> Result<(), Fail> {
     let alloc = rt.alloc();
     let served = b"worker 0 sessions 0\nworker 1 sessions 1\nrelease 0\n".as_slice();
     one_listener(&rt, alloc, false, &[], Status::Done, served, (0, 1))?;
-    one_listener(&rt, alloc, true, &[], Status::NetFault, b"fault net\n", (1, 0))?;
+    one_listener(
+        &rt,
+        alloc,
+        true,
+        &[],
+        Status::NetFault,
+        b"fault net\n",
+        (1, 0),
+    )?;
     let failed = b"worker 0 sessions 0\nworker 1 sessions 0\nrelease 0\nfault net\n".as_slice();
     one_listener(&rt, alloc, false, &[1], Status::NetFault, failed, (1, 0))
 }

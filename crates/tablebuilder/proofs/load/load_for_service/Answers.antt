@@ -1,4 +1,4 @@
-use Rattle.std.proofs.Common.{ap, sym, Ok, Err}
+use Rattle.std.proofs.Common.{ap, sym, Ok}
 use Rattle.std.proofs.lemmas.Result.{err_from_is_err_and}
 use Rattle.tablebuilder.specs.declared.load.Asked.TheVariants as asked
 use Rattle.tablebuilder.specs.Asking.{CensusValue, Serve, census_in}

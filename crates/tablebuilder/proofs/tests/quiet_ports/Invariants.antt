@@ -4,5 +4,6 @@ use Rattle.tablebuilder.proofs.tests.quiet_ports.Given as goal
 
 abbrev pub invariant-loop : goal.invariant-loop
 invariant-loop l = record {
+  count : vec_len l.net ≡ l.counter;
   fresh : All IsFresh l.net.items;
 }
