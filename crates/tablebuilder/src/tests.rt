@@ -23,8 +23,6 @@ mod large;
 mod memory;
 mod runs;
 mod scripts;
-mod serving;
-mod talks;
 
 const WITHOUT_RECODES: &str = "script classes - ptable people 0 script";
 

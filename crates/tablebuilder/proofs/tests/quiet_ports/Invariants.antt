@@ -2,6 +2,7 @@ use Rattle.std.proofs.Common.{◌≡◌, All, vec_len}
 use Rattle.tb_serve.specs.Stages.{IsFresh}
 use Rattle.tablebuilder.proofs.tests.quiet_ports.Given as goal
 
+-- as many ports as turns of the loop, all fresh
 abbrev pub invariant-loop : goal.invariant-loop
 invariant-loop l = record {
   count : vec_len l.net ≡ l.counter;

@@ -1,9 +1,0 @@
-use Rattle.std.proofs.Common.{◌≡◌, ◌+◌, All, vec_len}
-use Rattle.tb_serve.specs.Stages.{IsFresh}
-use Rattle.tablebuilder.proofs.tests.serving.ports_of.Given as goal
-
-abbrev pub invariant-loop : goal.invariant-loop
-invariant-loop l = record {
-  count : vec_len l.net ≡ 3 + l.counter;
-  fresh : All IsFresh l.net.items;
-}
