@@ -18,9 +18,9 @@ demo: build
 
 # The server over the files of examples/small: two workers, 1,000 sessions at each port.
 serve: build
-	@echo "ask for a table:      printf 'table SEX\\n' | nc -N 127.0.0.1 4001"
-	@echo "revise, as custodian: printf 'drop 104\\npublish\\n' | nc -N 127.0.0.1 4000"
-	@echo "stop the server:      Ctrl-C"
+	@printf '%s\n' "ask for a table:      printf 'table SEX\n' | nc -N 127.0.0.1 4001" \
+		"revise, as custodian: printf 'drop 104\npublish\n' | nc -N 127.0.0.1 4000" \
+		"stop the server:      Ctrl-C"
 	cd examples/small && ../../crates/tablebuilder/out/tablebuilder serve classes.csv recodes.csv ptable.csv people.csv 0 4000 2 1000
 
 # Runs every example of the guide with the built program and compares what it prints; and compares
