@@ -15,11 +15,12 @@ use tb_base::{Memory, Status};
 use tb_io::{Listen, MemSink};
 use tb_serve::{Port, serve};
 
-// Serves one session at each port at most, and returns how the call ended and what it wrote.
-fn serve_over<N: Listen + Send>(
+/// Serves up to so many sessions at each port, and returns how the call ended and what it wrote.
+pub fn serve_over<N: Listen + Send>(
     rt: &(impl Threads + Wait + Sync),
     alloc: Global,
     workers: u32,
+    sessions: u32,
     net: &mut Vec<Port<N>>,
 ) -> Result<(Status, MemSink), Memory>
     requires few { workers < 10 }
@@ -30,7 +31,9 @@ fn serve_over<N: Listen + Send>(
     let base = first(alloc, &setup)?;
     let mut out = MemSink::new(alloc, 200)?;
     let ports = net.as_mut_slice();
-    let status = serve(rt, alloc, &setup, base, 5000, workers, 1, &mut out, ports);
+    let status = serve(
+        rt, alloc, &setup, base, 5000, workers, sessions, &mut out, ports,
+    );
     Ok((status, out))
 }
 
@@ -156,7 +159,7 @@ fn crossed_ports(alloc: Global) -> Result<Vec<Port<Talk>>, Memory>
 
 fn late_publication(rt: &(impl Threads + Wait + Abort + Sync), alloc: Global) -> Result<(), Fail> {
     let mut net = late_ports(alloc)?;
-    let (status, out) = serve_over(rt, alloc, 1, &mut net)?;
+    let (status, out) = serve_over(rt, alloc, 1, 1, &mut net)?;
     assert_eq!(rt; status, Status::Done);
     let own = b"held 1\npublished 1\nstats release 1 looks 2 hits 1 entries 1 capacity 64\n";
     assert!(rt; has_got(&net, 0, own));
@@ -174,7 +177,7 @@ fn sessions_share_cubes(rt: HostRuntime) -> Result<(), Fail> {
 
 fn crossed_sessions(rt: &(impl Threads + Wait + Abort + Sync), alloc: Global) -> Result<(), Fail> {
     let mut net = crossed_ports(alloc)?;
-    let (status, out) = serve_over(rt, alloc, 2, &mut net)?;
+    let (status, out) = serve_over(rt, alloc, 2, 1, &mut net)?;
     assert_eq!(rt; status, Status::Done);
     let twice = b"release 0\nSEX,count\n1,1\n2,2\n.\nrelease 0\nSEX,count\n1,1\n2,2\n.\n";
     assert!(rt; has_got(&net, 1, twice));

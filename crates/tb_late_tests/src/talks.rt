@@ -2,9 +2,8 @@
 // source whose parts come when another client has got so many replies, and a sink that counts its
 // replies.
 
-ghost use Rattle.std.specs.Prelude.{◌≡◌, ◌<◌, ◌≤◌, None, Some, false, true, option_map, length};
+ghost use Rattle.std.specs.Prelude.{◌≡◌, ◌≤◌, None, Some, false, true, option_map, length};
 ghost use Rattle.tb_io.specs.Listeners.{telling_none};
-ghost use Rattle.tb_io.specs.Sources.{Reads};
 
 use std::sync::Arc;
 use std::sync::atomic::{AtomicU32, Ordering};
@@ -62,15 +61,16 @@ fn copy_front(from: &[u8], buf: &mut [u8])
     buf[..n].copy_from_slice(from);
 }
 
-// Copies bytes to the front of a buffer, where there are bytes and room for all of them.
-fn give(from: &[u8], buf: &mut [u8]) -> Read
-    ensures { Reads result None None buf.new }
+// Copies bytes to the front of a buffer, where there is room for all of them, and returns how many it
+// copied.
+fn give(from: &[u8], buf: &mut [u8]) -> usize
+    ensures { result ≤ length buf.new }
 {
-    if from.is_empty() || buf.len() < from.len() {
-        return Read::End;
+    if buf.len() < from.len() {
+        return 0;
     }
     copy_front(from, buf);
-    Read::Got(from.len())
+    from.len()
 }
 
 impl Source for Client {
@@ -85,7 +85,10 @@ impl Source for Client {
         if !waits_for(&self.other, part.after) {
             return Read::End;
         }
-        give(&part.bytes, buf)
+        match give(&part.bytes, buf) {
+            0 => Read::End,
+            n => Read::Got(n),
+        }
     }
 }
 
