@@ -19,8 +19,8 @@ pub struct Part {
     pub bytes: Vec<u8>,
 }
 
-/// A client's side of a session. Its parts come in order, the last of them first; a part whose wait
-/// runs out of looks is an end.
+/// A client's side of a session, which sends its parts from the last to the first. A wait that runs
+/// out of looks is read as the end.
 #[derive(Drop)]
 pub struct Client {
     parts: Vec<Part>,
@@ -61,8 +61,8 @@ fn copy_front(from: &[u8], buf: &mut [u8])
     buf[..n].copy_from_slice(from);
 }
 
-// Copies bytes to the front of a buffer, where there is room for all of them, and returns how many it
-// copied.
+// Copies bytes to the front of a buffer, where there is room for all of them, and returns how many
+// it copied.
 fn give(from: &[u8], buf: &mut [u8]) -> usize
     ensures { result ≤ length buf.new }
 {
@@ -118,7 +118,7 @@ impl Talk {
         }
     }
 
-    /// A listener with a session of these parts, the last of them first, each of which waits for
+    /// A listener with a session of these parts, sent from the last to the first, which wait for
     /// the replies that the other client got. Its own are counted too.
     pub fn of(
         parts: Vec<Part>,
