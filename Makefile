@@ -16,7 +16,7 @@ test:
 whole = '$(if $(filter - /%,$(1)),$(1),$(CURDIR)/$(1))'
 
 # A first look: the tables of SCRIPT, by a run that checks as it goes and proves nothing. It takes
-# some two minutes of one processor, nearly all of them to build the program.
+# some two and a half minutes of processor time, nearly all of them to build the program.
 try:
 	cd crates/tablebuilder && rt try --seconds 600 -- script $(call whole,$(CLASSES)) \
 		$(call whole,$(RECODES)) $(call whole,$(PTABLE)) $(call whole,$(PEOPLE)) \
