@@ -25,6 +25,8 @@ from serve import Server, killed_at_last
 
 FILES = ("classes.csv", "recodes.csv", "ptable.csv", "people.csv")
 SESSIONS = 1_000
+# A client's tests take seconds.
+PATIENCE = 300
 R_MISSING = "apt-get install -y --no-install-recommends r-base-core"
 CLIENTS = {
     "python": ([sys.executable, "-B", f"{HERE}/python/test_tablebuilder.py"], ""),
@@ -73,7 +75,7 @@ def prepared_port():
 
 
 def status_of(words, program, folder):
-    """The status of a client's tests."""
+    """The status of a client's tests, or what is said where they don't end."""
     with contextlib.ExitStack() as stack:
         files = [os.path.join(folder, name) for name in FILES]
 
@@ -91,7 +93,10 @@ def status_of(words, program, folder):
         leaving = server("LEAVING", "0", 1)
         environment["TABLEBUILDER_LEAVING_PROCESS"] = str(leaving.process.pid)
         environment["TABLEBUILDER_PREPARED_PORT"] = str(stack.enter_context(prepared_port()))
-        return subprocess.run(words, env=environment, check=False).returncode
+        try:
+            return subprocess.run(words, env=environment, timeout=PATIENCE, check=False).returncode
+        except subprocess.TimeoutExpired:
+            return f"none after {PATIENCE} seconds"
 
 
 def main():

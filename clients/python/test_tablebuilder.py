@@ -196,13 +196,18 @@ class Custodians(unittest.TestCase):
 
     def test_two_clients_beside_publications(self):
         """SEX 2 has person 104 alone, who leaves in one release and is back in the next."""
-        is_done, seen, faults = threading.Event(), [[], []], []
+        have_begun, is_done = threading.Barrier(3, timeout=60), threading.Event()
+        seen, faults = [[], []], []
 
         def ask(worker):
+            tables = seen[worker - 1]
             try:
                 with analyst(worker=worker) as session:
+                    tables.append(session.table("SEX"))
+                    have_begun.wait()
                     while not is_done.is_set():
-                        seen[worker - 1].append(session.table("SEX"))
+                        tables.append(session.table("SEX"))
+                    tables.append(session.table("SEX"))
             except BaseException as fault:
                 faults.append(fault)
 
@@ -211,19 +216,22 @@ class Custodians(unittest.TestCase):
             threads = [threading.Thread(target=ask, args=(worker,)) for worker in (1, 2)]
             for thread in threads:
                 thread.start()
-            for release in range(first + 1, first + 51, 2):
-                session.drop(104)
-                self.assertEqual(session.publish(), release)
-                session.add(104, 7, SEX="2", AGE="16-64", AREA="E2")
-                self.assertEqual(session.publish(), release + 1)
-            is_done.set()
-            for thread in threads:
-                thread.join()
+            try:
+                have_begun.wait()
+                for release in range(first + 1, first + 51, 2):
+                    session.drop(104)
+                    self.assertEqual(session.publish(), release)
+                    session.add(104, 7, SEX="2", AGE="16-64", AREA="E2")
+                    self.assertEqual(session.publish(), release + 1)
+            finally:
+                is_done.set()
+                for thread in threads:
+                    thread.join()
         self.assertEqual(faults, [])
         for tables in seen:
             releases = [table.release for table in tables]
             self.assertEqual(releases, sorted(releases))
-            self.assertGreater(len(set(releases)), 1)
+            self.assertEqual((releases[0], releases[-1]), (first, first + 50))
             for table in tables:
                 here = (table.release - first) % 2 == 0
                 self.assertEqual(table.counts, [1, 2 if here else 0])

@@ -110,6 +110,7 @@ tests <- list(
     # `table SEX` and blanks, up to 4,096 bytes and one more.
     expect(tb_table(session, paste0("SEX", strrep(" ", 4087)))$count, 1:2)
     expect_refused(tb_table(session, paste0("SEX", strrep(" ", 4088))), 9, "TooLong")
+    expect(is.null(session$connection), TRUE)
     fault_of("tb_ended", tb_table(session, "SEX"))
   },
   refused_edits = function() {
@@ -198,11 +199,13 @@ tests <- list(
       tb_close(session)
       as.vector(released)
     }
+    begun <- tempfile(c("first", "second"))
     ask <- function(worker) {
       session <- analyst(worker = worker)
       tables <- list()
       repeat {
         table <- tb_table(session, "SEX")
+        if (length(tables) == 0) file.create(begun[worker])
         tables[[length(tables) + 1]] <- table
         if (attr(table, "release") == first + 50) break
       }
@@ -210,13 +213,12 @@ tests <- list(
       tables
     }
     asking <- lapply(1:2, function(worker) parallel::mcparallel(ask(worker)))
-    # Both have had a first table before anything is published.
-    Sys.sleep(1)
+    for (second in 1:60) if (all(file.exists(begun))) break else Sys.sleep(1)
     expect(publish(), first + 1:50)
     for (tables in parallel::mccollect(asking)) {
       releases <- vapply(tables, attr, 0, "release")
       expect(is.unsorted(releases), FALSE)
-      expect(length(unique(releases)) > 1, TRUE)
+      expect(range(releases), first + c(0, 50))
       for (table in tables) {
         here <- (attr(table, "release") - first) %% 2 == 0
         expect(table$count, if (here) 1:2 else c(1L, 0L))
