@@ -120,6 +120,8 @@ tests <- list(
     expect_refused(tb_amend(session, 101, AGE2 = "old"), 3, "UnknownName")
     expect_refused(tb_drop(session, 4294967296), 2, "BadNumber")
     expect_refused(tb_amend(session, 101), 1, "Syntax")
+    # As R prints numbers this is 1e+05.
+    expect(tb_drop(session, 100000), 1)
     tb_close(session)
   },
   refused_batches = function() {
