@@ -18,6 +18,9 @@ whole = '$(if $(filter - /%,$(1)),$(1),$(CURDIR)/$(1))'
 # A first look: the tables of SCRIPT, by a run that checks as it goes and proves nothing. It takes
 # some two and a half minutes of processor time, nearly all of them to build the program.
 try:
+	@for file in $(foreach name,CLASSES RECODES PTABLE PEOPLE SCRIPT,$(call whole,$($(name)))); do \
+		test "$$file" = - || test -r "$$file" || { echo "$$file can't be read"; exit 1; }; \
+	done
 	cd crates/tablebuilder && rt try --seconds 600 -- script $(call whole,$(CLASSES)) \
 		$(call whole,$(RECODES)) $(call whole,$(PTABLE)) $(call whole,$(PEOPLE)) \
 		'$(THRESHOLD)' $(call whole,$(SCRIPT))
