@@ -1,12 +1,33 @@
-.PHONY: test try build demo serve guide bench bench-serve bench-tools
+.PHONY: test try try-guide build demo serve guide clients bench bench-serve bench-tools
+
+# What `make try` runs over: names of files, RECODES or `-` for none, and the threshold.
+CLASSES = examples/small/classes.csv
+RECODES = examples/small/recodes.csv
+PTABLE = examples/small/ptable.csv
+PEOPLE = examples/small/people.csv
+THRESHOLD = 0
+SCRIPT = examples/small/script.txt
 
 # The whole gate: every proof, the wrong bodies that must be refused, the tests and the program.
 test:
 	.ci/run
 
-# A first look: the first tables within some minutes, by a run that checks as it goes and proves nothing.
+# A file's whole name, between quotes.
+whole = '$(if $(filter - /%,$(1)),$(1),$(CURDIR)/$(1))'
+
+# A first look: the tables of SCRIPT, by a run that checks as it goes and proves nothing. It takes
+# some two and a half minutes of processor time, nearly all of them to build the program.
 try:
-	cd crates/tablebuilder && rt try -- script data/classes.csv data/recodes.csv data/ptable.csv data/people.csv 0 data/script.txt
+	@for file in $(foreach name,CLASSES RECODES PTABLE PEOPLE SCRIPT,$(call whole,$($(name)))); do \
+		test "$$file" = - || test -r "$$file" || { echo "$$file can't be read"; exit 1; }; \
+	done
+	cd crates/tablebuilder && rt try --seconds 600 -- script $(call whole,$(CLASSES)) \
+		$(call whole,$(RECODES)) $(call whole,$(PTABLE)) $(call whole,$(PEOPLE)) \
+		'$(THRESHOLD)' $(call whole,$(SCRIPT))
+
+# Every example of the guide by such a run.
+try-guide:
+	python3 docs/guide.py try docs/GUIDE.md examples/small crates/tablebuilder/data
 
 # Proves what the program stands on and builds it, as crates/tablebuilder/out/tablebuilder.
 build:
@@ -23,10 +44,14 @@ serve: build
 		"stop the server:      Ctrl-C"
 	cd examples/small && ../../crates/tablebuilder/out/tablebuilder serve classes.csv recodes.csv ptable.csv people.csv 0 4000 2 1000
 
-# Runs every example of the guide with the built program and compares what it prints; and compares
-# examples/small with the program's own files.
+# Every example of the guide by the built program, compared with what the page has; and the program's
+# own files compared with those of examples/small.
 guide: build
 	python3 docs/guide.py crates/tablebuilder/out/tablebuilder docs/GUIDE.md examples/small crates/tablebuilder/data
+
+# The tests of each client against servers over examples/small, at free ports.
+clients: build
+	python3 clients/run.py crates/tablebuilder/out/tablebuilder examples/small
 
 # The program beside a plain one over generated persons: medians, spreads, peak memory and ratios.
 bench: bench-tools build

@@ -2,7 +2,9 @@
 
 Usage: guide.py PROGRAM GUIDE FOLDER [SAME]
 
-SAME is a folder that must hold the same files.
+PROGRAM is the program's file; or `try`, for the one that `rt try` builds from crates/tablebuilder
+and of which nothing is proved. FOLDER has the small files; each file of SAME must be one of them.
+An example that names a file has the lines of that file of FOLDER.
 """
 
 import filecmp
@@ -11,38 +13,89 @@ import re
 import subprocess
 import sys
 import tempfile
+import typing
 
-EXAMPLE = re.compile(r"^```script(?: threshold=(\d+))?\n(.*?)^```\n```output\n(.*?)^```$", re.S | re.M)
+CRATE = os.path.join(os.path.dirname(os.path.abspath(__file__)), "../crates/tablebuilder")
+FILES = ("classes.csv", "recodes.csv", "ptable.csv", "people.csv")
+EXAMPLE = re.compile(
+    r"^```script(?: threshold=(?P<threshold>\d+))?(?: file=(?P<file>\S+))?\n"
+    r"(?P<script>.*?)^```\n```output\n(?P<output>.*?)^```$",
+    re.S | re.M,
+)
 
 
-def run(program, folder, threshold, script):
-    """What the program prints for a script, and its status."""
-    with tempfile.NamedTemporaryFile(suffix=".txt") as file:
-        file.write(script.encode())
-        file.flush()
-        names = [os.path.join(folder, name) for name in ("classes.csv", "recodes.csv", "ptable.csv", "people.csv")]
-        done = subprocess.run([program, "script", *names, threshold, file.name], capture_output=True)
-    return done.stdout.decode(), done.returncode
+class Example(typing.NamedTuple):
+    threshold: str
+    file: typing.Optional[str]
+    script: str
+    output: str
+
+
+def examples_of(guide):
+    with open(guide, encoding="utf-8") as file:
+        found = EXAMPLE.finditer(file.read())
+    return [Example(it["threshold"] or "0", *it.group("file", "script", "output")) for it in found]
+
+
+def write(folder, name, text):
+    path = os.path.join(folder, name)
+    with open(path, "w", encoding="utf-8") as file:
+        file.write(text)
+    return path
+
+
+def wrong_by_program(program, inputs, examples):
+    """How many examples the program doesn't print so."""
+    wrong = 0
+    with tempfile.TemporaryDirectory() as folder:
+        for example in examples:
+            script = write(folder, "script.txt", example.script)
+            words = [program, "script", *inputs, example.threshold, script]
+            done = subprocess.run(words, capture_output=True, check=False)
+            if done.stdout.decode() != example.output or done.returncode != 0:
+                wrong += 1
+                print(f"differs (status {done.returncode}):\n{example.script}printed:")
+                print(f"{done.stdout.decode()}the page has:\n{example.output}")
+    return wrong
+
+
+def wrong_by_try(inputs, examples):
+    """How many examples the program of `rt try` doesn't print so; it says which."""
+    with tempfile.TemporaryDirectory() as folder:
+        for number, example in enumerate(examples):
+            write(folder, f"{number:02}", example.script)
+            write(folder, f"{number:02}.args", f"{example.threshold}\n{{}}\n")
+            write(folder, f"{number:02}.stdout", example.output)
+        words = ["rt", "try", "--cases", folder, "--", "script", *inputs]
+        return 1 if subprocess.run(words, cwd=CRATE, check=False).returncode else 0
+
+
+def unlike_files(folder, examples, same):
+    """The files of `same` that aren't those of the folder, and examples that aren't their file's."""
+    for other in same:
+        for name in sorted(os.listdir(other)):
+            if name not in filecmp.cmpfiles(folder, other, [name], False)[0]:
+                yield f"{name} of {folder} and {other}"
+    for example in examples:
+        if example.file is not None:
+            with open(os.path.join(folder, example.file), encoding="utf-8") as file:
+                if file.read() != example.script:
+                    yield f"{example.file} and the page"
 
 
 def main():
     program, guide, folder, *same = sys.argv[1:]
-    with open(guide, encoding="utf-8") as file:
-        examples = EXAMPLE.findall(file.read())
-    wrong = 0
-    for other in same:
-        names = sorted({*os.listdir(folder), *os.listdir(other)})
-        unlike = [name for name in names if name not in filecmp.cmpfiles(folder, other, names, False)[0]]
-        if unlike:
-            wrong += 1
-            print(f"{folder} and {other} differ in {', '.join(unlike)}")
-    for threshold, script, want in examples:
-        printed, status = run(program, folder, threshold or "0", script)
-        if printed != want or status != 0:
-            wrong += 1
-            print(f"differs (status {status}):\n{script}printed:\n{printed}the page has:\n{want}")
+    examples = examples_of(guide)
+    unlike = list(unlike_files(folder, examples, same))
+    for what in unlike:
+        print(f"differ: {what}")
+    inputs = [os.path.abspath(os.path.join(folder, name)) for name in FILES]
+    if program == "try":
+        wrong = wrong_by_try(inputs, examples)
+    else:
+        wrong = wrong_by_program(program, inputs, examples)
     print(f"{len(examples)} examples, {wrong} differ")
-    return 1 if wrong or not examples else 0
+    return 1 if wrong or unlike or not examples else 0
 
 
 if __name__ == "__main__":

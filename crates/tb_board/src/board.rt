@@ -27,7 +27,8 @@ use tb_release::{EditFault, Edits};
 
 /// A desk behind a lock, beside the front of its chain, for any number of threads. Each call that
 /// takes `rt` waits for the lock and is one turn of it; the others take no lock. A pass and a
-/// custodian belong to one board.
+/// custodian belong to one board. What becomes of the desk is told by the turns of `Locked`, and by
+/// no clause of these calls.
 #[derive(Drop)]
 pub struct Board<B: Named> {
     front: Front<Step>,
@@ -63,8 +64,7 @@ impl<B: Named> Board<B> {
     }
 
     /// Takes the current release, and for a set the cube of it that is kept, if there is one, with
-    /// the batches that are missing in it. The pass sees the chain of this turn. It takes memory;
-    /// where that is refused, the desk is as before.
+    /// the batches that are missing in it. The pass sees the chain of this turn. It takes memory.
     pub fn take(
         &self,
         rt: &impl Wait,
@@ -94,8 +94,8 @@ impl<B: Named> Board<B> {
     }
 
     /// Publishes the batch of some edits, and returns the number of the release to which it leads.
-    /// The refusals are those of `tb_release::next` on the release of the custodian; after one, and
-    /// where the call is out of memory, all is as before. The next release is made before the turn.
+    /// The refusals are those of `tb_release::next` on the release of the custodian, who is as before
+    /// after one, and where the call is out of memory. The next release is made before the turn.
     pub fn publish(
         &self,
         rt: &impl Wait,
@@ -122,8 +122,8 @@ impl<B: Named> Board<B> {
         Ok(guard.publish(&self.front, custodian, publication)?)
     }
 
-    /// The numbers of the desk in this turn: its release is how many batches the custodian's pass
-    /// has seen.
+    /// The numbers of the desk in this turn. Its release is how many batches the custodian's pass has
+    /// seen; of the others the clause has their bounds alone.
     pub fn stats(&self, rt: &impl Wait, custodian: &mut Custodian) -> Stats
         requires name { custodian.old.writer.name ≡ B.name }
         requires whole { IsWhole custodian.old }
@@ -140,8 +140,7 @@ impl<B: Named> Board<B> {
         guard.clear();
     }
 
-    /// Lets at most so many cubes be kept, from 1 to `MOST_ENTRIES`. It takes memory; where that is
-    /// refused, the number is as before.
+    /// Lets at most so many cubes be kept, from 1 to `MOST_ENTRIES`. It takes memory.
     pub fn resize(&self, rt: &impl Wait, capacity: u32) -> Result<(), Memory>
         requires some { 0 < capacity }
         requires few { capacity ≤ MOST_ENTRIES }

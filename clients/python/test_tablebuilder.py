@@ -1,0 +1,278 @@
+"""Tests of `tablebuilder.py` against the servers that `clients/run.py` starts.
+
+The wanted tables are counted by hand from the four persons of `examples/small`.
+"""
+import os
+import signal
+import threading
+import unittest
+
+import tablebuilder
+from tablebuilder import Ended, OutOfMemory, Refused, Stats, Unexpected
+
+try:
+    import pandas
+except ImportError:
+    pandas = None
+
+
+def port_of(server):
+    return int(os.environ[f"TABLEBUILDER_{server}_PORT"])
+
+
+def analyst(server="TWO_WORKERS", worker=1):
+    return tablebuilder.connect(port_of(server) + worker, timeout=60)
+
+
+def custodian(server="TWO_WORKERS"):
+    return tablebuilder.connect(port_of(server), timeout=60)
+
+
+def prepared(timeout=60):
+    return tablebuilder.connect(port_of("PREPARED"), timeout=timeout)
+
+
+class Tables(unittest.TestCase):
+    def assertTable(self, table, dimensions, rows):
+        self.assertEqual(table.dimensions, dimensions)
+        self.assertEqual(list(table), rows)
+        self.assertEqual(len(table), len(rows))
+
+    def test_one_variable(self):
+        with analyst() as session:
+            table = session.table("SEX")
+        self.assertTable(table, ("SEX",), [("1", 1), ("2", 2)])
+        self.assertEqual(table.codes, (["1", "2"],))
+        self.assertEqual(table.counts, [1, 2])
+        self.assertIs(type(table.release), int)
+
+    def test_the_count_is_none_where_it_is_below_the_threshold(self):
+        with analyst("THRESHOLD") as session:
+            table = session.table("SEX")
+        self.assertTable(table, ("SEX",), [("1", None), ("2", 2)])
+        self.assertEqual(table.release, 0)
+
+    def test_totals_and_labels(self):
+        rows = [
+            ("North, rural", "Male", 2),
+            ("North, rural", "Female", 0),
+            ("North, rural", "Total", 2),
+            ("South", "Male", 1),
+            ("South", "Female", 2),
+            ("South", "Total", 1),
+            ("Total", "Male", 1),
+            ("Total", "Female", 2),
+            ("Total", "Total", 6),
+        ]
+        with analyst() as session:
+            table = session.table("AREA by SEX", totals=True, labels=True)
+            whole = session.table("table AREA by SEX with totals with labels")
+        self.assertTable(table, ("AREA", "SEX"), rows)
+        self.assertEqual(whole, table)
+
+    def test_filters(self):
+        with analyst() as session:
+            table = session.table("AREA", where="AGE2 in (old)", totals=True)
+            self.assertTable(table, ("AREA",), [("E1", 1), ("E2", 1), ("Total", 6)])
+            table = session.table("SEX", where="AGE not in (0-15)", totals=True)
+            self.assertTable(table, ("SEX",), [("1", 2), ("2", 2), ("Total", 6)])
+
+    def test_labels_with_quotes_and_other_letters(self):
+        with prepared() as session:
+            table = session.table("AREA", labels=True)
+        self.assertTable(table, ("AREA",), [('Nord, "Ö" 1', 3), ("Süd", None), ("", 1_000_000)])
+        self.assertEqual(table.release, 12)
+
+    @unittest.skipUnless(pandas, "pandas isn't there")
+    def test_frame(self):
+        with analyst("THRESHOLD") as session:
+            frame = session.table("SEX").frame()
+        self.assertEqual(list(frame.columns), ["SEX", "count"])
+        self.assertEqual(list(frame["SEX"]), ["1", "2"])
+        self.assertEqual(str(frame["count"].dtype), "Int64")
+        self.assertEqual([bool(it) for it in frame["count"].isna()], [True, False])
+        self.assertEqual(frame["count"].sum(), 2)
+        self.assertEqual(frame.attrs["release"], 0)
+
+
+class Refusals(unittest.TestCase):
+    def assertRefused(self, call, number, word, position=None, edit=None):
+        with self.assertRaises(Refused) as caught:
+            call()
+        fault = caught.exception
+        told = (fault.number, fault.word, fault.position, fault.edit)
+        self.assertEqual(told, (number, word, position, edit))
+
+    def test_queries(self):
+        filters = " and ".join(["SEX in (1)"] * 17)
+        with analyst() as session:
+            for query, *fault in [
+                ("AGE by AGE", 5, "RepeatedDimension", 4),
+                ("AGE by", 2, "Syntax", 4),
+                ("AGE by FOO where SEX in (9)", 3, "UnknownName", 4),
+                ("AGE where SEX in (9)", 4, "UnknownCode", 7),
+                ("AGE;", 2, "Syntax", 3),
+                ("Ä", 1, "NotText", 7),
+                (f"AGE where {filters}", 7, "TooManyFilters"),
+                ("", 2, "Syntax", 2),
+            ]:
+                with self.subTest(query):
+                    self.assertRefused(lambda: session.table(query), *fault)
+            self.assertEqual(session.table("SEX").counts, [1, 2])
+
+    def test_a_line_that_is_too_long_ends_the_session(self):
+        with analyst() as session:
+            # `table SEX` and blanks, up to 4,096 bytes and one more.
+            self.assertEqual(session.table("SEX" + " " * 4087).counts, [1, 2])
+            self.assertRefused(lambda: session.table("SEX" + " " * 4088), 9, "TooLong")
+            self.assertFalse(session.is_open)
+            with self.assertRaises(Ended):
+                session.table("SEX")
+
+    def test_edits(self):
+        with custodian() as session:
+            for call, *fault in [
+                (lambda: session.add(300, 1, SEX="1"), 6, "Missing"),
+                (lambda: session.amend(101, AGE="7"), 4, "UnknownCode"),
+                (lambda: session.amend(101, AGE2="old"), 3, "UnknownName"),
+                (lambda: session.drop(4294967296), 2, "BadNumber"),
+                (lambda: session.amend(101), 1, "Syntax"),
+            ]:
+                self.assertRefused(call, *fault)
+
+    def test_batches(self):
+        with custodian() as session:
+            release = session.stats().release
+            self.assertEqual([session.drop(101), session.drop(102), session.drop(999)], [1, 2, 3])
+            self.assertRefused(session.publish, 2, "NoSuchPerson", edit=3)
+            self.assertRefused(session.publish, 5, "Nothing", edit=0)
+            self.assertEqual(session.stats().release, release)
+
+    def test_the_custodians_lines_are_none_of_an_analysts(self):
+        with analyst() as session:
+            for call in (session.publish, session.stats, session.clear):
+                self.assertRefused(call, 2, "Syntax", 1)
+
+    def test_what_is_no_single_line(self):
+        with analyst() as session:
+            for call in (
+                lambda: session.table("SEX\ntable AGE"),
+                lambda: session.amend(101, SEX="1\npublish"),
+                lambda: session.table("table SEX", where="SEX in (1)"),
+                lambda: session.table("table SEX", totals=True),
+            ):
+                self.assertRaises(ValueError, call)
+            self.assertEqual(session.table("SEX").counts, [1, 2])
+
+
+class Custodians(unittest.TestCase):
+    def test_a_batch_and_a_returning_person(self):
+        with custodian() as session, analyst() as other:
+            release = session.stats().release
+            self.assertEqual(session.add(200, 9, SEX="1", AGE="65+", AREA="E1"), 1)
+            self.assertEqual(session.amend(200, AGE="0-15"), 2)
+            self.assertEqual(session.drop(200), 3)
+            self.assertEqual(session.publish(), release + 1)
+            table = other.table("SEX")
+            self.assertEqual((table.release, table.counts), (release + 1, [1, 2]))
+            session.add(200, 10, SEX="1", AGE="65+", AREA="E1")
+            with self.assertRaises(Refused) as caught:
+                session.publish()
+            self.assertEqual((caught.exception.word, caught.exception.edit), ("KeyChanged", 1))
+
+    def test_kept_cubes(self):
+        with custodian("NEW") as session, analyst("NEW") as other:
+            session.cache(1)
+            self.assertEqual(other.table("SEX").counts, [1, 2])
+            self.assertEqual(other.table("AREA").counts, [2, 1])
+            self.assertEqual(other.table("AREA").counts, [2, 1])
+            session.drop(104)
+            self.assertEqual(session.publish(), 1)
+            self.assertEqual(other.table("AREA").counts, [2, 1])
+            self.assertEqual(other.table("SEX").counts, [1, 0])
+            self.assertEqual(session.stats(), Stats(1, 5, 2, 1, 1))
+            session.clear()
+            self.assertEqual(session.stats(), Stats(1, 5, 2, 0, 1))
+
+    def test_two_clients_beside_publications(self):
+        """SEX 2 has person 104 alone, who leaves in one release and is back in the next."""
+        have_begun, is_done = threading.Barrier(3, timeout=60), threading.Event()
+        seen, faults = [[], []], []
+
+        def ask(worker):
+            tables = seen[worker - 1]
+            try:
+                with analyst(worker=worker) as session:
+                    tables.append(session.table("SEX"))
+                    have_begun.wait()
+                    while not is_done.is_set():
+                        tables.append(session.table("SEX"))
+                    tables.append(session.table("SEX"))
+            except BaseException as fault:
+                faults.append(fault)
+
+        with custodian() as session:
+            first = session.stats().release
+            threads = [threading.Thread(target=ask, args=(worker,)) for worker in (1, 2)]
+            for thread in threads:
+                thread.start()
+            try:
+                have_begun.wait()
+                for release in range(first + 1, first + 51, 2):
+                    session.drop(104)
+                    self.assertEqual(session.publish(), release)
+                    session.add(104, 7, SEX="2", AGE="16-64", AREA="E2")
+                    self.assertEqual(session.publish(), release + 1)
+            finally:
+                is_done.set()
+                for thread in threads:
+                    thread.join()
+        self.assertEqual(faults, [])
+        for tables in seen:
+            releases = [table.release for table in tables]
+            self.assertEqual(releases, sorted(releases))
+            self.assertEqual((releases[0], releases[-1]), (first, first + 50))
+            for table in tables:
+                here = (table.release - first) % 2 == 0
+                self.assertEqual(table.counts, [1, 2 if here else 0])
+
+
+class Faults(unittest.TestCase):
+    def test_memory_may_be_tried_again(self):
+        with prepared() as session:
+            for call, wanted in [
+                (lambda: session.table("SEX").counts, [1, 2]),
+                (lambda: session.drop(104), 1),
+                (session.publish, 1),
+                (lambda: session.cache(8), None),
+            ]:
+                self.assertRaises(OutOfMemory, call)
+                self.assertEqual(call(), wanted)
+
+    def test_a_reply_that_is_cut(self):
+        with prepared() as session:
+            self.assertRaises(Ended, session.table, "CUT")
+            self.assertFalse(session.is_open)
+
+    def test_a_reply_of_something_else(self):
+        for query in ("OTHER", "BYTES"):
+            with prepared() as session:
+                self.assertRaises(Unexpected, session.table, query)
+                self.assertFalse(session.is_open)
+
+    def test_no_reply_in_time(self):
+        with prepared(timeout=0.2) as session:
+            self.assertRaises(Ended, session.table, "WAIT")
+            self.assertRaises(Ended, session.table, "SEX")
+
+    def test_a_server_that_goes_away(self):
+        with custodian("LEAVING") as session, analyst("LEAVING") as other:
+            self.assertEqual(other.table("SEX").counts, [1, 2])
+            os.kill(int(os.environ["TABLEBUILDER_LEAVING_PROCESS"]), signal.SIGKILL)
+            for one in (session, other):
+                self.assertRaises(Ended, one.table, "SEX")
+                self.assertFalse(one.is_open)
+
+
+if __name__ == "__main__":
+    unittest.main()

@@ -1,0 +1,235 @@
+# Asks a TableBuilder server for tables of perturbed counts, and revises its microdata.
+#
+# An analyst:
+#
+#     source("tablebuilder.R")
+#     session <- tb_connect(4001)
+#     table <- tb_table(session, "AREA by SEX", where = "AGE in (16-64)", totals = TRUE)
+#     attr(table, "release")
+#     tb_close(session)
+#
+# The custodian, at the first port of the server:
+#
+#     session <- tb_connect(4000)
+#     tb_amend(session, 104, AREA = "E1")
+#     tb_publish(session)
+#     tb_close(session)
+#
+# Every count is perturbed: it is what the server shows, and no true count. A session holds its port
+# until it is closed, and the next client waits meanwhile. This file needs base R alone.
+#
+# What goes wrong is signalled as a condition that inherits from `tb_error`:
+#
+#     tb_refused      the server refused the line, for its first fault. It has the `line`, the
+#                     fault's `number` and `word`, its `position` (of a query: the token, from 1, or
+#                     the byte for NotText; else NA) and, of tb_publish, the `edit` that can't be
+#                     made (from 1; 0 for all of them together; else NA). The session goes on.
+#     tb_memory       the server had no memory for the reply. Nothing has changed, and the same may
+#                     be tried again.
+#     tb_ended        the session has ended: it was closed, or the server went away.
+#     tb_unexpected   what came is no reply to what was asked. The session is closed.
+
+#' Open a session.
+#'
+#' @param port,host Where the server listens, or what stands in front of it.
+#' @param timeout For how many seconds to wait at each step of a reply. Where another client has the
+#'   port this is the wait for it to go.
+#' @return A session, for `tb_table` and the others. `tb_close` ends it.
+tb_connect <- function(port, host = "127.0.0.1", timeout = 86400) {
+  session <- new.env(parent = emptyenv())
+  session$connection <- tryCatch(
+    socketConnection(host, port, blocking = TRUE, open = "r+", timeout = timeout),
+    error = function(fault) tb_fail("tb_ended", conditionMessage(fault)),
+    warning = function(fault) tb_fail("tb_ended", conditionMessage(fault))
+  )
+  class(session) <- "tb_session"
+  session
+}
+
+#' End a session, so that the next client has its port. Held edits are lost.
+tb_close <- function(session) {
+  if (!is.null(session$connection)) {
+    close(session$connection)
+    session$connection <- NULL
+  }
+  invisible(NULL)
+}
+
+#' Ask for a table.
+#'
+#' @param session What `tb_connect` returned.
+#' @param query The dimensions, as "AREA by SEX"; or a whole query, which begins with "table" and
+#'   then has its filters and the rest in it.
+#' @param where The filters, as "AGE in (16-64, 65+) and SEX not in (1)".
+#' @param totals,labels Whether to add totals, and to give labels in place of a variable's codes.
+#' @return A data frame with a column of text for each dimension (a code, a group or a label, or
+#'   "Total") and the integer column `count`, which is NA where the server shows "c", since the count
+#'   is below its threshold. The attribute "release" is the release's number.
+tb_table <- function(session, query, where = NULL, totals = FALSE, labels = FALSE) {
+  line <- query
+  if (!grepl("^[ \t]*table([ \t]|$)", query)) {
+    line <- paste0(
+      "table ", query,
+      if (!is.null(where)) paste0(" where ", where),
+      if (totals) " with totals",
+      if (labels) " with labels"
+    )
+  } else if (!is.null(where) || totals || labels) {
+    stop("a whole query has its filters, totals and labels in it")
+  }
+  reply <- tb_reply(session, line)
+  last <- length(reply)
+  if (last < 4 || !grepl("^release [0-9]+$", reply[1])) tb_expect_another(session, reply)
+  table <- read.csv(
+    text = reply[2:(last - 1)], colClasses = "character", check.names = FALSE,
+    na.strings = character(0), encoding = "UTF-8"
+  )
+  counts <- table[[ncol(table)]]
+  counts[counts == "c"] <- NA
+  table[[ncol(table)]] <- as.integer(counts)
+  attr(table, "release") <- tb_numbers_in(reply[1])
+  table
+}
+
+# ---- for the custodian
+
+#' Hold an edit that adds a person, with a code of every variable, as `SEX = "1"`.
+#'
+#' @return How many edits are held now; so for tb_amend and tb_drop.
+tb_add <- function(session, person, record_key, ...) {
+  tb_hold(session, c("add", tb_digits(person), tb_digits(record_key), tb_settings(...)))
+}
+
+#' Hold an edit that gives a person other codes of some variables.
+tb_amend <- function(session, person, ...) {
+  tb_hold(session, c("amend", tb_digits(person), tb_settings(...)))
+}
+
+#' Hold an edit by which a person leaves.
+tb_drop <- function(session, person) {
+  tb_hold(session, c("drop", tb_digits(person)))
+}
+
+#' Make the held edits the next release, all or none.
+#'
+#' No edit is held after it, also where it is refused. After `tb_memory` all are still held.
+#'
+#' @return The number of the release.
+tb_publish <- function(session) {
+  tb_numbers(session, "publish", "published N")
+}
+
+#' Ask for the current release's number, and for how the kept cubes served so far.
+#'
+#' @return A named vector: release, looks, hits, entries, capacity.
+tb_stats <- function(session) {
+  numbers <- tb_numbers(session, "stats", "stats release N looks N hits N entries N capacity N")
+  names(numbers) <- c("release", "looks", "hits", "entries", "capacity")
+  numbers
+}
+
+#' Forget the kept cubes. No table changes by it.
+tb_clear <- function(session) {
+  tb_numbers(session, "clear", "cleared")
+  invisible(NULL)
+}
+
+#' Keep at most so many cubes, 1 to 256.
+tb_cache <- function(session, capacity) {
+  tb_numbers(session, paste("cache", tb_digits(capacity)), "cache N")
+  invisible(NULL)
+}
+
+# ---- a line and its reply
+
+tb_digits <- function(number) sprintf("%.0f", number)
+
+tb_settings <- function(...) {
+  codes <- list(...)
+  texts <- vapply(codes, function(it) if (is.numeric(it)) tb_digits(it) else as.character(it), "")
+  if (length(codes) > 0) paste0(names(codes), "=", texts)
+}
+
+tb_hold <- function(session, words) {
+  tb_numbers(session, paste(words, collapse = " "), "held N")
+}
+
+# The numbers of a reply of one line that reads so, with an N for each number.
+tb_numbers <- function(session, line, form) {
+  reply <- tb_reply(session, line)
+  if (gsub("[0-9]+", "N", reply[1]) != form) tb_expect_another(session, reply)
+  tb_numbers_in(reply[1])
+}
+
+tb_numbers_in <- function(line) as.numeric(regmatches(line, gregexpr("[0-9]+", line))[[1]])
+
+# The lines of the reply to a line.
+tb_reply <- function(session, line) {
+  if (grepl("\n", line, fixed = TRUE)) stop("a line feed would begin another line")
+  reply <- tb_exchange(session, line)
+  if (identical(reply, "memory")) tb_fail("tb_memory", paste("no memory for:", line), line = line)
+  if (startsWith(reply[1], "refused ")) tb_refuse(session, line, reply)
+  reply
+}
+
+# `refused K NAME`, `refused K NAME POSITION`, `refused edit K NAME` or `refused batch E K NAME`.
+tb_refuse <- function(session, line, reply) {
+  form <- "^refused (edit |batch ([0-9]+) )?([0-9]+) ([A-Za-z]+)( ([0-9]+))?$"
+  parts <- regmatches(reply, regexec(form, reply))[[1]]
+  if (length(parts) == 0) tb_expect_another(session, reply)
+  # The server ends a session after a line that is too long.
+  if (parts[5] == "TooLong") tb_close(session)
+  tb_fail(
+    "tb_refused", paste0(reply, ": ", line),
+    line = line, number = as.integer(parts[4]), word = parts[5],
+    position = as.integer(parts[7]), edit = as.integer(parts[3])
+  )
+}
+
+tb_exchange <- function(session, line) {
+  if (is.null(session$connection)) tb_fail("tb_ended", "the session is closed")
+  # Whatever interrupts the wait, no later call takes a reply that isn't its own.
+  is_whole <- FALSE
+  on.exit(if (!is_whole) tb_close(session))
+  reply <- tryCatch(
+    {
+      writeLines(enc2utf8(line), session$connection, useBytes = TRUE)
+      tb_lines(session$connection)
+    },
+    error = function(fault) tb_fail("tb_ended", conditionMessage(fault)),
+    warning = function(fault) tb_fail("tb_ended", conditionMessage(fault))
+  )
+  is_whole <- TRUE
+  reply
+}
+
+# The lines up to the end of a reply.
+tb_lines <- function(connection) {
+  reply <- tb_line(connection)
+  if (!startsWith(reply, "release ")) return(reply)
+  count <- 1
+  while (reply[count] != ".") {
+    if (count == length(reply)) length(reply) <- 2 * count
+    count <- count + 1
+    reply[count] <- tb_line(connection)
+  }
+  reply[seq_len(count)]
+}
+
+tb_line <- function(connection) {
+  line <- readLines(connection, 1, encoding = "UTF-8")
+  if (length(line) == 0) stop("the server ended the session, or was too slow")
+  line
+}
+
+tb_expect_another <- function(session, reply) {
+  tb_close(session)
+  tb_fail("tb_unexpected", paste("no reply to what was asked:", reply[1]))
+}
+
+tb_fail <- function(kind, message, ...) {
+  stop(structure(
+    class = c(kind, "tb_error", "error", "condition"),
+    list(message = message, call = NULL, ...)
+  ))
+}
