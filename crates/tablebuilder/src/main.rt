@@ -1,27 +1,14 @@
 //! TableBuilder: perturbed frequency tables of census microdata, each printed cell counted from
 //! scratch over the records and perturbed by the cell key method.
 //!
-//! The top call is `top::tablebuilder`; its contract tells, for each status, what was written
-//! (`specs/Promises`). A command is one of several, each with its inputs and a task
-//! (`specs/Commands`, and `ServicePorts` for sessions); what it asks for over its files is a function (`specs/Asking`), what is
-//! answered a relation (`specs/Outputs`, and `Services` for sessions). Of the lemmas
-//! `proofs/CommandWords` serves the reading of the arguments, `LoadSteps` that of the files, step
-//! after step, and `Finishing` the top call, of which `Serving` has the part on sessions, and
-//! `PortLemmas` what is true of all ports.
+//! The program runs the top call of `tb_top`, whose contract tells what was written with each
+//! status, over the system's arguments, files, output and listeners.
 #![tactic(auto)]
 
-mod command;
-mod endings;
-mod laws;
-mod load;
-mod numbers;
 mod ports;
-mod service;
-mod top;
 
 ghost use Rattle.std.specs.Prelude.{◌≡◌, ◌<◌};
 
-use endings::End;
 use std::alloc::AllocError;
 use std::io::ErrorKind;
 use std::marker::Brand;
@@ -34,9 +21,7 @@ use std::thread::Threads;
 use std::{env, io};
 use tb_base::{Status, Steps};
 use tb_io::{RealFiles, RealSink, Wrote};
-
-#[cfg(test)]
-mod tests;
+use tb_top::{End, end_by, tablebuilder};
 
 // The arguments after the program's name.
 fn arguments<R: Env + AllocGlobal>(rt: &R) -> io::Result<Vec<String>> {
@@ -65,10 +50,10 @@ fn run_words<
     requires some { 0 < L.parts }
 {
     let Ok(mut net) = ports::real_ports(rt, rt.alloc()) else {
-        return top::end_by(&End::Memory, out);
+        return end_by(&End::Memory, out);
     };
     let mut steps = Steps::<L>::new(blank);
-    top::tablebuilder(
+    tablebuilder(
         rt,
         rt.alloc(),
         words,
@@ -93,9 +78,9 @@ fn run_command<
 >(rt: &R, out: &mut RealSink<'_, R>) -> Status {
     match arguments(rt) {
         Ok(words) => run_words::<R, Brand>(rt, &words, out, Blank::new(1)),
-        Err(e) if e.kind() == ErrorKind::OutOfMemory => top::end_by(&End::Memory, out),
+        Err(e) if e.kind() == ErrorKind::OutOfMemory => end_by(&End::Memory, out),
         // An argument that isn't UTF-8 is none of the command's.
-        Err(_) => top::end_by(&End::Usage, out),
+        Err(_) => end_by(&End::Usage, out),
     }
 }
 

@@ -2,14 +2,14 @@
 
 ghost use Rattle.std.specs.Prelude.{◌≡◌, ◌+◌, All, IfOk, vec_len};
 ghost use Rattle.tb_serve.specs.Stages.{IsFresh};
-ghost use Rattle.tablebuilder.specs.declared.service.TheConstants.{MOST_WORKERS};
+ghost use Rattle.tb_top.specs.declared.service.TheConstants.{MOST_WORKERS};
 
-use crate::service::MOST_WORKERS;
 use std::alloc::Global;
 use std::net::{Net, TcpListener, TcpStream};
 use tb_base::Memory;
 use tb_io::RealListen;
 use tb_serve::Port;
+use tb_top::MOST_WORKERS;
 
 /// Ports of the system, as they are made: one for the custodian and one for each worker that there
 /// may be. It takes memory for their list.

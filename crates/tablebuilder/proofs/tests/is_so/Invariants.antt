@@ -1,5 +1,0 @@
-use Rattle.tablebuilder.proofs.tests.is_so.Given as goal
-
--- the ledger of the blank
-abbrev pub ghosts-count_in_memory : goal.ghosts-count_in_memory
-ghosts-count_in_memory g a = record { name = a.blank.name; parts = a.blank.parts }

@@ -1,5 +1,0 @@
-use Rattle.std.proofs.Common.{refl}
-use Rattle.tablebuilder.proofs.top.answer.Goals as goal
-
-pub returns-in-Serve : goal.returns-in-Serve
-returns-in-Serve g c = rw c.in-Serve.is (refl, c.serve_census.ensures)

@@ -1,0 +1,347 @@
+-- What a call keeps, from how the run ended and what was taken of its text.
+use Rattle.std.proofs.Common.{◌≡◌, ◌≢◌, ◌⊎◌, ◌∙◌, sym, ap, subst, refl, ℕ, List, All, ◌++◌, take, drop, Option, Some, None, Ok, Err, inl, inr}
+use Rattle.std.specs.Prelude.{IfSome}
+use Rattle.std.proofs.lemmas.List.{take-append-drop}
+use Rattle.tb_base.specs.declared.status.Status.{Status}
+use Rattle.tb_base.specs.declared.status.Status.TheVariants as status
+use Rattle.tb_top.specs.declared.endings.Input.{Input}
+use Rattle.tb_top.specs.declared.endings.Input.TheVariants as input
+use Rattle.tb_top.specs.declared.endings.End.{End}
+use Rattle.tb_top.specs.declared.endings.End.TheVariants as end
+use Rattle.tb_top.specs.declared.command.Command.{Command}
+use Rattle.tb_top.specs.declared.command.Command.TheVariants as command
+use Rattle.tb_top.specs.declared.command.Inputs.{Inputs}
+use Rattle.tb_top.specs.Asking.{AskedValue, CensusValue, Script, Serve, asked_of, asked_over, contents_at, is_service}
+use Rattle.tb_top.specs.Calls.{Call, HasTaken, IsReadTo, NetFailed, ReadFailed, WriteFailed}
+use Rattle.tb_top.specs.Commands.{asks_to_serve, command_of, files_of, input_files, named}
+use Rattle.tb_top.specs.Endings.{IsEnded, last_line, status_of}
+use Rattle.tb_top.specs.Loading.{Hold, Loads, Reading}
+use Rattle.tb_top.specs.Promises.{EndsBy, IsCaused, IsDefined, IsLastLine, IsTextOf, IsWhole, Keeps, defined_status}
+use Rattle.tb_top.specs.Outputs.{IsAnswered, IsOutput, IsScriptAnswered}
+use Rattle.tb_top.proofs.PortLemmas.{all-unserved, same-idle}
+use Rattle.tb_top.proofs.Serving.{keeps_by_service}
+use Rattle.tb_top.proofs.Telling.{always_told, where_told}
+use Rattle.tb_script.specs.Scripts.{ScriptValue}
+use Rattle.tb_serve.specs.Stages.{IsFresh}
+use Rattle.tb_session.specs.Outputs.{text_of}
+use Rattle.tb_io.proofs.TakenLemmas.{TookPart-all}
+
+-- what the sink took of the last line of an end, and the status
+abbrev pub IsToldBy : Call → End → Status → Type 0
+IsToldBy call e s = IsEnded e s call.write_faults call.write_faults_after call.taken call.taken_after
+
+-- an end has neither of these statuses
+not_of_ends : (e : End) → (status_of e ≢ status.NetFault) × (status_of e ≢ status.WriteFault) × (status_of e ≢ status.Done)
+not_of_ends end.Usage = (λ h. cc, λ h. cc, λ h. cc)
+not_of_ends (end.TooLong input.Classes) = (λ h. cc, λ h. cc, λ h. cc)
+not_of_ends (end.TooLong input.Recodes) = (λ h. cc, λ h. cc, λ h. cc)
+not_of_ends (end.TooLong input.Ptable) = (λ h. cc, λ h. cc, λ h. cc)
+not_of_ends (end.TooLong input.People) = (λ h. cc, λ h. cc, λ h. cc)
+not_of_ends (end.TooLong input.Script) = (λ h. cc, λ h. cc, λ h. cc)
+not_of_ends (end.Unread file) = (λ h. cc, λ h. cc, λ h. cc)
+not_of_ends (end.Refused input.Classes name at) = (λ h. cc, λ h. cc, λ h. cc)
+not_of_ends (end.Refused input.Recodes name at) = (λ h. cc, λ h. cc, λ h. cc)
+not_of_ends (end.Refused input.Ptable name at) = (λ h. cc, λ h. cc, λ h. cc)
+not_of_ends (end.Refused input.People name at) = (λ h. cc, λ h. cc, λ h. cc)
+not_of_ends (end.Refused input.Script name at) = (λ h. cc, λ h. cc, λ h. cc)
+not_of_ends (end.BadLine at) = (λ h. cc, λ h. cc, λ h. cc)
+not_of_ends end.Memory = (λ h. cc, λ h. cc, λ h. cc)
+
+module _ (call : Call) (at : List ℕ → Option (List ℕ)) (same : call.ports_after ≡ call.ports) where
+  -- a last line is the text of its status
+  whole_by_status : (s : Status) (text : List ℕ) → s ≢ status.Done → s ≢ status.WriteFault → s ≢ status.NetFault → s ≢ status.Memory
+      → IsLastLine call at s text → IsWhole call at s text
+  whole_by_status status.Done text d w n m h = absurd (d refl)
+  whole_by_status status.Usage text d w n m h = h
+  whole_by_status status.Schema text d w n m h = h
+  whole_by_status status.Perturbation text d w n m h = h
+  whole_by_status status.Microdata text d w n m h = h
+  whole_by_status status.Script text d w n m h = h
+  whole_by_status status.ReadFault text d w n m h = h
+  whole_by_status status.WriteFault text d w n m h = absurd (w refl)
+  whole_by_status status.Memory text d w n m h = absurd (m refl)
+  whole_by_status status.NetFault text d w n m h = absurd (n refl)
+
+  -- an end is memory's, or has another status
+  memory_or_not : (e : End) → (e ≡ end.Memory) ⊎ ((e ≢ end.Memory) × (status_of e ≢ status.Memory))
+  memory_or_not end.Usage = inr (λ h. cc, λ h. cc)
+  memory_or_not (end.TooLong input.Classes) = inr (λ h. cc, λ h. cc)
+  memory_or_not (end.TooLong input.Recodes) = inr (λ h. cc, λ h. cc)
+  memory_or_not (end.TooLong input.Ptable) = inr (λ h. cc, λ h. cc)
+  memory_or_not (end.TooLong input.People) = inr (λ h. cc, λ h. cc)
+  memory_or_not (end.TooLong input.Script) = inr (λ h. cc, λ h. cc)
+  memory_or_not (end.Unread file) = inr (λ h. cc, λ h. cc)
+  memory_or_not (end.Refused input.Classes name at) = inr (λ h. cc, λ h. cc)
+  memory_or_not (end.Refused input.Recodes name at) = inr (λ h. cc, λ h. cc)
+  memory_or_not (end.Refused input.Ptable name at) = inr (λ h. cc, λ h. cc)
+  memory_or_not (end.Refused input.People name at) = inr (λ h. cc, λ h. cc)
+  memory_or_not (end.Refused input.Script name at) = inr (λ h. cc, λ h. cc)
+  memory_or_not (end.BadLine at) = inr (λ h. cc, λ h. cc)
+  memory_or_not end.Memory = inl refl
+
+  whole_by_end : (e : End) → (e ≢ end.Memory → EndsBy call at e) → IsWhole call at (status_of e) (last_line e)
+  whole_by_end e ends = elim (memory_or_not e) [
+    | inl memory ↦ rw memory (refl, all-unserved call.ports call.ports_after same)
+    | inr (other, other_status) ↦
+        let (net, write, done) = not_of_ends e in
+        whole_by_status (status_of e) (last_line e) done write net other_status (e, ends other, refl, refl)
+  ]
+
+  text_by_end : (e : End) (s : Status) → (e ≢ end.Memory → EndsBy call at e) → IsToldBy call e s →
+      (bytes : List ℕ) × IsTextOf call at s bytes × HasTaken call bytes
+  text_by_end e s ends (inl (is, took)) = (last_line e, inl (rw is (whole_by_end e ends)), took)
+  text_by_end e s ends (inr (is, rose, part)) =
+      let line = last_line e in
+      let whole : IsWhole call at (status_of e) (take part.0 line ++ drop part.0 line) = rw (take-append-drop part.0 line)
+      (whole_by_end e ends) in
+      (take part.0 line, inr (is, (status_of e, drop part.0 line, whole)), part.1)
+
+  -- the defined status, Memory or a fault of the outside
+  defined_by_end : (e : End) (s : Status) → s ≡ status_of e → (e ≢ end.Memory → EndsBy call at e) →
+      ((file : Input) → e ≡ end.Unread file → ReadFailed call) → IsDefined call at s
+  defined_by_end end.Memory s is ends rose = inr (inl is)
+  defined_by_end (end.Unread file) s is ends rose = inr (inr (inl (is, rose file refl)))
+  defined_by_end end.Usage s is ends rose = let (by, caused, still) = ends (λ h. cc) in inl (is ∙ sym (ap defined_status by))
+  defined_by_end (end.TooLong file) s is ends rose = let (by, caused, still) = ends (λ h. cc) in inl (is ∙ sym (ap defined_status by))
+  defined_by_end (end.Refused file name n) s is ends rose = let (by, caused, still) = ends (λ h. cc) in inl (is ∙ sym (ap defined_status by))
+  defined_by_end (end.BadLine n) s is ends rose = let (by, caused, still) = ends (λ h. cc) in inl (is ∙ sym (ap defined_status by))
+
+  exact_by_end : (e : End) (s : Status) → (e ≢ end.Memory → EndsBy call at e) → ((file : Input) → e ≡ end.Unread file → ReadFailed call)
+      → IsToldBy call e s → IsDefined call at s
+  exact_by_end e s ends rose (inl (is, took)) = defined_by_end e s is ends rose
+  exact_by_end e s ends rose (inr (is, failed, part)) = inr (inr (inr (inl (is, failed))))
+
+status-usage : (e : End) → status_of e ≡ status.Usage → e ≡ end.Usage
+status-usage end.Usage h = refl
+status-usage (end.TooLong input.Classes) h = cc
+status-usage (end.TooLong input.Recodes) h = cc
+status-usage (end.TooLong input.Ptable) h = cc
+status-usage (end.TooLong input.People) h = cc
+status-usage (end.TooLong input.Script) h = cc
+status-usage (end.Unread file) h = cc
+status-usage (end.Refused input.Classes name at) h = cc
+status-usage (end.Refused input.Recodes name at) h = cc
+status-usage (end.Refused input.Ptable name at) h = cc
+status-usage (end.Refused input.People name at) h = cc
+status-usage (end.Refused input.Script name at) h = cc
+status-usage (end.BadLine at) h = cc
+status-usage end.Memory h = cc
+
+status-read : (e : End) → status_of e ≡ status.ReadFault → (file : Input) × (e ≡ end.Unread file)
+status-read end.Usage h = cc
+status-read (end.TooLong input.Classes) h = cc
+status-read (end.TooLong input.Recodes) h = cc
+status-read (end.TooLong input.Ptable) h = cc
+status-read (end.TooLong input.People) h = cc
+status-read (end.TooLong input.Script) h = cc
+status-read (end.Unread file) h = (file, refl)
+status-read (end.Refused input.Classes name at) h = cc
+status-read (end.Refused input.Recodes name at) h = cc
+status-read (end.Refused input.Ptable name at) h = cc
+status-read (end.Refused input.People name at) h = cc
+status-read (end.Refused input.Script name at) h = cc
+status-read (end.BadLine at) h = cc
+status-read end.Memory h = cc
+
+module _ (call : Call) (e : End) (s : Status) (usage : e ≡ end.Usage → command_of call.words ≡ None)
+    (words : command_of call.words ≡ None → e ≡ end.Usage)
+    (rose : (file : Input) → e ≡ end.Unread file → ReadFailed call) (ends : IfSome call.content (λ at. e ≢ end.Memory → EndsBy call at e))
+    (free : call.steps_after ≡ call.steps) (fresh : All IsFresh call.ports) (same : call.ports_after ≡ call.ports) where
+  usage_told : IsToldBy call e s → s ≡ status.Usage → (command_of call.words ≡ None) × HasTaken call (last_line end.Usage)
+  usage_told (inl (is, took)) h = let u = status-usage e (sym is ∙ h) in (usage u, subst (λ x. HasTaken call (last_line x)) u took)
+  usage_told (inr (is, failed, part)) h = cc
+
+  words_told : IsToldBy call e s → command_of call.words ≡ None → (s ≡ status.Usage) ⊎ (s ≡ status.WriteFault)
+  words_told (inl (is, took)) h = inl (is ∙ ap status_of (words h))
+  words_told (inr (is, failed, part)) h = inr is
+
+  read_told : IsToldBy call e s → s ≡ status.ReadFault → ReadFailed call
+  read_told (inl (is, took)) h = let (file, u) = status-read e (sym is ∙ h) in rose file u
+  read_told (inr (is, failed, part)) h = cc
+
+  write_told : IsToldBy call e s → s ≡ status.WriteFault → WriteFailed call
+  write_told (inl (is, took)) h = let (net, write, done) = not_of_ends e in absurd (write (sym is ∙ h))
+  write_told (inr (is, failed, part)) h = failed
+
+  net_told : IsToldBy call e s → s ≡ status.NetFault → NetFailed call
+  net_told (inl (is, took)) h = let (net, write, done) = not_of_ends e in absurd (net (sym is ∙ h))
+  net_told (inr (is, failed, part)) h = cc
+
+  -- a run that ends before its task keeps all
+  pub keeps_by_end : IsToldBy call e s → Keeps call s
+  keeps_by_end told = record {
+    text = where_told _ _ call.content (λ at by. text_by_end call at same e s by told) ends;
+    usage = usage_told told;
+    words = words_told told;
+    read_fault = read_told told;
+    write_fault = write_told told;
+    net_fault = net_told told;
+    exact = where_told _ _ call.content (λ at by. exact_by_end call at same e s by rose told) ends;
+    price = always_told _ call.content (λ at. inl free);
+    idle = same-idle call.ports call.ports_after same fresh;
+    others = λ h. same;
+  }
+
+-- how a script was answered, and the status
+abbrev pub IsScriptAnsweredBy : Call → CensusValue → ScriptValue → Status → Type 0
+IsScriptAnsweredBy call census script s = IsScriptAnswered (Script census script) s call.write_faults call.write_faults_after call.taken
+    call.taken_after call.steps call.steps_after
+
+-- a run that comes to its script keeps all
+keeps_by_script : (call : Call) (command : Command) (census : CensusValue) (script : ScriptValue) (s : Status)
+    → command_of call.words ≡ Some command → IfSome call.content (λ at. asked_of at call.words ≡ Ok (Script census script))
+    → All IsFresh call.ports → call.ports_after ≡ call.ports → IsScriptAnsweredBy call census script s → Keeps call s
+keeps_by_script call command census script s named told fresh same (inl (is, (replies, answers, took, cost))) =
+    let output : IsOutput (Script census script) call.ports call.ports_after status.Done (text_of replies) = (refl, (replies, answers, refl)) in
+    record {
+      text = where_told _ _ call.content (λ at h. (text_of replies, inl (rw is (Script census script, h, output)), took)) told;
+      usage = λ h. cc;
+      words = λ h. cc;
+      read_fault = λ h. cc;
+      write_fault = λ h. cc;
+      net_fault = λ h. cc;
+      exact = where_told _ _ call.content (λ at h. inl (is ∙ sym (ap defined_status h))) told;
+      price = where_told _ _ call.content (λ at h. inr (
+        Script census script,
+        h,
+        (replies, answers, TookPart-all call.taken call.taken_after (text_of replies) took, cost),
+      )) told;
+      idle = same-idle call.ports call.ports_after same fresh;
+      others = λ h. same;
+    }
+keeps_by_script call command census script s named told fresh same (inr (inl (is, failed, (replies, answers, part, cost)))) =
+    let text = text_of replies in
+    let output : IsOutput (Script census script) call.ports call.ports_after status.Done text = (refl, (replies, answers, refl)) in
+    record {
+      text = where_told _ _ call.content (λ at h.
+          let whole : IsWhole call at status.Done (take part.0 text ++ drop part.0 text) = rw (take-append-drop part.0 text)
+          (Script census script, h, output) in
+          (take part.0 text, inr (is, (status.Done, drop part.0 text, whole)), part.1)) told;
+      usage = λ h. cc;
+      words = λ h. cc;
+      read_fault = λ h. cc;
+      write_fault = λ h. failed;
+      net_fault = λ h. cc;
+      exact = where_told _ _ call.content (λ at h. inr (inr (inr (inl (is, failed))))) told;
+      price = where_told _ _ call.content (λ at h. inr (Script census script, h, (replies, answers, part, cost))) told;
+      idle = same-idle call.ports call.ports_after same fresh;
+      others = λ h. same;
+    }
+keeps_by_script call command census script s named told fresh same (inr (inr (free, ended))) =
+    keeps_by_end call end.Memory s (λ h. cc) (λ h. cc) (λ file h. cc) (always_told _ call.content (λ at ne. absurd (ne refl))) free fresh
+    same ended
+
+-- how what is asked for was answered, and the status
+abbrev pub IsAnsweredBy : Call → AskedValue → Status → Type 0
+IsAnsweredBy call asked s = IsAnswered asked call.ports call.ports_after s call.write_faults call.write_faults_after call.taken
+    call.taken_after call.steps call.steps_after
+
+-- a run that comes to its task keeps all
+keeps_by_answer : (call : Call) (command : Command) (asked : AskedValue) (s : Status) → command_of call.words ≡ Some command
+    → is_service asked ≡ asks_to_serve (Some command)
+    → IfSome call.content (λ at. asked_of at call.words ≡ Ok asked) → All IsFresh call.ports → IsAnsweredBy call asked s → Keeps call s
+keeps_by_answer call command (Script census script) s named serves told fresh (same, answered) =
+    keeps_by_script call command census script s named told fresh same answered
+keeps_by_answer call command (Serve census service) s named serves told fresh answered =
+    keeps_by_service call command census service s named (sym serves) told answered.0 fresh answered.1
+
+-- what a call saw of its files
+abbrev pub reading_of : Call → Option (List ℕ → Option (List ℕ)) → Reading
+reading_of call after = record {
+  content = call.content;
+  content_after = after;
+  faults = call.read_faults;
+  faults_after = call.read_faults_after;
+  readings = call.readings;
+  readings_after = call.readings_after;
+}
+
+same_command : (words : List (List ℕ)) (command other : Command) → command_of words ≡ Some command → command_of words ≡ Some other
+    → command ≡ other
+same_command words command other h k = cc
+
+caused : (call : Call) (command : Command) (e : End) → command_of call.words ≡ Some command →
+    ((file : Input) → e ≡ end.Unread file → ReadFailed call)
+    → ((file : Input) → e ≡ end.Unread file → IsReadTo (files_of command) file call.readings call.readings_after) → IsCaused call e
+caused call command (end.Unread file) named rose last = (
+  rose file refl,
+  λ other h. subst (λ (c : Command). IsReadTo (files_of c) file call.readings call.readings_after)
+      (same_command call.words command other named h) (last file refl),
+)
+caused call command end.Usage named rose last = tt
+caused call command (end.TooLong file) named rose last = tt
+caused call command (end.Refused file name at) named rose last = tt
+caused call command (end.BadLine at) named rose last = tt
+caused call command end.Memory named rose last = tt
+
+-- a command's contents hold its files
+holds-files : (at : List ℕ → Option (List ℕ)) (recodes : Option (List ℕ)) (classes ptable people script : List ℕ) (threshold : ℕ)
+    → let inputs : Inputs = record { classes = classes; recodes = recodes; ptable = ptable; people = people; threshold = threshold } in
+    Hold at (files_of (command.Script inputs script)) (contents_at at (files_of (command.Script inputs script)))
+holds-files at None classes ptable people script threshold = (refl, (refl, (refl, (refl, tt))))
+holds-files at (Some name) classes ptable people script threshold = (refl, (refl, (refl, (refl, (refl, tt)))))
+
+holds-inputs : (at : List ℕ → Option (List ℕ)) (recodes : Option (List ℕ)) (classes ptable people : List ℕ) (threshold : ℕ)
+    → let inputs : Inputs = record { classes = classes; recodes = recodes; ptable = ptable; people = people; threshold = threshold } in
+    Hold at (input_files inputs) (contents_at at (input_files inputs))
+holds-inputs at None classes ptable people threshold = (refl, (refl, (refl, tt)))
+holds-inputs at (Some name) classes ptable people threshold = (refl, (refl, (refl, (refl, tt))))
+
+holds : (at : List ℕ → Option (List ℕ)) (c : Command) → Hold at (files_of c) (contents_at at (files_of c))
+holds at (command.Script inputs script) = holds-files at inputs.recodes inputs.classes inputs.ptable inputs.people script inputs.threshold
+holds at (command.Serve inputs service) = holds-inputs at inputs.recodes inputs.classes inputs.ptable inputs.people inputs.threshold
+
+-- how loading ended the run
+pub keeps_by_load : {A : Type 0} (view : A → AskedValue) (call : Call) (after : Option (List ℕ → Option (List ℕ))) (command : Command)
+    (e : End) (s : Status) → command_of call.words ≡ Some command
+    → Loads (reading_of call after) 0 (files_of command) view (asked_over command) (Err e) → call.steps_after ≡ call.steps
+    → All IsFresh call.ports → call.ports_after ≡ call.ports → IsToldBy call e s → Keeps call s
+keeps_by_load view call after command e s named loads free fresh same told =
+    let rose = λ (file : Input) (h : e ≡ end.Unread file). loads.risen file (ap (λ (x : End). Err x) h) in
+    let last = λ (file : Input) (h : e ≡ end.Unread file). loads.last file (ap (λ (x : End). Err x) h) in
+    keeps_by_end call e s
+    (λ h. absurd (loads.usage (ap (λ (x : End). Err x) h))) (λ h. cc) rose
+    (where_told _ _ call.content (λ at g ne. (
+      rw named
+          (g (contents_at at (files_of command)) (holds at command) ne),
+      caused call command e named rose last,
+      same,
+    )) loads.gives)
+    free fresh same told
+
+-- other arguments end the run at once
+pub keeps_by_usage : (call : Call) (s : Status) → command_of call.words ≡ None → call.steps_after ≡ call.steps → All IsFresh call.ports
+    → call.ports_after ≡ call.ports → IsToldBy call end.Usage s → Keeps call s
+keeps_by_usage call s none free fresh same told =
+    keeps_by_end call end.Usage s (λ h. none) (λ h. refl) (λ file h. cc)
+    (always_told _ call.content (λ at ne. (rw none refl, tt, same))) free fresh same told
+
+-- files that were all read lead to the task
+pub keeps_by_task : {A : Type 0} (view : A → AskedValue) (call : Call) (after : Option (List ℕ → Option (List ℕ))) (command : Command)
+    (x : A) (s : Status) → command_of call.words ≡ Some command
+    → Loads (reading_of call after) 0 (files_of command) view (asked_over command) (Ok x)
+    → is_service (view x) ≡ asks_to_serve (Some command) → All IsFresh call.ports → IsAnsweredBy call (view x) s → Keeps call s
+keeps_by_task view call after command x s named loads serves fresh answered =
+    keeps_by_answer call command (view x) s named serves
+    (where_told _ _ call.content (λ at g. rw named (g (contents_at at (files_of command)) (holds at command))) loads.gives) fresh answered
+
+-- the text of a read fault is the line that names the file of the last reading
+pub line_of_read_fault : (call : Call) (at : List ℕ → Option (List ℕ)) (s : Status) (bytes : List ℕ) → IsTextOf call at s bytes
+    → s ≡ status.ReadFault
+    → (file : Input) × (bytes ≡ last_line (end.Unread file)) ×
+    ((command : Command) → command_of call.words ≡ Some command → IsReadTo (files_of command) file call.readings call.readings_after)
+line_of_read_fault call at s bytes (inl whole) h =
+    let (e, (by, cause, same), is, text) = subst (λ x. IsWhole call at x bytes) h whole in
+    let (file, unread) = status-read e is in
+    let caused = subst (IsCaused call) unread cause in
+    (file, text ∙ ap last_line unread, caused.1)
+line_of_read_fault call at s bytes (inr (is, cut)) h = cc
+
+-- and where it is in memory
+pub memory_read_fault : (call : Call) (at : List ℕ → Option (List ℕ)) (s : Status) (before after : List ℕ) →
+    (bytes : List ℕ) × IsTextOf call at s bytes × (after ≡ before ++ bytes) → s ≡ status.ReadFault
+    → (file : Input) × (after ≡ before ++ last_line (end.Unread file)) ×
+    ((command : Command) → command_of call.words ≡ Some command → IsReadTo (files_of command) file call.readings call.readings_after)
+memory_read_fault call at s before after (bytes, text, took) h =
+    let (file, line, last) = line_of_read_fault call at s bytes text h in
+    (file, took ∙ ap (λ more. before ++ more) line, last)

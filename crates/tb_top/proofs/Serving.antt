@@ -1,0 +1,212 @@
+-- What a call keeps that served sessions.
+use Rattle.std.proofs.Common.{◌≡◌, ◌≢◌, ◌⊎◌, ◌∙◌, sym, ap, subst, refl, ℕ, ◌+◌, ◌<◌, ◌≤◌, List, ◌++◌, length, take, drop, get_or, All, Bool, true, false, Option, Some, Ok, inl, inr, arith}
+use Rattle.std.specs.Prelude.{IfSome}
+use Rattle.std.proofs.lemmas.List.{get_or_default, take-append-drop}
+use Rattle.std.proofs.lemmas.List.Folds.{Any-from_list_any}
+use Rattle.tb_base.specs.declared.status.Status.{Status}
+use Rattle.tb_base.specs.declared.status.Status.TheVariants as status
+use Rattle.tb_io.specs.Faults.{HasRisen}
+use Rattle.tb_release.specs.Batches.{BatchValue}
+use Rattle.tb_serve.specs.Each.{Each}
+use Rattle.tb_serve.specs.Ports.{PortValue}
+use Rattle.tb_serve.specs.Reports.{memory_line, net_line, report, some_failed}
+use Rattle.tb_serve.specs.Serves.{IsEnded, IsPortServed, Output, final_status, output}
+use Rattle.tb_serve.specs.Stages.{HasRisenSome, IsFresh, IsUntouched}
+use Rattle.tb_top.specs.Asking.{CensusValue, Serve, asked_of}
+use Rattle.tb_top.specs.Calls.{Call, HasTaken, NetFailed}
+use Rattle.tb_top.specs.Commands.{asks_to_serve, command_of}
+use Rattle.tb_top.specs.ServicePorts.{Service}
+use Rattle.tb_top.specs.Promises.{IsAskedOutput, IsDefined, IsTextOf, IsWhole, Keeps, defined_status}
+use Rattle.tb_top.specs.Services.{IsIdle, IsServiceAnswered, base_of}
+use Rattle.tb_top.specs.declared.command.Command.{Command}
+use Rattle.tb_top.proofs.PortLemmas.{each-idle, each-unserved, each-whole, idle-whole, risen-whole, take-fresh, unserved}
+use Rattle.tb_top.proofs.Telling.{always_told, where_told}
+
+-- the statuses of a service whose last line was written
+abbrev IsFinal : Status → Type 0
+IsFinal status.Done = Unit {0}
+IsFinal status.Memory = Unit {0}
+IsFinal status.NetFault = Unit {0}
+IsFinal status.Usage = ⊥
+IsFinal status.Schema = ⊥
+IsFinal status.Perturbation = ⊥
+IsFinal status.Microdata = ⊥
+IsFinal status.Script = ⊥
+IsFinal status.ReadFault = ⊥
+IsFinal status.WriteFault = ⊥
+
+-- what a call saw of its sink
+abbrev output_of : Call → Output
+output_of call = output call.taken call.taken_after call.write_faults call.write_faults_after
+
+-- a call that came to its service, whose last line is that of a final status
+module _ (call : Call) (command : Command) (census : CensusValue) (service : Service) (s final : Status) (text : List ℕ)
+    (named : command_of call.words ≡ Some command) (serves : asks_to_serve (Some command) ≡ true)
+    (told : IfSome call.content (λ at. asked_of at call.words ≡ Ok (Serve census service))) (free : call.steps_after ≡ call.steps)
+    (is_final : IsFinal final) (failed : final ≡ status.NetFault → NetFailed call) (idle : All IsIdle call.ports_after)
+    (whole : (at : List ℕ → Option (List ℕ)) → asked_of at call.words ≡ Ok (Serve census service) → IsWhole call at final text) where
+  text_told : (at : List ℕ → Option (List ℕ)) → asked_of at call.words ≡ Ok (Serve census service)
+      → IsEnded text final (output_of call) s → (bytes : List ℕ) × IsTextOf call at s bytes × HasTaken call bytes
+  text_told at asked (inl (is, took)) = (text, inl (rw is (whole at asked)), took)
+  text_told at asked (inr (is, part, rose)) =
+      let all : IsWhole call at final (take part.0 text ++ drop part.0 text) = rw (take-append-drop part.0 text) (whole at asked) in
+      (take part.0 text, inr (is, (final, drop part.0 text, all)), part.1)
+
+  defined_told : (at : List ℕ → Option (List ℕ)) → asked_of at call.words ≡ Ok (Serve census service) → (f : Status) → IsFinal f
+      → (f ≡ status.NetFault → NetFailed call) → s ≡ f → IsDefined call at s
+  defined_told at asked status.Done final net is = inl (is ∙ sym (ap defined_status asked))
+  defined_told at asked status.Memory final net is = inr (inl is)
+  defined_told at asked status.NetFault final net is = inr (inr (inr (inr (is, net refl))))
+  defined_told at asked status.Usage final net is = absurd final
+  defined_told at asked status.Schema final net is = absurd final
+  defined_told at asked status.Perturbation final net is = absurd final
+  defined_told at asked status.Microdata final net is = absurd final
+  defined_told at asked status.Script final net is = absurd final
+  defined_told at asked status.ReadFault final net is = absurd final
+  defined_told at asked status.WriteFault final net is = absurd final
+
+  -- it has no other status than the final one and WriteFault
+  never : (other : Status) → IsEnded text final (output_of call) s → other ≢ status.WriteFault → (IsFinal other → ⊥) → s ≢ other
+  never other (inl (is, took)) write none h = none (subst IsFinal (sym is ∙ h) is_final)
+  never other (inr (is, part, rose)) write none h = write (sym h ∙ is)
+
+  exact_told : (at : List ℕ → Option (List ℕ)) → IsEnded text final (output_of call) s
+      → asked_of at call.words ≡ Ok (Serve census service) → IsDefined call at s
+  exact_told at (inl (is, took)) asked = defined_told at asked final is_final failed is
+  exact_told at (inr (is, part, rose)) asked = inr (inr (inr (inl (is, rose))))
+
+  write_told : IsEnded text final (output_of call) s → s ≡ status.WriteFault → HasRisen call.write_faults call.write_faults_after
+  write_told (inl (is, took)) h = absurd (subst IsFinal (sym is ∙ h) is_final)
+  write_told (inr (is, part, rose)) h = rose
+
+  net_told : IsEnded text final (output_of call) s → s ≡ status.NetFault → NetFailed call
+  net_told (inl (is, took)) h = failed (sym is ∙ h)
+  net_told (inr (is, part, rose)) h = cc
+
+  keeps_by_final : IsEnded text final (output_of call) s → Keeps call s
+  keeps_by_final ended = record {
+    text = where_told _ _ call.content (λ at asked. text_told at asked ended) told;
+    usage = λ h. absurd (never status.Usage ended (λ k. cc) (λ x. x) h);
+    words = λ h. cc;
+    read_fault = λ h. absurd (never status.ReadFault ended (λ k. cc) (λ x. x) h);
+    write_fault = write_told ended;
+    net_fault = net_told ended;
+    exact = where_told _ _ call.content (λ at asked. exact_told at ended asked) told;
+    price = always_told _ call.content (λ at. inl free);
+    idle = idle;
+    others = λ h. let no : asks_to_serve (Some command) ≡ false = ap asks_to_serve (sym named) ∙ h in cc;
+  }
+
+-- an output of a final status
+whole_by_output : (call : Call) (at : List ℕ → Option (List ℕ)) (f : Status) (text : List ℕ)
+    → (f ≡ status.Done) ⊎ (f ≡ status.NetFault) → IsAskedOutput call at f text → IsWhole call at f text
+whole_by_output call at f text (inl done) h = rw done (subst (λ x. IsAskedOutput call at x text) done h)
+whole_by_output call at f text (inr net) h = rw net (subst (λ x. IsAskedOutput call at x text) net h)
+
+-- how served ports end
+data Ending (ports : List PortValue) : Type 0 where
+  Quiet : final_status ports ≡ status.Done → Ending ports
+  Loud : final_status ports ≡ status.NetFault → some_failed ports ≡ true → Ending ports
+
+ending_by : (ports : List PortValue) (b : Bool) → some_failed ports ≡ b → Ending ports
+ending_by ports true is = Loud (rw is refl) is
+ending_by ports false is = Quiet (rw is refl)
+
+ending_of : (ports : List PortValue) → Ending ports
+ending_of ports = ending_by ports (some_failed ports) refl
+
+done_or_net : (ports : List PortValue) → Ending ports → (final_status ports ≡ status.Done) ⊎ (final_status ports ≡ status.NetFault)
+done_or_net ports (Quiet done) = inl done
+done_or_net ports (Loud net some) = inr net
+
+some_by : (ports : List PortValue) → Ending ports → final_status ports ≡ status.NetFault → some_failed ports ≡ true
+some_by ports (Quiet done) net = cc
+some_by ports (Loud is some) net = some
+
+final_is : (f : Status) → (f ≡ status.Done) ⊎ (f ≡ status.NetFault) → IsFinal f
+final_is f (inl done) = rw done tt
+final_is f (inr net) = rw net tt
+
+-- the element at a place is the same whatever stands in for one that isn't there
+failed_at : (ports : List PortValue) (i : ℕ) (x d : PortValue) → i < length ports → x ≡ get_or ports i x → x.failed ≡ true
+    → (get_or ports i d).failed ≡ true
+failed_at ports i x d below at failed =
+    ap (λ (p : PortValue). p.failed) (get_or_default ports i d x below ∙ sym at) ∙ failed
+
+served-idle : (census : CensusValue) (service : Service) (chain : List BatchValue) (ports ports' : List PortValue)
+    → Each (IsPortServed census.setup (base_of census) service.port service.sessions chain) ports ports' → All IsIdle ports'
+served-idle census service chain ports ports' each = λ i d below.
+    let at = each.at i d (omega (arith, below, each.same_length)) in
+    record { party = at.party; lines = at.lines }
+
+-- some accept failed only where a count rose
+failed-risen : (call : Call) (census : CensusValue) (service : Service) (chain : List BatchValue) (ports ports' : List PortValue)
+    → Each (IsPortServed census.setup (base_of census) service.port service.sessions chain) ports ports' → some_failed ports' ≡ true
+    → HasRisenSome ports ports'
+failed-risen call census service chain ports ports' each some =
+    let (i, x, below, at, failed) = Any-from_list_any (λ (p : PortValue). p.failed) ports' some in
+    let inside : i < length ports = omega (arith, below, each.same_length) in
+    (i, inside, λ d. (each.at i d inside).sessions.enough.risen (failed_at ports' i x d below (sym at) failed))
+
+-- the ports of a service that was answered, and the others
+module _ (call : Call) (command : Command) (census : CensusValue) (service : Service) (s : Status)
+    (named : command_of call.words ≡ Some command) (serves : asks_to_serve (Some command) ≡ true)
+    (told : IfSome call.content (λ at. asked_of at call.words ≡ Ok (Serve census service))) (free : call.steps_after ≡ call.steps)
+    (fresh : All IsFresh call.ports) (long : service.workers + 1 ≤ length call.ports)
+    (rest : drop (service.workers + 1) call.ports_after ≡ drop (service.workers + 1) call.ports) where
+  abbrev n : ℕ
+  n = service.workers + 1
+
+  ours : All IsFresh (take n call.ports)
+  ours = take-fresh n call.ports long fresh
+
+  -- nothing was accepted
+  by_untouched : (text : List ℕ) (final : Status) → IsFinal final → Each (IsUntouched service.port) (take n call.ports) (take n call.ports_after)
+      → (final ≡ status.NetFault → NetFailed call)
+      → ((at : List ℕ → Option (List ℕ)) → asked_of at call.words ≡ Ok (Serve census service) → IsWhole call at final text)
+      → IsEnded text final (output_of call) s → Keeps call s
+  by_untouched text final is each net whole ended =
+      let idle = idle-whole n call.ports call.ports_after long each.same_length rest fresh (each-idle service.port _ _ each ours) in
+      keeps_by_final call command census service s final text named serves told free is net idle whole ended
+
+  by_memory : Each (IsUntouched service.port) (take n call.ports) (take n call.ports_after)
+      → IsEnded memory_line status.Memory (output_of call) s → Keeps call s
+  by_memory each ended =
+      let none = each-whole n call.ports call.ports_after long each.same_length rest _ unserved (each-unserved service.port _ _ each) in
+      by_untouched memory_line status.Memory tt each (λ h. cc) (λ at asked. (refl, none)) ended
+
+  by_unbound : Each (IsUntouched service.port) (take n call.ports) (take n call.ports_after)
+      → HasRisenSome (take n call.ports) (take n call.ports_after) → IsEnded net_line status.NetFault (output_of call) s → Keeps call s
+  by_unbound each rose ended =
+      by_untouched net_line status.NetFault tt each (λ h. risen-whole n call.ports call.ports_after long each.same_length rest rose)
+      (λ at asked. (Serve census service, asked, inr ((each, rest), rose, refl, refl))) ended
+
+  by_sessions : (chain : List BatchValue)
+      → Each (IsPortServed census.setup (base_of census) service.port service.sessions chain) (take n call.ports) (take n call.ports_after)
+      → IsEnded (report (take n call.ports_after) (length chain)) (final_status (take n call.ports_after)) (output_of call) s → Keeps call s
+  by_sessions chain each ended =
+      let ports = take n call.ports_after in
+      let ending = ending_of ports in
+      let text = report ports (length chain) in
+      let idle = idle-whole n call.ports call.ports_after long each.same_length rest fresh (served-idle census service chain _ _ each) in
+      let whole = λ (at : List ℕ → Option (List ℕ)) (asked : asked_of at call.words ≡ Ok (Serve census service)).
+      whole_by_output call at (final_status ports) text (done_or_net ports ending)
+      (Serve census service, asked, inl (chain, (each, rest), refl, refl)) in
+      keeps_by_final call command census service s (final_status ports) text named serves told free
+      (final_is (final_status ports) (done_or_net ports ending))
+      (λ h. risen-whole n call.ports call.ports_after long each.same_length rest
+      (failed-risen call census service chain _ _ each (some_by ports ending h))) idle whole ended
+
+-- a run that served sessions keeps all
+pub keeps_by_service : (call : Call) (command : Command) (census : CensusValue) (service : Service) (s : Status)
+    → command_of call.words ≡ Some command → asks_to_serve (Some command) ≡ true
+    → IfSome call.content (λ at. asked_of at call.words ≡ Ok (Serve census service)) → call.steps_after ≡ call.steps
+    → All IsFresh call.ports
+    → IsServiceAnswered census service call.ports call.ports_after s call.write_faults call.write_faults_after call.taken call.taken_after
+    → Keeps call s
+keeps_by_service call command census service s named serves told free fresh (long, rest, inl (each, ended)) =
+    by_memory call command census service s named serves told free fresh long rest each ended
+keeps_by_service call command census service s named serves told free fresh (long, rest, inr (inl (each, rose, ended))) =
+    by_unbound call command census service s named serves told free fresh long rest each rose ended
+keeps_by_service call command census service s named serves told free fresh (long, rest, inr (inr (chain, each, ended))) =
+    by_sessions call command census service s named serves told free fresh long rest chain each ended

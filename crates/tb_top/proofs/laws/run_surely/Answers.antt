@@ -1,0 +1,24 @@
+use Rattle.std.proofs.Common.{inl, inr}
+use Rattle.tb_io.proofs.FaultLemmas.{HasRisen-zero}
+use Rattle.tb_top.proofs.laws.run_surely.Goals as goal
+
+pub returns-clause-read : goal.returns-clause-read
+returns-clause-read g c = λ h. HasRisen-zero (c.tablebuilder.ensures.read_fault h)
+
+pub returns-clause-write : goal.returns-clause-write
+returns-clause-write g c = λ h. HasRisen-zero (c.tablebuilder.ensures.write_fault h)
+
+pub returns-clause-defined : goal.returns-clause-defined
+returns-clause-defined g c = elim c.tablebuilder.ensures.exact [
+  | inl defined ↦ inl defined
+  | inr other ↦ elim other [
+    | inl memory ↦ inr (inl memory)
+    | inr fault ↦ elim fault [
+      | inl read ↦ absurd (HasRisen-zero read.1)
+      | inr more ↦ elim more [
+        | inl write ↦ absurd (HasRisen-zero write.1)
+        | inr net ↦ inr (inr net)
+      ]
+    ]
+  ]
+]

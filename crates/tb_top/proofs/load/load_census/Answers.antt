@@ -1,0 +1,66 @@
+use Rattle.std.proofs.Common.{◌≡◌, ◌∙◌, ap, sym, refl, List, Ok, Err}
+use Rattle.std.proofs.lemmas.Result.{err_from_is_err_and}
+use Rattle.tb_base.specs.declared.records.Record.{Record}
+use Rattle.tb_model.specs.Releases.{first_release}
+use Rattle.tb_model.specs.Setups.{SetupValue}
+use Rattle.tb_top.specs.Asking.{people_in}
+use Rattle.tb_top.specs.Loading.{census_value}
+use Rattle.tb_top.proofs.LoadSteps.{Loads-ends, Loads-fails, Loads-memory, census-no-ptable, census-no-schema, census-steps, census_with}
+use Rattle.tb_top.proofs.load.load_census.Goals as goal
+
+pub returns-in_err-schema-clause-loads : goal.returns-in_err-schema-clause-loads
+returns-in_err-schema-clause-loads g c =
+    let p = err_from_is_err_and c.from_residual.result c.from_residual.ensures.1 in
+    rw (p.1, p.2) (census-no-schema census_value c.args.inputs.now c.in_err-schema.ensures.loads)
+
+pub returns-in_err-ptable-clause-loads : goal.returns-in_err-ptable-clause-loads
+returns-in_err-ptable-clause-loads g c =
+    let p = err_from_is_err_and c.from_residual-in_err-ptable.result c.from_residual-in_err-ptable.ensures.1 in
+    rw (p.1, p.2) (census-no-ptable census_value c.args.inputs.now c.in_ok-schema.schema refl refl refl c.in_ok-schema.ensures.loads
+    c.in_err-ptable.ensures.loads)
+
+pub returns-in_err-people-clause-loads : goal.returns-in_err-people-clause-loads
+returns-in_err-people-clause-loads g c =
+    let p = err_from_is_err_and c.from_residual-in_err-people.result c.from_residual-in_err-people.ensures.1 in
+    let inputs = c.args.inputs.now in
+    let schema = c.in_ok-schema.schema in
+    let lines = c.in_ok-ptable.ptable in
+    rw (p.1, p.2) (census-steps census_value inputs schema lines
+    (Err _) refl refl refl refl refl refl c.in_ok-schema.ensures.loads c.in_ok-ptable.ensures.loads
+    (Loads-fails (λ people. people) census_value (people_in schema)
+    (λ contents records. Ok (census_with inputs schema lines records)) c.in_err-people.ensures.loads))
+
+pub returns-in_err-release-clause-loads : goal.returns-in_err-release-clause-loads
+returns-in_err-release-clause-loads g c =
+    let p = err_from_is_err_and c.from_residual-in_err-release.result c.from_residual-in_err-release.ensures.1 in
+    let inputs = c.args.inputs.now in
+    let schema = c.in_ok-schema.schema in
+    let lines = c.in_ok-ptable.ptable in
+    rw (p.1, p.2) (census-steps census_value inputs schema lines
+    (Err _) refl refl refl refl refl refl c.in_ok-schema.ensures.loads c.in_ok-ptable.ensures.loads
+    (Loads-memory (λ people. people) census_value (people_in schema)
+    (λ contents records. Ok (census_with inputs schema lines records)) c.in_ok-people.people c.in_ok-people.ensures.loads))
+
+pub returns-clause-loads : goal.returns-clause-loads
+returns-clause-loads g c =
+    let inputs = c.args.inputs.now in
+    let schema = c.in_ok-schema.schema in
+    let lines = c.in_ok-ptable.ptable in
+    let setup : SetupValue = record { schema = schema; lines = lines; threshold = inputs.threshold } in
+    let same : c.in_ok-release.release.records ≡ c.in_ok-people.people = ap (λ r. r.records) (c.in_ok-release.ensures setup) in
+    census-steps census_value inputs schema lines _ refl refl refl refl refl refl c.in_ok-schema.ensures.loads c.in_ok-ptable.ensures.loads
+    (Loads-ends (λ people. people) census_value (people_in schema)
+    (λ contents records. Ok (census_with inputs schema lines records)) c.in_ok-people.people _
+    (λ contents. ap (λ (rs : List Record). Ok (census_with inputs schema lines rs)) (sym same)) c.in_ok-people.ensures.loads)
+
+pub returns-clause-first : goal.returns-clause-first
+returns-clause-first g c =
+    let setup : SetupValue = record {
+      schema = c.in_ok-schema.schema;
+      lines = c.in_ok-ptable.ptable;
+      threshold =
+          c.args.inputs.now.threshold;
+    } in
+    let first = c.in_ok-release.ensures setup in
+    let same : c.in_ok-release.release.records ≡ c.in_ok-people.people = ap (λ r. r.records) first in
+    (first ∙ ap (λ (rs : List Record). first_release setup rs) (sym same), rw same c.in_ok-people.ensures.fit)

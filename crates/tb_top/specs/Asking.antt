@@ -1,0 +1,175 @@
+-- What the arguments and the files ask for: a task over a census; or why the run ends before it
+-- begins.
+use Rattle.std.specs.Prelude.{◌==◌, ℕ, Bool, true, false, List, [], ◌∷◌, length, Option, Some, None, Result, Ok, Err, ok_or, nat_lt, if◌then◌else◌}
+use Rattle.tb_base.specs.declared.records.Record.{Record}
+use Rattle.tb_model.specs.declared.names.PerturbationLine.{PerturbationLine}
+use Rattle.tb_model.specs.Schemas.{SchemaValue}
+use Rattle.tb_model.specs.Setups.{SetupValue}
+use Rattle.tb_ptable.specs.Kinds.{fault_name as ptable_name}
+use Rattle.tb_ptable.specs.Lines.{perturbation_of}
+use Rattle.tb_records.specs.Kinds.{fault_name as people_name}
+use Rattle.tb_records.specs.People.{people_of}
+use Rattle.tb_rows.specs.FaultNames.{FaultNameValue}
+use Rattle.tb_rows.specs.declared.fault.Fault.{Fault}
+use Rattle.tb_rows.specs.declared.fault.Fault.TheVariants as fault
+use Rattle.tb_schema.specs.Kinds.{fault_name as schema_name}
+use Rattle.tb_schema.specs.Recodes.{schema_of}
+use Rattle.tb_schema.specs.declared.fault.ClassFile.{ClassFile}
+use Rattle.tb_schema.specs.declared.fault.ClassFile.TheVariants as class_file
+use Rattle.tb_schema.specs.declared.fault.SchemaFault.{SchemaFault}
+use Rattle.tb_schema.specs.declared.fault.SchemaFault.TheVariants as schema_fault
+use Rattle.tb_script.specs.Scripts.{ScriptValue, script_of}
+use Rattle.tb_top.specs.declared.endings.Input.{Input}
+use Rattle.tb_top.specs.declared.endings.Input.TheVariants as input
+use Rattle.tb_top.specs.declared.endings.End.{End}
+use Rattle.tb_top.specs.declared.endings.End.TheVariants as end
+use Rattle.tb_top.specs.declared.load.TheConstants.{MOST_BYTES}
+use Rattle.tb_script.specs.declared.limits.TheConstants.{MOST_SCRIPT_BYTES}
+use Rattle.tb_top.specs.declared.command.Command.{Command}
+use Rattle.tb_top.specs.declared.command.Command.TheVariants as command
+use Rattle.tb_top.specs.declared.command.Inputs.{Inputs}
+use Rattle.tb_top.specs.Commands.{NamedFile, command_of, files_of}
+use Rattle.tb_top.specs.ServicePorts.{Service}
+
+-- what the files hold: the bytes of each, where it is there
+abbrev pub Contents : Type 0
+Contents = Input → Option (List ℕ)
+
+-- one step after another, of which the first that ends the run decides
+infixl 10 ◌>>=◌
+abbrev pub ◌>>=◌ : {A B : Type 0} → Result A End → (A → Result B End) → Result B End
+(Ok x) >>= next = next x
+(Err e) >>= next = Err e
+
+-- the most bytes that a file may have
+abbrev pub most_bytes : Input → ℕ
+most_bytes input.Classes = MOST_BYTES
+most_bytes input.Recodes = MOST_BYTES
+most_bytes input.Ptable = MOST_BYTES
+most_bytes input.People = MOST_BYTES
+most_bytes input.Script = MOST_SCRIPT_BYTES
+
+-- the bytes of a file, which may not be there or be too long
+abbrev pub bytes_in : Input → Option (List ℕ) → Result (List ℕ) End
+bytes_in file None = Err (end.Unread file)
+bytes_in file (Some bytes) =
+    if nat_lt (most_bytes file) (length bytes) then Err (end.TooLong file) else Ok bytes
+
+-- the end for a file that its reader refuses, by the names of its kinds of fault
+abbrev pub file_end : {K : Type 0} → Input → (K → FaultNameValue) → Fault K → End
+file_end file name_of (fault.Refused kind at) = end.Refused file (name_of kind) at
+file_end file name_of fault.Memory = end.Memory
+
+-- which file a fault of the schema is in
+abbrev pub input_of : ClassFile → Input
+input_of class_file.Classes = input.Classes
+input_of class_file.Recodes = input.Recodes
+
+-- the end for a classification or recodes that are refused
+abbrev pub schema_end : SchemaFault → End
+schema_end (schema_fault.Refused file kind at) = end.Refused (input_of file) (schema_name kind) at
+schema_end schema_fault.Memory = end.Memory
+
+-- what a reader gives, or the end for what it refuses
+abbrev pub or_end : {A E : Type 0} → (E → End) → Result A E → Result A End
+or_end ending (Ok x) = Ok x
+or_end ending (Err e) = Err (ending e)
+
+-- the bytes of the recodes, where the command names them
+abbrev pub recodes_in : Option (List ℕ) → Contents → Result (Option (List ℕ)) End
+recodes_in None contents = Ok None
+recodes_in (Some name) contents =
+    bytes_in input.Recodes (contents input.Recodes) >>= (λ bytes. Ok (Some bytes))
+
+-- the classification and the recodes are both read before either is checked
+abbrev pub schema_in : Option (List ℕ) → Contents → Result SchemaValue End
+schema_in recodes contents =
+    bytes_in input.Classes (contents input.Classes) >>= (λ classes.
+    recodes_in recodes contents >>= (λ recodes.
+    or_end schema_end (schema_of classes recodes)))
+
+-- each other file is checked before the next is read
+abbrev pub perturbation_in : Contents → Result (List PerturbationLine) End
+perturbation_in contents =
+    bytes_in input.Ptable (contents input.Ptable) >>= (λ bytes.
+    or_end (file_end input.Ptable ptable_name) (perturbation_of bytes))
+
+abbrev pub people_in : SchemaValue → Contents → Result (List Record) End
+people_in schema contents =
+    bytes_in input.People (contents input.People) >>= (λ bytes.
+    or_end (file_end input.People people_name) (people_of schema bytes))
+
+abbrev pub script_in : Contents → Result ScriptValue End
+script_in contents =
+    bytes_in input.Script (contents input.Script) >>= (λ bytes.
+    or_end end.BadLine (script_of bytes))
+
+-- a census: the setup and the microdata's records
+pub record CensusValue : Type 0 where
+  pub setup : SetupValue
+  pub records : List Record
+
+-- what the files of inputs hold
+abbrev pub census_in : Inputs → Contents → Result CensusValue End
+census_in inputs contents =
+    schema_in inputs.recodes contents >>= (λ schema.
+    perturbation_in contents >>= (λ lines.
+    people_in schema contents >>= (λ records.
+    Ok (record {
+      setup = record { schema = schema; lines = lines; threshold = inputs.threshold };
+      records = records;
+    }))))
+
+-- what is asked for over a census: replies to the lines of a script, or sessions
+pub data AskedValue : Type 0 where
+  Script : CensusValue → ScriptValue → AskedValue
+  Serve : CensusValue → Service → AskedValue
+
+-- whether it is sessions
+abbrev pub is_service : AskedValue → Bool
+is_service (Script census script) = false
+is_service (Serve census service) = true
+
+-- what a command asks for over what its files hold
+abbrev pub asked_over : Command → Contents → Result AskedValue End
+asked_over (command.Script inputs name) contents =
+    census_in inputs contents >>= (λ census.
+    script_in contents >>= (λ script. Ok (Script census script)))
+asked_over (command.Serve inputs service) contents =
+    census_in inputs contents >>= (λ census. Ok (Serve census service))
+
+-- the place of a file in the order of reading
+abbrev pub input_place : Input → ℕ
+input_place input.Classes = 0
+input_place input.Recodes = 1
+input_place input.Ptable = 2
+input_place input.People = 3
+input_place input.Script = 4
+
+-- what these files hold, where `at` tells what stands under a name
+abbrev pub contents_at : (List ℕ → Option (List ℕ)) → List NamedFile → Contents
+contents_at at [] other = None
+contents_at at (file ∷ files) other =
+    if input_place file.input == input_place other then at file.name else contents_at at files other
+
+-- the same contents, but for one file that isn't there
+abbrev pub without : Input → Contents → Contents
+without file contents other = if input_place file == input_place other then None else contents other
+
+-- the contents for which a run ends so: where a file couldn't be read, those without it
+abbrev pub contents_for : End → Contents → Contents
+contents_for (end.Unread file) contents = without file contents
+contents_for end.Usage contents = contents
+contents_for (end.TooLong file) contents = contents
+contents_for (end.Refused file name at) contents = contents
+contents_for (end.BadLine at) contents = contents
+contents_for end.Memory contents = contents
+
+-- what the arguments ask for over these contents
+abbrev pub asked_by : (Command → Contents) → List (List ℕ) → Result AskedValue End
+asked_by contents words =
+    ok_or (command_of words) end.Usage >>= (λ c. asked_over c (contents c))
+
+-- what the arguments and the files ask for
+abbrev pub asked_of : (List ℕ → Option (List ℕ)) → List (List ℕ) → Result AskedValue End
+asked_of at words = asked_by (λ c. contents_at at (files_of c)) words

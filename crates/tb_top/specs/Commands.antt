@@ -1,0 +1,118 @@
+-- The arguments of the command line: a command is one of several, each with its inputs and a task.
+use Rattle.std.specs.Prelude.{ℕ, ◌==◌, ◌&&◌, ◌||◌, Bool, true, false, not, List, [], ◌∷◌, ◌++◌, length, get_or, Option, Some, None, option_map, option_and_then, bytes_eq, codes, if◌then◌else◌}
+use Rattle.std.specs.Option.{option_or}
+use Rattle.tb_top.specs.declared.command.Command.{Command}
+use Rattle.tb_top.specs.declared.command.Command.TheVariants as command
+use Rattle.tb_top.specs.declared.command.Inputs.{Inputs}
+use Rattle.tb_top.specs.declared.command.TheConstants.{MOST_THRESHOLD}
+use Rattle.tb_top.specs.Numbers.{number_within}
+use Rattle.tb_top.specs.ServicePorts.{service_named}
+use Rattle.tb_top.specs.declared.endings.Input.{Input}
+use Rattle.tb_top.specs.declared.endings.Input.TheVariants as input
+
+-- whether an argument is a file's name: it isn't empty and doesn't begin with a minus sign
+abbrev pub is_file_name : List ℕ → Bool
+is_file_name [] = false
+is_file_name (c ∷ name) = not (c == 45)
+
+-- whether an argument may stand for the recodes: a file's name, or `-` for none
+abbrev pub may_name_recodes : List ℕ → Bool
+may_name_recodes word = bytes_eq word (codes "-") || is_file_name word
+
+abbrev pub recodes_name : List ℕ → Option (List ℕ)
+recodes_name word = if bytes_eq word (codes "-") then None else Some word
+
+-- a threshold is a number up to a million
+abbrev pub threshold_in : List ℕ → Option ℕ
+threshold_in = number_within 0 MOST_THRESHOLD
+
+-- the inputs that five arguments name, `CLASSES RECODES PTABLE PEOPLE THRESHOLD`
+abbrev pub inputs_with : (classes recodes ptable people : List ℕ) → ℕ → Inputs
+inputs_with classes recodes ptable people threshold = record {
+  classes = classes;
+  recodes = recodes_name recodes;
+  ptable = ptable;
+  people = people;
+  threshold = threshold;
+}
+
+abbrev pub inputs_named : (classes recodes ptable people threshold : List ℕ) → Option Inputs
+inputs_named classes recodes ptable people threshold =
+    if is_file_name classes && may_name_recodes recodes && is_file_name ptable
+    && is_file_name people
+    then option_map (inputs_with classes recodes ptable people) (threshold_in threshold) else None
+
+-- a command of the inputs and the task's argument, the script's name
+abbrev pub script_named : (classes recodes ptable people threshold script : List ℕ) → Option Command
+script_named classes recodes ptable people threshold script =
+    if is_file_name script
+    then option_map (λ inputs. command.Script inputs script)
+    (inputs_named classes recodes ptable people threshold)
+    else None
+
+-- a command of the inputs and the service
+abbrev pub serve_named : (classes recodes ptable people threshold port workers sessions : List ℕ)
+    → Option Command
+serve_named classes recodes ptable people threshold port workers sessions =
+    option_and_then (λ inputs.
+    option_map (command.Serve inputs) (service_named port workers sessions))
+    (inputs_named classes recodes ptable people threshold)
+
+-- the argument at a place
+abbrev pub word_at : List (List ℕ) → ℕ → List ℕ
+word_at words i = get_or words i []
+
+-- what `script CLASSES RECODES PTABLE PEOPLE THRESHOLD SCRIPT` asks for
+abbrev pub script_words : List (List ℕ) → Option Command
+script_words words =
+    if (length words == 7) && bytes_eq (word_at words 0) (codes "script")
+    then script_named (word_at words 1) (word_at words 2) (word_at words 3) (word_at words 4)
+    (word_at words 5) (word_at words 6)
+    else None
+
+-- what `serve CLASSES RECODES PTABLE PEOPLE THRESHOLD PORT WORKERS SESSIONS` asks for
+abbrev pub serve_words : List (List ℕ) → Option Command
+serve_words words =
+    if (length words == 9) && bytes_eq (word_at words 0) (codes "serve")
+    then serve_named (word_at words 1) (word_at words 2) (word_at words 3) (word_at words 4)
+    (word_at words 5) (word_at words 6) (word_at words 7) (word_at words 8)
+    else None
+
+-- what the arguments ask for; others than those of a command ask for nothing
+abbrev pub command_of : List (List ℕ) → Option Command
+command_of words = option_or (script_words words) (serve_words words)
+
+-- an input and the name of its file
+pub record NamedFile : Type 0 where
+  pub input : Input
+  pub name : List ℕ
+
+abbrev pub named : Input → List ℕ → NamedFile
+named i n = record { input = i; name = n }
+
+-- the recodes, where they are named
+abbrev pub recodes_files : Option (List ℕ) → List NamedFile
+recodes_files None = []
+recodes_files (Some name) = named input.Recodes name ∷ []
+
+-- the files of a classification and its recodes, in the order in which they are read
+abbrev pub class_files : Inputs → List NamedFile
+class_files inputs = (named input.Classes inputs.classes ∷ []) ++ recodes_files inputs.recodes
+
+-- those of all inputs
+abbrev pub input_files : Inputs → List NamedFile
+input_files inputs =
+    class_files inputs
+    ++ (named input.Ptable inputs.ptable ∷ named input.People inputs.people ∷ [])
+
+-- the files of a command, in the order in which they are read: those of its inputs, then its task's
+abbrev pub files_of : Command → List NamedFile
+files_of (command.Script inputs script) =
+    input_files inputs ++ (named input.Script script ∷ [])
+files_of (command.Serve inputs service) = input_files inputs
+
+-- whether sessions are asked for
+abbrev pub asks_to_serve : Option Command → Bool
+asks_to_serve (Some (command.Serve inputs service)) = true
+asks_to_serve (Some (command.Script inputs script)) = false
+asks_to_serve None = false

@@ -1,0 +1,58 @@
+-- How a run ends before its task begins.
+use Rattle.std.specs.Prelude.{◌≡◌, ◌⊎◌, ℕ, List, ◌++◌, Option, codes, decimal}
+use Rattle.tb_base.specs.declared.status.Status.{Status}
+use Rattle.tb_base.specs.declared.status.Status.TheVariants as status
+use Rattle.tb_io.specs.Faults.{HasRisen}
+use Rattle.tb_io.specs.Taken.{Took, TookPart}
+use Rattle.tb_rows.specs.FaultNames.{FaultNameValue}
+use Rattle.tb_top.specs.declared.endings.Input.{Input}
+use Rattle.tb_top.specs.declared.endings.Input.TheVariants as input
+use Rattle.tb_top.specs.declared.endings.End.{End}
+use Rattle.tb_top.specs.declared.endings.End.TheVariants as end
+
+-- the name of a file in a last line
+abbrev pub input_name : Input → List ℕ
+input_name input.Classes = codes "classes"
+input_name input.Recodes = codes "recodes"
+input_name input.Ptable = codes "ptable"
+input_name input.People = codes "people"
+input_name input.Script = codes "script"
+
+-- the status for a file that is too long or refused
+abbrev pub input_status : Input → Status
+input_status input.Classes = status.Schema
+input_status input.Recodes = status.Schema
+input_status input.Ptable = status.Perturbation
+input_status input.People = status.Microdata
+input_status input.Script = status.Script
+
+-- the status with which a run ends
+abbrev pub status_of : End → Status
+status_of end.Usage = status.Usage
+status_of (end.TooLong file) = input_status file
+status_of (end.Unread file) = status.ReadFault
+status_of (end.Refused file name at) = input_status file
+status_of (end.BadLine at) = status.Script
+status_of end.Memory = status.Memory
+
+-- the line for a file that is refused: the file, the number and the word of its first fault, and
+-- the number of the record
+abbrev pub refusal_line : Input → FaultNameValue → ℕ → List ℕ
+refusal_line file name at =
+    codes "fault " ++ input_name file ++ codes " " ++ decimal name.number ++ codes " " ++ name.word
+    ++ codes " " ++ decimal at ++ codes "\n"
+
+-- the last line
+abbrev pub last_line : End → List ℕ
+last_line end.Usage = codes "fault usage\n"
+last_line (end.TooLong file) = codes "fault " ++ input_name file ++ codes " TooLong\n"
+last_line (end.Unread file) = codes "fault read " ++ input_name file ++ codes "\n"
+last_line (end.Refused file name at) = refusal_line file name at
+last_line (end.BadLine at) = codes "fault script " ++ decimal at ++ codes "\n"
+last_line end.Memory = codes "fault memory\n"
+
+-- a run ended so: its last line was taken, or, where a write failed, a beginning of it
+abbrev pub IsEnded : End → Status → (faults faults' : ℕ) → (taken taken' : Option (List ℕ)) → Type 0
+IsEnded e s faults faults' taken taken' =
+    ((s ≡ status_of e) × Took taken taken' (last_line e))
+    ⊎ ((s ≡ status.WriteFault) × HasRisen faults faults' × TookPart taken taken' (last_line e))

@@ -1,0 +1,86 @@
+-- How a step that reads some of a run's files may go.
+use Rattle.std.specs.Prelude.{◌≡◌, ◌≢◌, ◌≤◌, ℕ, List, [], ◌∷◌, IfSome, Option, Result, Ok, Err, length}
+use Rattle.tb_base.specs.Records.{AllFit}
+use Rattle.tb_io.specs.Faults.{HasRisen}
+use Rattle.tb_model.specs.Releases.{first_release}
+use Rattle.tb_model.specs.Schemas.{shape_of}
+use Rattle.tb_top.specs.declared.endings.Input.{Input}
+use Rattle.tb_top.specs.declared.endings.End.{End}
+use Rattle.tb_top.specs.declared.endings.End.TheVariants as end
+use Rattle.tb_top.specs.declared.load.Asked.{Asked}
+use Rattle.tb_top.specs.declared.load.Asked.TheVariants as asked
+use Rattle.tb_top.specs.declared.load.Census.{Census}
+use Rattle.tb_top.specs.Asking.{AskedValue, CensusValue, Contents, Script, Serve, contents_for, input_place}
+use Rattle.tb_top.specs.Calls.{IsReadTo, readings_more}
+use Rattle.tb_top.specs.Commands.{NamedFile}
+
+-- what a step saw of the files: what stands under each name, the count of faults, and how many
+-- readings there were, before and after
+pub record Reading : Type 0 where
+  pub content : Option (List ℕ → Option (List ℕ))
+  pub content_after : Option (List ℕ → Option (List ℕ))
+  pub faults : ℕ
+  pub faults_after : ℕ
+  pub readings : Option ℕ
+  pub readings_after : Option ℕ
+
+-- the same of files by their ghost members, before and after a step
+abbrev pub reading : {F : Type 0} → (F → Option (List ℕ → Option (List ℕ))) → (F → ℕ)
+    → (F → Option ℕ) → F → F → Reading
+reading content faults readings files files' = record {
+  content = content files;
+  content_after = content files';
+  faults = faults files;
+  faults_after = faults files';
+  readings = readings files;
+  readings_after = readings files';
+}
+
+-- the contents hold what stands under the names of these files
+abbrev pub Hold : (List ℕ → Option (List ℕ)) → List NamedFile → Contents → Type 0
+Hold at [] contents = Unit {0}
+Hold at (file ∷ files) contents =
+    (contents file.input ≡ at file.name) × Hold at files contents
+
+-- what a step gives, seen by `view`, is what is defined over the contents; so is an end other than
+-- Memory, over the contents without the file that couldn't be read
+abbrev pub Gives : {A B : Type 0} → (A → B) → (Contents → Result B End) → Contents → Result A End
+    → Type 0
+Gives view defined contents (Ok x) = defined contents ≡ Ok (view x)
+Gives view defined contents (Err e) = e ≢ end.Memory → defined (contents_for e contents) ≡ Err e
+
+-- a step over these files, all of which have that place or a later one
+pub record Loads {A B : Type 0} (saw : Reading) (place : ℕ) (files : List NamedFile) (view : A → B)
+    (defined : Contents → Result B End) (result : Result A End) : Type 0 where
+  pub usage : result ≢ Err end.Usage
+  pub count : saw.faults ≤ saw.faults_after
+  pub same : saw.content_after ≡ saw.content
+  pub gives : IfSome saw.content (λ at.
+      (contents : Contents) → Hold at files contents → Gives view defined contents result)
+  -- it ends at a reading only where that failed, which was the last, at a file of the step
+  pub risen : (file : Input) → result ≡ Err (end.Unread file) → HasRisen saw.faults saw.faults_after
+  pub within : (file : Input) → result ≡ Err (end.Unread file) → place ≤ input_place file
+  pub last : (file : Input) → result ≡ Err (end.Unread file)
+      → IsReadTo files file saw.readings saw.readings_after
+  -- else each of its files was read once
+  pub all : (x : A) → result ≡ Ok x
+      → saw.readings_after ≡ readings_more (length files) saw.readings
+
+-- a census and what is asked for over it, as the definitions see them
+abbrev pub census_value : Census → CensusValue
+census_value c = record { setup = c.setup; records = c.release.records }
+
+abbrev pub asked_value : Asked → AskedValue
+asked_value (asked.Script census script) = Script (census_value census) script
+asked_value (asked.Serve census service) = Serve (census_value census) service
+
+-- a census begins at release 0 of its records, which fit its schema
+abbrev pub IsFirst : Census → Type 0
+IsFirst c =
+    (c.release ≡ first_release c.setup c.release.records)
+    × AllFit (shape_of c.setup.schema) c.release.records
+
+-- so does what is asked for
+abbrev pub AskedIsFirst : Asked → Type 0
+AskedIsFirst (asked.Script census script) = IsFirst census
+AskedIsFirst (asked.Serve census service) = IsFirst census

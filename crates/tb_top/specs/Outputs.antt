@@ -1,0 +1,56 @@
+-- The outputs of what is asked for.
+use Rattle.std.specs.Prelude.{◌≡◌, ◌⊎◌, ◌+◌, ◌≤◌, ℕ, List, [], Option}
+use Rattle.tb_base.specs.declared.status.Status.{Status}
+use Rattle.tb_base.specs.declared.status.Status.TheVariants as status
+use Rattle.tb_io.specs.Faults.{HasRisen}
+use Rattle.tb_io.specs.Taken.{Took, TookPart}
+use Rattle.tb_model.specs.Releases.{first_release}
+use Rattle.tb_script.specs.Runs.{IsLaneReply}
+use Rattle.tb_serve.specs.Ports.{PortValue}
+use Rattle.tb_session.specs.Outputs.{AreReplies, ReplyValue, price_of, text_of}
+use Rattle.tb_top.specs.declared.endings.End.TheVariants as end
+use Rattle.tb_top.specs.Asking.{AskedValue, Script, Serve}
+use Rattle.tb_top.specs.Endings.{IsEnded}
+use Rattle.tb_top.specs.Services.{IsServiceAnswered, IsServiceOutput}
+
+-- these are replies to the script's lines, from release 0 of the microdata on; sessions get theirs
+-- elsewhere
+abbrev pub AreAnswers : AskedValue → List ReplyValue → Type 0
+AreAnswers (Script census script) replies =
+    AreReplies (IsLaneReply census.setup (first_release census.setup census.records))
+    (record { chain = []; held = [] }) script.lines replies
+AreAnswers (Serve census service) replies = ⊥
+
+-- a text is the output of a run with this status over these ports: that of such replies, or what a
+-- service writes
+abbrev pub IsOutput : AskedValue → (ports ports' : List PortValue) → Status → List ℕ → Type 0
+IsOutput (Script census script) ports ports' s text =
+    (s ≡ status.Done)
+    × ((replies : List ReplyValue) × AreAnswers (Script census script) replies
+    × (text ≡ text_of replies))
+IsOutput (Serve census service) ports ports' s text =
+    IsServiceOutput census service ports ports' s text
+
+-- A script was answered: all replies were taken, or, where a write failed, a beginning of them, and
+-- the counter of steps rose by no more than their price. Or memory ran out before the first line.
+abbrev pub IsScriptAnswered : AskedValue → Status → (faults faults' : ℕ)
+    → (taken taken' : Option (List ℕ)) → (steps steps' : ℕ) → Type 0
+IsScriptAnswered asked s faults faults' taken taken' steps steps' =
+    ((s ≡ status.Done)
+    × ((replies : List ReplyValue) × AreAnswers asked replies
+    × Took taken taken' (text_of replies) × (steps' ≤ steps + price_of replies)))
+    ⊎ (((s ≡ status.WriteFault) × HasRisen faults faults'
+    × ((replies : List ReplyValue) × AreAnswers asked replies
+    × TookPart taken taken' (text_of replies) × (steps' ≤ steps + price_of replies)))
+    ⊎ ((steps' ≡ steps) × IsEnded end.Memory s faults faults' taken taken'))
+
+-- What is asked for was answered, over these ports. A script touches none, and what a service costs
+-- is counted elsewhere.
+abbrev pub IsAnswered : AskedValue → (ports ports' : List PortValue) → Status
+    → (faults faults' : ℕ) → (taken taken' : Option (List ℕ)) → (steps steps' : ℕ) → Type 0
+IsAnswered (Script census script) ports ports' s faults faults' taken taken' steps steps' =
+    (ports' ≡ ports)
+    × IsScriptAnswered (Script census script) s faults faults' taken taken' steps steps'
+IsAnswered (Serve census service) ports ports' s faults faults' taken taken' steps steps' =
+    (steps' ≡ steps)
+    × IsServiceAnswered census service ports ports' s faults faults' taken taken'

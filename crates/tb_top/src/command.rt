@@ -1,0 +1,237 @@
+// The arguments of the command line.
+
+ghost use Rattle.std.specs.Prelude.{◌≡◌, None, Some, if◌then◌else◌, map, string_bytes};
+ghost use Rattle.tb_top.specs.Commands.{command_of, inputs_named, is_file_name as names_a_file};
+ghost use Rattle.tb_top.specs.Commands.{may_name_recodes};
+ghost use Rattle.tb_top.specs.Commands.{recodes_name as name_of_recodes, script_named};
+ghost use Rattle.tb_top.specs.Commands.{script_words, serve_named, serve_words};
+
+use crate::numbers::read_within;
+use crate::service::{Service, read_service};
+use std::marker::Model;
+
+/// The greatest threshold.
+pub const MOST_THRESHOLD: u32 = 1_000_000;
+
+/// The name of a file.
+#[derive(Drop)]
+pub struct FileName<'a> {
+    text: &'a str,
+}
+
+impl<'a> Model for FileName<'a> {
+    ghost use Rattle.std.specs.Prelude.{ℕ, List};
+
+    ghost Value = { List ℕ };
+
+    ghost view = { λ n. n.text.now };
+}
+
+/// What a command reads before its task: the names of four files, and the threshold. There may be
+/// no recodes.
+#[derive(Drop)]
+pub struct Inputs<'a> {
+    pub classes: FileName<'a>,
+    pub recodes: Option<FileName<'a>>,
+    pub ptable: FileName<'a>,
+    pub people: FileName<'a>,
+    pub threshold: u32,
+}
+
+/// A command: one of several, each with its inputs and its task. `Script` answers the lines of the
+/// script of that name; `Serve` serves sessions.
+#[derive(Drop)]
+pub enum Command<'a> {
+    Script {
+        inputs: Inputs<'a>,
+        script: FileName<'a>,
+    },
+    Serve {
+        inputs: Inputs<'a>,
+        service: Service,
+    },
+}
+
+impl<'a> FileName<'a> {
+    // The file of that name.
+    fn of(text: &'a str) -> FileName<'a>
+        ensures { result ≡ text.now }
+    {
+        FileName { text }
+    }
+
+    /// The name's text.
+    pub fn as_str(&self) -> &'a str
+        ensures { result.now ≡ self.now }
+    {
+        self.text
+    }
+}
+
+// Whether an argument may be a file's name.
+fn is_file_name(word: &str) -> bool
+    ensures { result ≡ names_a_file word.now }
+{
+    match word.as_bytes() {
+        [] => false,
+        [first, ..] => *first != b'-',
+    }
+}
+
+// Whether an argument may stand for the recodes.
+fn may_be_recodes(word: &str) -> bool
+    ensures { result ≡ may_name_recodes word.now }
+{
+    word == "-" || is_file_name(word)
+}
+
+// The name of the recodes, if there are any.
+fn recodes_name(word: &str) -> Option<FileName<'_>>
+    ensures { result ≡ name_of_recodes word.now }
+{
+    if word == "-" {
+        None
+    } else {
+        Some(FileName::of(word))
+    }
+}
+
+// The inputs that the arguments `CLASSES RECODES PTABLE PEOPLE THRESHOLD` name, RECODES being a
+// file's name or `-`.
+fn read_inputs<'a>(
+    classes: &'a str,
+    recodes: &'a str,
+    ptable: &'a str,
+    people: &'a str,
+    threshold: &str,
+) -> Option<Inputs<'a>>
+    ensures { result
+        ≡ inputs_named classes.now recodes.now ptable.now people.now threshold.now }
+{
+    if !is_file_name(classes) || !may_be_recodes(recodes) {
+        return None;
+    }
+    if !is_file_name(ptable) || !is_file_name(people) {
+        return None;
+    }
+    Some(Inputs {
+        classes: FileName::of(classes),
+        recodes: recodes_name(recodes),
+        ptable: FileName::of(ptable),
+        people: FileName::of(people),
+        threshold: read_within(0, MOST_THRESHOLD, threshold)?,
+    })
+}
+
+// The command `script` with the arguments after it.
+fn read_script<'a>(
+    classes: &'a str,
+    recodes: &'a str,
+    ptable: &'a str,
+    people: &'a str,
+    threshold: &str,
+    script: &'a str,
+) -> Option<Command<'a>>
+    ensures { result
+        ≡ script_named classes.now recodes.now ptable.now people.now threshold.now script.now }
+{
+    if !is_file_name(script) {
+        return None;
+    }
+    match read_inputs(classes, recodes, ptable, people, threshold) {
+        Some(inputs) => Some(Command::Script {
+            inputs,
+            script: FileName::of(script),
+        }),
+        None => None,
+    }
+}
+
+// The command that the arguments `CLASSES RECODES PTABLE PEOPLE THRESHOLD PORT WORKERS SESSIONS`
+// name.
+fn read_serve<'a>(
+    classes: &'a str,
+    recodes: &'a str,
+    ptable: &'a str,
+    people: &'a str,
+    threshold: &str,
+    port: &str,
+    workers: &str,
+    sessions: &str,
+) -> Option<Command<'a>>
+    ensures { result ≡ serve_named classes.now recodes.now ptable.now people.now threshold.now
+        port.now workers.now sessions.now }
+{
+    match read_inputs(classes, recodes, ptable, people, threshold) {
+        Some(inputs) => match read_service(port, workers, sessions) {
+            Some(service) => Some(Command::Serve { inputs, service }),
+            None => None,
+        },
+        None => None,
+    }
+}
+
+// What the arguments `script CLASSES RECODES PTABLE PEOPLE THRESHOLD SCRIPT` ask for.
+fn read_script_words(words: &[String]) -> Option<Command<'_>>
+    ensures { result ≡ script_words (map string_bytes words.now) }
+{
+    let [command, classes, recodes, ptable, people, threshold, script] = words else {
+        return None;
+    };
+    if command.as_str() != "script" {
+        return None;
+    }
+    read_script(
+        classes.as_str(),
+        recodes.as_str(),
+        ptable.as_str(),
+        people.as_str(),
+        threshold.as_str(),
+        script.as_str(),
+    )
+}
+
+// What the arguments `serve CLASSES RECODES PTABLE PEOPLE THRESHOLD PORT WORKERS SESSIONS` ask for.
+fn read_serve_words(words: &[String]) -> Option<Command<'_>>
+    ensures { result ≡ serve_words (map string_bytes words.now) }
+{
+    let [
+        command,
+        classes,
+        recodes,
+        ptable,
+        people,
+        threshold,
+        port,
+        workers,
+        sessions,
+    ] = words
+    else {
+        return None;
+    };
+    if command.as_str() != "serve" {
+        return None;
+    }
+    read_serve(
+        classes.as_str(),
+        recodes.as_str(),
+        ptable.as_str(),
+        people.as_str(),
+        threshold.as_str(),
+        port.as_str(),
+        workers.as_str(),
+        sessions.as_str(),
+    )
+}
+
+/// What the arguments ask for: `script CLASSES RECODES PTABLE PEOPLE THRESHOLD SCRIPT`, or `serve
+/// CLASSES RECODES PTABLE PEOPLE THRESHOLD PORT WORKERS SESSIONS`, RECODES being a file's name or
+/// `-`. None at all other arguments.
+pub fn read_command(words: &[String]) -> Option<Command<'_>>
+    ensures { result ≡ command_of (map string_bytes words.now) }
+{
+    match read_script_words(words) {
+        Some(command) => Some(command),
+        None => read_serve_words(words),
+    }
+}

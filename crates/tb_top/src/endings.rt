@@ -1,0 +1,192 @@
+// How a run ends before the first line of its script, and the last line that it then writes.
+
+ghost use Rattle.std.specs.Prelude.{◌≡◌};
+ghost use Rattle.tb_io.specs.Taken.{IsWritten};
+ghost use Rattle.tb_top.specs.Asking.{file_end, input_of as input_of_file};
+ghost use Rattle.tb_top.specs.Endings.{input_name, input_status, last_line, refusal_line, status_of};
+ghost use Rattle.tb_top.specs.declared.endings.End.TheVariants as end;
+
+use std::alloc::AllocFailed;
+use tb_base::{Memory, Status, print_number};
+use tb_io::{Sink, Wrote, write_all};
+use tb_rows::{Fault, FaultKind, FaultName};
+use tb_schema::{ClassFile, SchemaFault};
+
+/// The files of a run, in the order in which they are read.
+#[derive(Clone, Copy, Debug, PartialEq, Eq)]
+pub enum Input {
+    Classes,
+    Recodes,
+    Ptable,
+    People,
+    Script,
+}
+
+/// Why a run ends before the first line of its script: the arguments, a file that is too long, that
+/// couldn't be read or that is refused for its first fault, a line of the script that is none, or
+/// that memory ran out.
+#[derive(Debug, Drop)]
+pub enum End {
+    Usage,
+    TooLong(Input),
+    Unread(Input),
+    Refused {
+        file: Input,
+        name: FaultName,
+        at: u32,
+    },
+    BadLine(u32),
+    Memory,
+}
+
+impl From<Memory> for End {
+    ghost from_gives = { λ _ e. e ≡ end.Memory };
+
+    fn from(_e: Memory) -> End {
+        End::Memory
+    }
+}
+
+impl<T: Drop> From<AllocFailed<T>> for End {
+    ghost from_gives = { λ _ e. e ≡ end.Memory };
+
+    fn from(_e: AllocFailed<T>) -> End {
+        End::Memory
+    }
+}
+
+impl From<SchemaFault> for End {
+    ghost use Rattle.std.specs.Prelude.{◌≡◌};
+    ghost use Rattle.tb_top.specs.Asking.{schema_end};
+
+    ghost from_gives = { λ fault e. e ≡ schema_end fault };
+
+    fn from(fault: SchemaFault) -> End {
+        match fault {
+            SchemaFault::Refused { file, kind, at } => End::Refused {
+                file: input_of(file),
+                name: kind.name(),
+                at,
+            },
+            SchemaFault::Memory => End::Memory,
+        }
+    }
+}
+
+fn input_of(file: ClassFile) -> Input
+    ensures { result ≡ input_of_file file }
+{
+    match file {
+        ClassFile::Classes => Input::Classes,
+        ClassFile::Recodes => Input::Recodes,
+    }
+}
+
+impl End {
+    /// The end for a file that its reader refuses.
+    pub fn of<K: FaultKind + Drop>(file: Input, fault: Fault<K>) -> End
+        ensures { result ≡ file_end file K.name_of fault }
+    {
+        match fault {
+            Fault::Refused { kind, at } => End::Refused {
+                file,
+                name: kind.name(),
+                at,
+            },
+            Fault::Memory => End::Memory,
+        }
+    }
+
+    /// The status with which the run ends.
+    pub fn status(&self) -> Status
+        ensures { result ≡ status_of self.now }
+    {
+        match self {
+            End::Usage => Status::Usage,
+            End::TooLong(file) => file.status(),
+            End::Unread(_) => Status::ReadFault,
+            End::Refused {
+                file,
+                name: _,
+                at: _,
+            } => file.status(),
+            End::BadLine(_) => Status::Script,
+            End::Memory => Status::Memory,
+        }
+    }
+
+    /// Writes the last line of the run. It takes no memory.
+    pub fn write_last_line<O: Sink>(&self, out: &mut O) -> Wrote
+        ensures written { IsWritten result (O.faults out.old) (O.faults out.new)
+            (O.taken out.old) (O.taken out.new) (last_line self.now) }
+    {
+        match self {
+            End::Usage => out.write(b"fault usage\n"),
+            End::TooLong(file) => {
+                write_all(out, &[b"fault ", file.name().as_bytes(), b" TooLong\n"])
+            }
+            End::Unread(file) => {
+                write_all(out, &[b"fault read ", file.name().as_bytes(), b"\n"])
+            }
+            End::Refused { file, name, at } => write_refusal(out, *file, name, *at),
+            End::BadLine(line) => {
+                let mut digits = [0; 10];
+                let len = print_number(*line, &mut digits);
+                write_all(out, &[b"fault script ", &digits[..len], b"\n"])
+            }
+            End::Memory => out.write(b"fault memory\n"),
+        }
+    }
+}
+
+impl Input {
+    /// The file's name in a last line.
+    pub fn name(&self) -> &'static str
+        ensures { result.now ≡ input_name self.now }
+    {
+        match self {
+            Input::Classes => "classes",
+            Input::Recodes => "recodes",
+            Input::Ptable => "ptable",
+            Input::People => "people",
+            Input::Script => "script",
+        }
+    }
+
+    /// The status for the file where it is too long or refused.
+    fn status(&self) -> Status
+        ensures { result ≡ input_status self.now }
+    {
+        match self {
+            Input::Classes | Input::Recodes => Status::Schema,
+            Input::Ptable => Status::Perturbation,
+            Input::People => Status::Microdata,
+            Input::Script => Status::Script,
+        }
+    }
+}
+
+// Writes the line for a file that is refused.
+fn write_refusal<O: Sink>(out: &mut O, file: Input, name: &FaultName, at: u32) -> Wrote
+    ensures written { IsWritten result (O.faults out.old) (O.faults out.new)
+        (O.taken out.old) (O.taken out.new) (refusal_line file name.now at) }
+{
+    let mut first = [0; 10];
+    let mut second = [0; 10];
+    let number_len = print_number(u32::from(name.number()), &mut first);
+    let at_len = print_number(at, &mut second);
+    write_all(
+        out,
+        &[
+            b"fault ",
+            file.name().as_bytes(),
+            b" ",
+            &first[..number_len],
+            b" ",
+            name.word().as_bytes(),
+            b" ",
+            &second[..at_len],
+            b"\n",
+        ],
+    )
+}

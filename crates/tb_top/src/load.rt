@@ -1,0 +1,260 @@
+// The files of a run, read in their order.
+
+ghost use Rattle.std.specs.Prelude.{◌≡◌, ◌≤◌, [], ◌∷◌, ◌++◌, Option, Some, true, false, length, IfOk};
+ghost use Rattle.std.specs.Prelude.{option_map};
+ghost use Rattle.tb_base.specs.declared.people.TheConstants.{MOST_PERSONS};
+ghost use Rattle.tb_base.specs.Records.{AllFit};
+ghost use Rattle.tb_model.specs.Releases.{first_release};
+ghost use Rattle.tb_model.specs.Schemas.{shape_of};
+ghost use Rattle.tb_top.specs.declared.command.Command.TheVariants as command;
+ghost use Rattle.tb_top.specs.declared.endings.Input.TheVariants as input;
+ghost use Rattle.tb_top.specs.Asking.{asked_over, bytes_in, census_in, input_place, is_service};
+ghost use Rattle.tb_top.specs.Asking.{most_bytes, people_in, perturbation_in, recodes_in};
+ghost use Rattle.tb_top.specs.Asking.{schema_in, script_in};
+ghost use Rattle.tb_top.specs.Commands.{asks_to_serve, class_files, files_of, input_files};
+ghost use Rattle.tb_top.specs.Commands.{named, recodes_files};
+ghost use Rattle.tb_top.specs.Loading.{AskedIsFirst, IsFirst, Loads, asked_value, census_value, reading};
+
+use crate::command::{Command, FileName, Inputs};
+use crate::endings::{End, Input};
+use crate::service::Service;
+use std::alloc::Global;
+use tb_base::People;
+use tb_io::{FileRead, Files};
+use tb_ptable::PTable;
+use tb_records::read_people;
+use tb_release::Release;
+use tb_schema::Schema;
+use tb_script::{MOST_SCRIPT_BYTES, Script, ScriptFault};
+use tb_text::Setup;
+
+/// The most bytes that a file may have, the script apart: 256 MiB.
+pub const MOST_BYTES: u64 = 268_435_456;
+
+/// A census: the setup, and release 0 of the microdata.
+#[derive(Drop)]
+pub struct Census {
+    pub setup: Setup,
+    pub release: Release,
+}
+
+/// What a run is asked for over a census: to answer the lines of a script, or to serve sessions.
+#[derive(Drop)]
+pub enum Asked {
+    Script { census: Census, script: Script },
+    Serve { census: Census, service: Service },
+}
+
+/// The most bytes that a file may have.
+pub fn most_bytes_of(file: Input) -> u64
+    ensures { result ≡ most_bytes file }
+{
+    match file {
+        Input::Classes | Input::Recodes | Input::Ptable | Input::People => MOST_BYTES,
+        Input::Script => MOST_SCRIPT_BYTES,
+    }
+}
+
+// The bytes of an input, whose file has this name.
+fn read_bytes<F: Files>(
+    alloc: Global,
+    files: &mut F,
+    file: Input,
+    name: &FileName<'_>,
+) -> Result<Vec<u8>, End>
+    ensures within { IfOk result (λ bytes. length bytes.items ≤ most_bytes file) }
+    ensures loads { Loads
+        (reading F.content F.faults F.readings files.old files.new)
+        (input_place file)
+        (named file name.now ∷ [])
+        (λ bytes. bytes.items)
+        (λ contents. bytes_in file (contents file)) result }
+{
+    match files.read(alloc, name.as_str(), most_bytes_of(file)) {
+        FileRead::Bytes(bytes) => Ok(bytes),
+        FileRead::TooLong => Err(End::TooLong(file)),
+        FileRead::Failed => Err(End::Unread(file)),
+        FileRead::Memory => Err(End::Memory),
+    }
+}
+
+// The bytes of the recodes, where they are named.
+fn read_recodes<F: Files>(
+    alloc: Global,
+    files: &mut F,
+    name: &Option<FileName<'_>>,
+) -> Result<Option<Vec<u8>>, End>
+    ensures loads { Loads
+        (reading F.content F.faults F.readings files.old files.new)
+        1
+        (recodes_files name.now)
+        (option_map (λ bytes. bytes.items))
+        (recodes_in name.now) result }
+{
+    match name {
+        Some(name) => Ok(Some(read_bytes(alloc, files, Input::Recodes, name)?)),
+        None => Ok(None),
+    }
+}
+
+fn bytes_of(file: &Option<Vec<u8>>) -> Option<&[u8]>
+    ensures { option_map (λ bytes. bytes.now) result ≡ option_map (λ bytes. bytes.items) file.now }
+{
+    match file {
+        Some(bytes) => Some(bytes.as_slice()),
+        None => None,
+    }
+}
+
+// The classification and the recodes, both read before either is checked.
+fn load_schema<F: Files>(alloc: Global, files: &mut F, inputs: &Inputs<'_>) -> Result<Schema, End>
+    ensures loads { Loads
+        (reading F.content F.faults F.readings files.old files.new)
+        0
+        (class_files inputs.now)
+        (λ schema. schema)
+        (schema_in inputs.now.recodes) result }
+{
+    let classes = read_bytes(alloc, files, Input::Classes, &inputs.classes)?;
+    let recodes = read_recodes(alloc, files, &inputs.recodes)?;
+    Ok(Schema::read(alloc, &classes, bytes_of(&recodes))?)
+}
+
+fn load_ptable<F: Files>(alloc: Global, files: &mut F, name: &FileName<'_>) -> Result<PTable, End>
+    ensures loads { Loads
+        (reading F.content F.faults F.readings files.old files.new)
+        2
+        (named input.Ptable name.now ∷ [])
+        (λ lines. lines)
+        perturbation_in result }
+{
+    let bytes = read_bytes(alloc, files, Input::Ptable, name)?;
+    match PTable::read(alloc, &bytes) {
+        Ok(ptable) => Ok(ptable),
+        Err(fault) => Err(End::of(Input::Ptable, fault)),
+    }
+}
+
+// The persons of the microdata. The bytes of the file are freed at the return.
+fn load_people<F: Files>(
+    alloc: Global,
+    files: &mut F,
+    name: &FileName<'_>,
+    schema: &Schema,
+) -> Result<People, End>
+    ensures few { IfOk result (λ people. length people ≤ MOST_PERSONS) }
+    ensures fit { IfOk result (λ people. AllFit (shape_of schema.now) people) }
+    ensures loads { Loads
+        (reading F.content F.faults F.readings files.old files.new)
+        3
+        (named input.People name.now ∷ [])
+        (λ people. people)
+        (people_in schema.now) result }
+{
+    let bytes = read_bytes(alloc, files, Input::People, name)?;
+    match read_people(alloc, schema, &bytes) {
+        Ok(people) => Ok(people),
+        Err(fault) => Err(End::of(Input::People, fault)),
+    }
+}
+
+// The setup and release 0, which is made when no file's bytes are held any more.
+fn load_census<F: Files>(alloc: Global, files: &mut F, inputs: &Inputs<'_>) -> Result<Census, End>
+    ensures first { IfOk result IsFirst }
+    ensures loads { Loads
+        (reading F.content F.faults F.readings files.old files.new)
+        0
+        (input_files inputs.now)
+        census_value
+        (census_in inputs.now) result }
+{
+    let schema = load_schema(alloc, files, inputs)?;
+    let ptable = load_ptable(alloc, files, &inputs.ptable)?;
+    let people = load_people(alloc, files, &inputs.people, &schema)?;
+    let release = Release::first(alloc, people)?;
+    let threshold = inputs.threshold;
+    let setup = Setup {
+        schema,
+        ptable,
+        threshold,
+    };
+    Ok(Census { setup, release })
+}
+
+fn load_script<F: Files>(alloc: Global, files: &mut F, name: &FileName<'_>) -> Result<Script, End>
+    ensures loads { Loads
+        (reading F.content F.faults F.readings files.old files.new)
+        4
+        (named input.Script name.now ∷ [])
+        (λ script. script)
+        script_in result }
+{
+    let bytes = read_bytes(alloc, files, Input::Script, name)?;
+    match Script::read(alloc, &bytes) {
+        Ok(script) => Ok(script),
+        Err(ScriptFault::Line(line)) => Err(End::BadLine(line)),
+        Err(ScriptFault::Memory) => Err(End::Memory),
+    }
+}
+
+// The census and the script of that name, which is read last.
+fn load_for_script<F: Files>(
+    alloc: Global,
+    files: &mut F,
+    inputs: &Inputs<'_>,
+    script: &FileName<'_>,
+) -> Result<Asked, End>
+    ensures first { IfOk result AskedIsFirst }
+    ensures kind { IfOk result (λ asked. is_service (asked_value asked) ≡ false) }
+    ensures loads { Loads
+        (reading F.content F.faults F.readings files.old files.new)
+        0
+        (files_of (command.Script inputs.now script.now))
+        asked_value
+        (asked_over (command.Script inputs.now script.now)) result }
+{
+    let census = load_census(alloc, files, inputs)?;
+    let script = load_script(alloc, files, script)?;
+    Ok(Asked::Script { census, script })
+}
+
+// The census alone, over which sessions are served.
+fn load_for_service<F: Files>(
+    alloc: Global,
+    files: &mut F,
+    inputs: &Inputs<'_>,
+    service: &Service,
+) -> Result<Asked, End>
+    ensures first { IfOk result AskedIsFirst }
+    ensures kind { IfOk result (λ asked. is_service (asked_value asked) ≡ true) }
+    ensures loads { Loads
+        (reading F.content F.faults F.readings files.old files.new)
+        0
+        (files_of (command.Serve inputs.now service.now))
+        asked_value
+        (asked_over (command.Serve inputs.now service.now)) result }
+{
+    let census = load_census(alloc, files, inputs)?;
+    let service = service.copy();
+    Ok(Asked::Serve { census, service })
+}
+
+/// Reads the files of a command: CLASSES and RECODES, both before either is checked, then PTABLE,
+/// PEOPLE and the task's, if it has one, each checked before the next is read. It takes memory for
+/// each file while it is read, and for what it says.
+pub fn load<F: Files>(alloc: Global, files: &mut F, command: &Command<'_>) -> Result<Asked, End>
+    ensures first { IfOk result AskedIsFirst }
+    ensures kind { IfOk result (λ asked. is_service (asked_value asked)
+        ≡ asks_to_serve (Some command.now)) }
+    ensures loads { Loads
+        (reading F.content F.faults F.readings files.old files.new)
+        0
+        (files_of command.now)
+        asked_value
+        (asked_over command.now) result }
+{
+    match command {
+        Command::Script { inputs, script } => load_for_script(alloc, files, inputs, script),
+        Command::Serve { inputs, service } => load_for_service(alloc, files, inputs, service),
+    }
+}

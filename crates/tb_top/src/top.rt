@@ -1,0 +1,205 @@
+// The top call.
+
+ghost use Rattle.std.specs.Prelude.{◌≡◌, ◌≤◌, ◌+◌, All, map, string_bytes, vec_len};
+ghost use Rattle.tb_model.specs.Releases.{first_release};
+ghost use Rattle.tb_model.specs.Schemas.{shape_of};
+ghost use Rattle.tb_serve.specs.Stages.{IsFresh};
+ghost use Rattle.tb_top.specs.declared.service.TheConstants.{MOST_WORKERS};
+ghost use Rattle.tb_top.specs.Asking.{Script as AskedScript};
+ghost use Rattle.tb_top.specs.Endings.{IsEnded};
+ghost use Rattle.tb_top.specs.Loading.{AskedIsFirst, IsFirst, asked_value, census_value};
+ghost use Rattle.tb_top.specs.Outputs.{IsAnswered, IsScriptAnswered};
+ghost use Rattle.tb_top.specs.Services.{IsServiceAnswered};
+ghost use Rattle.tb_top.specs.Promises.{Keeps};
+
+use crate::command::read_command;
+use crate::endings::End;
+use crate::load::{Asked, Census, load};
+use crate::service::Service;
+use std::alloc::Global;
+use std::marker::Brand;
+use std::sync::Wait;
+use std::sync::ledger::Ledger;
+use std::thread::Threads;
+use tb_base::{Memory, Status, Steps};
+use tb_board::{Board, Named, Opening};
+use tb_io::{Files, Listen, Sink, Wrote};
+use tb_script::{RunEnd, Script, run_script};
+use tb_serve::{Port, serve};
+use tb_text::Setup;
+
+/// How many cubes may be kept at the start.
+pub const FIRST_CAPACITY: u32 = 64;
+
+/// Writes the last line of a run that ends before its task begins, and returns how the run ended.
+pub fn end_by<O: Sink>(end: &End, out: &mut O) -> Status
+    ensures count { O.faults out.old ≤ O.faults out.new }
+    ensures ended { IsEnded end.now result
+        (O.faults out.old) (O.faults out.new) (O.taken out.old) (O.taken out.new) }
+{
+    match end.write_last_line(out) {
+        Wrote::All => end.status(),
+        Wrote::Failed => Status::WriteFault,
+    }
+}
+
+// Answers the lines of a script over a board.
+fn answer_on_board<B: Named, R: Threads + Wait + Sync, O: Sink, L: Ledger>(
+    rt: &R,
+    alloc: Global,
+    setup: &Setup,
+    opening: Opening,
+    script: &Script,
+    out: &mut O,
+    steps: &mut Steps<L>,
+) -> Status
+    requires name { opening.name ≡ B.name }
+    requires shape { opening.start.shape ≡ shape_of setup.now.schema }
+    requires first { opening.start.base
+        ≡ first_release setup.now opening.start.base.records }
+    ensures { IsScriptAnswered (AskedScript
+        (record { setup = setup.now; records = opening.start.base.records }) script.now) result
+        (O.faults out.old) (O.faults out.new) (O.taken out.old) (O.taken out.new)
+        steps.old steps.new }
+{
+    let (board, custodian) = Board::<B>::new(opening);
+    match run_script(setup, &board, rt, alloc, script, custodian, out, steps) {
+        RunEnd::Done => Status::Done,
+        RunEnd::WriteFault => Status::WriteFault,
+        RunEnd::Memory => end_by(&End::Memory, out),
+    }
+}
+
+// Answers the lines of a script over a census.
+fn answer_script<R: Threads + Wait + Sync, O: Sink, L: Ledger>(
+    rt: &R,
+    alloc: Global,
+    census: Census,
+    script: &Script,
+    out: &mut O,
+    steps: &mut Steps<L>,
+) -> Status
+    requires { IsFirst census }
+    ensures { IsScriptAnswered (AskedScript (census_value census) script.now) result
+        (O.faults out.old) (O.faults out.new) (O.taken out.old) (O.taken out.new)
+        steps.old steps.new }
+{
+    let Census { setup, release } = census;
+    match Opening::new(alloc, setup.schema.shape(), release, FIRST_CAPACITY) {
+        Ok(opening) => {
+            answer_on_board::<Brand, R, O, L>(rt, alloc, &setup, opening, script, out, steps)
+        }
+        Err(Memory) => end_by(&End::Memory, out),
+    }
+}
+
+// Serves sessions over a census.
+fn serve_census<R: Threads + Wait + Sync, O: Sink, N: Listen + Send>(
+    rt: &R,
+    alloc: Global,
+    census: Census,
+    service: &Service,
+    out: &mut O,
+    net: &mut Vec<Port<N>>,
+) -> Status
+    requires first { IsFirst census }
+    requires ports { vec_len net.old ≡ MOST_WORKERS + 1 }
+    requires fresh { All IsFresh net.old.items }
+    ensures { IsServiceAnswered (census_value census) service.now net.old.items net.new.items result
+        (O.faults out.old) (O.faults out.new) (O.taken out.old) (O.taken out.new) }
+{
+    let Census { setup, release } = census;
+    let (port, workers, sessions) = (service.port(), service.workers(), service.sessions());
+    serve(
+        rt,
+        alloc,
+        &setup,
+        release,
+        port,
+        workers,
+        sessions,
+        out,
+        net.as_mut_slice(),
+    )
+}
+
+// Does what is asked for.
+fn answer<R: Threads + Wait + Sync, O: Sink, N: Listen + Send, L: Ledger>(
+    rt: &R,
+    alloc: Global,
+    asked: Asked,
+    out: &mut O,
+    net: &mut Vec<Port<N>>,
+    steps: &mut Steps<L>,
+) -> Status
+    requires first { AskedIsFirst asked }
+    requires ports { vec_len net.old ≡ MOST_WORKERS + 1 }
+    requires fresh { All IsFresh net.old.items }
+    ensures { IsAnswered (asked_value asked) net.old.items net.new.items result
+        (O.faults out.old) (O.faults out.new) (O.taken out.old) (O.taken out.new)
+        steps.old steps.new }
+{
+    match asked {
+        Asked::Script { census, script } => {
+            answer_script(rt, alloc, census, &script, out, steps)
+        }
+        Asked::Serve { census, service } => serve_census(rt, alloc, census, &service, out, net),
+    }
+}
+
+/// Runs one command: reads its files, does its task, and says how the run ended, if it returns.
+/// Where it ends before its task, the last line that `out` takes tells why.
+///
+/// With `script CLASSES RECODES PTABLE PEOPLE THRESHOLD SCRIPT` the reply to each line of the
+/// script is written into `out`. With `serve CLASSES RECODES PTABLE PEOPLE THRESHOLD PORT WORKERS
+/// SESSIONS` the listeners are bound, the first to PORT for the custodian and one for each worker
+/// to the ports after it, and each worker serves sessions in a thread of its own, one after
+/// another; in the end `out` takes how many each had. Other arguments are refused. A printed table
+/// is the perturbed table counted from scratch over the release of its number, to which the
+/// custodian's lines before it led, and a query is refused for the first fault of its text,
+/// whatever cubes are kept. A line that finds no memory gets the reply `memory`, and the next line
+/// is answered. The counter rises by how many records and changes are lent: for a table the
+/// release's records at most once, or, where a cube is kept, the changes that it is behind. It
+/// takes memory for the files, for what they say, for one table at a time, for at most 64 cubes or
+/// as many as `cache K` says, for the edits that are held, and for the next release while it is
+/// made.
+pub fn tablebuilder<F: Files, O: Sink, N: Listen + Send, L: Ledger>(
+    rt: &(impl Threads + Wait + Sync),
+    alloc: Global,
+    words: &[String],
+    files: &mut F,
+    out: &mut O,
+    net: &mut Vec<Port<N>>,
+    steps: &mut Steps<L>,
+) -> Status
+    // A port for the custodian and one for each worker that there may be, as they are made.
+    requires ports { vec_len net.old ≡ MOST_WORKERS + 1 }
+    requires fresh { All IsFresh net.old.items }
+    // What the call keeps, promise by promise, over what it saw.
+    ensures { Keeps
+        (record {
+          words = map string_bytes words.now;
+          content = F.content files.old;
+          read_faults = F.faults files.old;
+          read_faults_after = F.faults files.new;
+          readings = F.readings files.old;
+          readings_after = F.readings files.new;
+          write_faults = O.faults out.old;
+          write_faults_after = O.faults out.new;
+          ports = net.old.items;
+          ports_after = net.new.items;
+          taken = O.taken out.old;
+          taken_after = O.taken out.new;
+          steps = steps.old;
+          steps_after = steps.new;
+        })
+        result }
+{
+    match read_command(words) {
+        Some(command) => match load(alloc, files, &command) {
+            Ok(asked) => answer(rt, alloc, asked, out, net, steps),
+            Err(end) => end_by(&end, out),
+        },
+        None => end_by(&End::Usage, out),
+    }
+}

@@ -1,0 +1,84 @@
+// Readings that fail, and sinks that take no more.
+
+use super::running::{Run, WITH_RECODES, WITHOUT_RECODES, is_so};
+use std::test::Fail;
+
+// The readings that fail, the files with other bytes, the number of the status, and the text: the
+// classification and the recodes are both read before either is checked, and each other file is
+// checked before the next is read.
+type Readings = (
+    &'static [u32],
+    &'static [(&'static str, &'static [u8])],
+    u8,
+    &'static [u8],
+);
+
+static READINGS: [Readings; 7] = [
+    (&[1], &[], 7, b"fault read classes\n"),
+    (&[2], &[], 7, b"fault read recodes\n"),
+    (&[3], &[], 7, b"fault read ptable\n"),
+    (&[4], &[], 7, b"fault read people\n"),
+    (&[5], &[], 7, b"fault read script\n"),
+    (
+        &[2],
+        &[("classes", b""), ("recodes", b"")],
+        7,
+        b"fault read recodes\n",
+    ),
+    (
+        &[3],
+        &[("recodes", b""), ("ptable", b"")],
+        3,
+        b"fault recodes 1 BadHeader 0\n",
+    ),
+];
+
+// The arguments, how many bytes the sink takes, and these bytes.
+type Cut = (&'static str, usize, &'static [u8]);
+
+static CUTS: [Cut; 4] = [
+    ("", 0, b""),
+    ("", 5, b"fault"),
+    (WITHOUT_RECODES, 0, b""),
+    (WITHOUT_RECODES, 12, b"release 0\nSE"),
+];
+
+fn readings() -> &'static [Readings] {
+    &READINGS
+}
+
+fn cuts() -> &'static [Cut] {
+    &CUTS
+}
+
+#[test]
+fn readings_that_fail(rt: HostRuntime) -> Result<(), Fail> {
+    for (fails, others, status, text) in readings() {
+        let run = Run {
+            arguments: WITH_RECODES,
+            others,
+            fails,
+            bound: 200,
+            status: *status,
+            text,
+        };
+        assert!(rt; is_so(&rt, rt.alloc(), &run)?, "{fails:?} {status}");
+    }
+    Ok(())
+}
+
+#[test]
+fn sinks_that_fail(rt: HostRuntime) -> Result<(), Fail> {
+    for (arguments, bound, text) in cuts() {
+        let run = Run {
+            arguments,
+            others: &[],
+            fails: &[],
+            bound: *bound,
+            status: 8,
+            text,
+        };
+        assert!(rt; is_so(&rt, rt.alloc(), &run)?, "{arguments}: {bound}");
+    }
+    Ok(())
+}

@@ -1,0 +1,151 @@
+// Whole runs over files and a sink in memory, from the small setup of `tb_small`. A row of a table
+// is a run with the bytes that it writes; the tables stand behind functions, so that no proof reads
+// them.
+
+ghost use Rattle.std.specs.Prelude.{◌≡◌, ◌<◌, ◌+◌, All, IfOk, vec_len};
+ghost use Rattle.tb_serve.specs.Stages.{IsFresh};
+ghost use Rattle.tb_top.specs.declared.service.TheConstants.{MOST_WORKERS};
+
+use std::alloc::Global;
+use std::marker::Brand;
+use std::sync::Wait;
+use std::sync::ledger::{Blank, Ledger};
+use std::thread::Threads;
+use tb_base::{Memory, Status, Steps};
+use tb_io::{MemFiles, MemListen, MemSink, SureFiles, SureSink};
+use tb_serve::Port;
+use tb_small::{CLASSES, PEOPLE, PTABLE, RECODES};
+use tb_top::MOST_WORKERS;
+use tb_top::laws::{run_in_memory, run_surely};
+
+pub const WITHOUT_RECODES: &str = "script classes - ptable people 0 script";
+
+pub const WITH_RECODES: &str = "script classes recodes ptable people 0 script";
+
+// A run: the arguments, which one blank parts (none where the text is empty), the files that have
+// other bytes than the small setup's, the numbers of the readings that fail, how many bytes the
+// sink takes, the number of the status, and the bytes taken.
+#[derive(Drop)]
+pub struct Run<'a> {
+    pub arguments: &'a str,
+    pub others: &'a [(&'a str, &'a [u8])],
+    pub fails: &'a [u32],
+    pub bound: usize,
+    pub status: u8,
+    pub text: &'a [u8],
+}
+
+pub fn words_of(alloc: Global, arguments: &str) -> Result<Vec<String>, Memory> {
+    let mut words = Vec::new(alloc);
+    if !arguments.is_empty() {
+        for word in arguments.split(' ') {
+            words.push(String::from_str(alloc, word)?)?;
+        }
+    }
+    Ok(words)
+}
+
+fn files_of(alloc: Global, others: &[(&str, &[u8])], fails: &[u32]) -> Result<MemFiles, Memory> {
+    let mut files = MemFiles::new(alloc, fails)?;
+    files.hold("classes", CLASSES)?;
+    files.hold("recodes", RECODES)?;
+    files.hold("ptable", PTABLE)?;
+    files.hold("people", PEOPLE)?;
+    files.hold("script", b"a table SEX\n")?;
+    for (name, bytes) in others {
+        files.hold(name, bytes)?;
+    }
+    Ok(files)
+}
+
+// A listener to which no session is to come.
+fn quiet(alloc: Global) -> Result<Port<MemListen>, Memory>
+    ensures { IfOk result IsFresh }
+{
+    Ok(Port::of(MemListen::new(alloc, false, Vec::new(alloc), &[])?))
+}
+
+// As many as a run has ports.
+fn quiet_ports(alloc: Global) -> Result<Vec<Port<MemListen>>, Memory>
+    ensures ports { IfOk result (λ net. vec_len net ≡ MOST_WORKERS + 1) }
+    ensures fresh { IfOk result (λ net. All IsFresh net.items) }
+{
+    let mut net = Vec::new(alloc);
+    for _ in 0..=MOST_WORKERS {
+        net.push(quiet(alloc)?)?;
+    }
+    Ok(net)
+}
+
+// A run over forms in memory, with a counter of its own.
+fn count_in_memory<L: Ledger>(
+    rt: &(impl Threads + Wait + Sync),
+    alloc: Global,
+    words: &[String],
+    files: &mut MemFiles,
+    out: &mut MemSink,
+    net: &mut Vec<Port<MemListen>>,
+    blank: Blank,
+) -> Status
+    requires ports { vec_len net.old ≡ MOST_WORKERS + 1 }
+    requires fresh { All IsFresh net.old.items }
+    requires name { blank.name ≡ L.name }
+    requires parts { blank.parts ≡ L.parts }
+    requires some { 0 < L.parts }
+{
+    let mut steps = Steps::<L>::new(blank);
+    run_in_memory(rt, alloc, words, files, out, net, &mut steps)
+}
+
+// The same over forms that never fail.
+fn count_surely<L: Ledger>(
+    rt: &(impl Threads + Wait + Sync),
+    alloc: Global,
+    words: &[String],
+    files: &mut SureFiles,
+    out: &mut SureSink,
+    net: &mut Vec<Port<MemListen>>,
+    blank: Blank,
+) -> Status
+    requires ports { vec_len net.old ≡ MOST_WORKERS + 1 }
+    requires fresh { All IsFresh net.old.items }
+    requires name { blank.name ≡ L.name }
+    requires parts { blank.parts ≡ L.parts }
+    requires some { 0 < L.parts }
+{
+    let mut steps = Steps::<L>::new(blank);
+    run_surely(rt, alloc, words, files, out, net, &mut steps)
+}
+
+pub fn run_over(
+    rt: &(impl Threads + Wait + Sync),
+    alloc: Global,
+    words: &[String],
+    files: &mut SureFiles,
+    out: &mut SureSink,
+) -> Result<Status, Memory> {
+    let mut net = quiet_ports(alloc)?;
+    Ok(count_surely::<Brand>(rt, alloc, words, files, out, &mut net, Blank::new(1)))
+}
+
+// Whether the sink took the bytes of the row, and the status is its.
+pub fn is_so(
+    rt: &(impl Threads + Wait + Sync),
+    alloc: Global,
+    row: &Run<'_>,
+) -> Result<bool, Memory> {
+    let words = words_of(alloc, row.arguments)?;
+    let mut files = files_of(alloc, row.others, row.fails)?;
+    let mut out = MemSink::new(alloc, row.bound)?;
+    let mut net = quiet_ports(alloc)?;
+    let status = count_in_memory::<Brand>(
+        rt,
+        alloc,
+        &words,
+        &mut files,
+        &mut out,
+        &mut net,
+        Blank::new(1),
+    );
+    Ok(status.number() == row.status && out.taken() == row.text)
+}

@@ -1,0 +1,313 @@
+// Worked runs, of any files and arguments.
+
+use super::running::{Run, WITH_RECODES, WITHOUT_RECODES, is_so};
+use std::test::Fail;
+
+const SEX: &[u8] = b"release 0\nSEX,count\n1,1\n2,2\n.\n";
+
+const USAGE: &[u8] = b"fault usage\n";
+
+const NOBODY_SERVED: &[u8] = b"worker 0 sessions 0\nworker 1 sessions 0\nworker 2 sessions 0\n\
+    worker 3 sessions 0\nworker 4 sessions 0\nworker 5 sessions 0\nworker 6 sessions 0\n\
+    worker 7 sessions 0\nworker 8 sessions 0\nworker 9 sessions 0\nworker 10 sessions 0\n\
+    worker 11 sessions 0\nworker 12 sessions 0\nworker 13 sessions 0\nworker 14 sessions 0\n\
+    worker 15 sessions 0\nworker 16 sessions 0\nrelease 0\n";
+
+// What a run shows, the arguments, the files with other bytes than the small setup's, the number of
+// the status, and the text.
+type Over = (
+    &'static str,
+    &'static str,
+    &'static [(&'static str, &'static [u8])],
+    u8,
+    &'static [u8],
+);
+
+static RUNS: [Over; 39] = [
+    ("one_variable", WITHOUT_RECODES, &[], 0, SEX),
+    ("one_variable", WITH_RECODES, &[], 0, SEX),
+    (
+        "threshold_on_shown_count",
+        "script classes - ptable people 2 script",
+        &[],
+        0,
+        b"release 0\nSEX,count\n1,c\n2,2\n.\n",
+    ),
+    (
+        "no_records",
+        WITHOUT_RECODES,
+        &[("people", b"person,record_key,SEX,AGE,AREA\n")],
+        0,
+        b"release 0\nSEX,count\n1,0\n2,0\n.\n",
+    ),
+    (
+        "no_records",
+        "script classes - ptable people 10 script",
+        &[("people", b"person,record_key,SEX,AGE,AREA\n")],
+        0,
+        b"release 0\nSEX,count\n1,c\n2,c\n.\n",
+    ),
+    (
+        "perturbation_file_faults",
+        WITHOUT_RECODES,
+        &[(
+            "ptable",
+            b"pcv,ckey,pvalue\n1,7,1\n4,71,2\n3,127,3\n2,27,-1\n",
+        )],
+        0,
+        b"release 0\nSEX,count\n1,3\n2,2\n.\n",
+    ),
+    (
+        "perturbation_file_faults",
+        WITHOUT_RECODES,
+        &[("ptable", b"pcv,ckey,pvalue\n1,7,1\n1,7,1\n")],
+        4,
+        b"fault ptable 5 PairTwice 2\n",
+    ),
+    (
+        "perturbation_file_faults",
+        WITHOUT_RECODES,
+        &[("ptable", b"pcv,ckey,pvalue\n3,10,-4\n")],
+        4,
+        b"fault ptable 4 Negative 1\n",
+    ),
+    (
+        "perturbation_file_faults",
+        WITHOUT_RECODES,
+        &[("ptable", b"pcv,ckey,pvalue\n0,0,1\n")],
+        4,
+        b"fault ptable 6 ZeroRow 1\n",
+    ),
+    (
+        "perturbation_file_faults",
+        WITHOUT_RECODES,
+        &[("ptable", b"pcv,ckey,pvalue\n751,0,0\n")],
+        4,
+        b"fault ptable 3 OutOfRange 1\n",
+    ),
+    (
+        "a_compressed_file",
+        WITHOUT_RECODES,
+        &[("ptable", b"\x1F\x8B\x08")],
+        4,
+        b"fault ptable 1 BadHeader 0\n",
+    ),
+    (
+        "any_accepted_spelling",
+        WITHOUT_RECODES,
+        &[("ptable", b"note,pvalue,ckey,pcv\nx,-2,64,3\nx,1,7,1\n")],
+        0,
+        SEX,
+    ),
+    (
+        "any_accepted_spelling",
+        WITHOUT_RECODES,
+        &[(
+            "people",
+            b"\xEF\xBB\xBFSEX,person,AREA,record_key,AGE,NOTE\r\n\
+            \"1\",101,\"E1\",200,\"0-15\",x\r\n1,102,E1,100,16-64,x\r\n\
+            1,103,E2,20,65+,x\r\n2,104,E2,7,16-64,x\r\n",
+        )],
+        0,
+        SEX,
+    ),
+    ("command_faults", "", &[], 2, USAGE),
+    ("command_faults", "script", &[], 2, USAGE),
+    (
+        "command_faults",
+        "script classes - ptable people -1 script",
+        &[],
+        2,
+        USAGE,
+    ),
+    (
+        "command_faults",
+        "script classes - ptable nobody 0 script",
+        &[],
+        7,
+        b"fault read people\n",
+    ),
+    (
+        "command_faults",
+        WITHOUT_RECODES,
+        &[(
+            "people",
+            b"person,record_key,SEX,AGE,AREA\n101,200,1,0-15,E1\n102,256,1,16-64,E1\n",
+        )],
+        5,
+        b"fault people 3 BadKey 2\n",
+    ),
+    (
+        "command_faults",
+        WITH_RECODES,
+        &[(
+            "recodes",
+            b"recode,variable,code,group\nAGE2,AGE,0-15,young\nAGE2,AGE,16-64,old\n",
+        )],
+        3,
+        b"fault recodes 8 CodeMissing 1\n",
+    ),
+    (
+        "command_faults",
+        WITHOUT_RECODES,
+        &[(
+            "classes",
+            b"variable,code,label\nSEX,1,Male\nSEX,1,Female\n",
+        )],
+        3,
+        b"fault classes 4 RepeatedCode 2\n",
+    ),
+    (
+        "command_faults",
+        WITHOUT_RECODES,
+        &[("script", b"a table SEX\na table AREA\n!x\n")],
+        6,
+        b"fault script 3\n",
+    ),
+    (
+        "arguments",
+        "script classes - ptable people 1000001 script",
+        &[],
+        2,
+        USAGE,
+    ),
+    (
+        "arguments",
+        "script classes - ptable people 1000000 script",
+        &[],
+        0,
+        b"release 0\nSEX,count\n1,c\n2,c\n.\n",
+    ),
+    (
+        "arguments",
+        "script classes - ptable people 01 script",
+        &[],
+        0,
+        SEX,
+    ),
+    (
+        "arguments",
+        "script classes  ptable people 0 script",
+        &[],
+        2,
+        USAGE,
+    ),
+    (
+        "arguments",
+        "script classes -recodes ptable people 0 script",
+        &[],
+        2,
+        USAGE,
+    ),
+    (
+        "arguments",
+        "script classes - ptable people 0 -script",
+        &[],
+        2,
+        USAGE,
+    ),
+    (
+        "arguments",
+        "script classes - ptable people 0 script script",
+        &[],
+        2,
+        USAGE,
+    ),
+    (
+        "arguments",
+        "Script classes - ptable people 0 script",
+        &[],
+        2,
+        USAGE,
+    ),
+    (
+        "arguments_of_a_service",
+        "serve classes - ptable people 0 5000 1",
+        &[],
+        2,
+        USAGE,
+    ),
+    (
+        "arguments_of_a_service",
+        "serve classes - ptable people 0 5000 1 1 1",
+        &[],
+        2,
+        USAGE,
+    ),
+    (
+        "arguments_of_a_service",
+        "serve classes - ptable people 0 0 1 1",
+        &[],
+        2,
+        USAGE,
+    ),
+    (
+        "arguments_of_a_service",
+        "serve classes - ptable people 0 65520 1 1",
+        &[],
+        2,
+        USAGE,
+    ),
+    (
+        "arguments_of_a_service",
+        "serve classes - ptable people 0 5000 0 1",
+        &[],
+        2,
+        USAGE,
+    ),
+    (
+        "arguments_of_a_service",
+        "serve classes - ptable people 0 5000 17 1",
+        &[],
+        2,
+        USAGE,
+    ),
+    (
+        "arguments_of_a_service",
+        "serve classes - ptable people 0 5000 1 0",
+        &[],
+        2,
+        USAGE,
+    ),
+    (
+        "arguments_of_a_service",
+        "serve classes - ptable people 0 5000 1 1000001",
+        &[],
+        2,
+        USAGE,
+    ),
+    (
+        "a_service_without_sessions",
+        "serve classes - ptable people 0 65519 16 1000000",
+        &[],
+        0,
+        NOBODY_SERVED,
+    ),
+    (
+        "a_service_over_a_file_at_fault",
+        "serve classes - ptable people 0 5000 1 1",
+        &[("people", b"person,record_key,SEX,AGE,AREA\n0,1,1,65+,E1\n")],
+        5,
+        b"fault people 2 BadPerson 1\n",
+    ),
+];
+
+fn runs() -> &'static [Over] {
+    &RUNS
+}
+
+#[test]
+fn worked_runs(rt: HostRuntime) -> Result<(), Fail> {
+    for (name, arguments, others, status, text) in runs() {
+        let run = Run {
+            arguments,
+            others,
+            fails: &[],
+            bound: 400,
+            status: *status,
+            text,
+        };
+        assert!(rt; is_so(&rt, rt.alloc(), &run)?, "{name}: {arguments}");
+    }
+    Ok(())
+}
