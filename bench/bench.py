@@ -14,6 +14,7 @@ import filecmp
 import itertools
 import os
 import platform
+import shutil
 import statistics
 import subprocess
 import sys
@@ -85,8 +86,10 @@ PAIRS = [
 ]
 # How often each case is run, and the one that shows how long loading takes.
 RUNS, LOADING_RUNS, LONG_RUNS = 5, 15, 3
-# How often a script of batches with tables and the same without them are run in turn.
+# How often a script of batches with tables and the same without them are run in turn, and the
+# variables of five categories, each of which makes another cube of as many cells.
 TURNS = 31
+FIVES = ("TENURE", "SECOND", "THIRD", "FOURTH")
 PROGRAM, PLAIN = "program", "baseline"
 MIB = 1024 * 1024
 
@@ -213,18 +216,38 @@ def measure(case, programs, folder):
         case.peak[who] = peak_of(words[who])
 
 
+def widen(folder, into):
+    """Copies an input, with further variables of five categories at the end of each record."""
+    os.mkdir(into)
+    for name in ("recodes", "ptable"):
+        shutil.copy(f"{folder}/{name}.csv", into)
+    with open(f"{folder}/classes.csv", encoding="ascii") as old, open(f"{into}/classes.csv", "w", encoding="ascii") as new:
+        new.writelines(old)
+        new.writelines(f"{name},{code},{code}\n" for name in FIVES[1:] for code in range(1, 6))
+    with open(f"{folder}/people.csv", encoding="ascii") as old, open(f"{into}/people.csv", "w", encoding="ascii") as new:
+        new.write(",".join([next(old).rstrip("\n"), *FIVES[1:]]) + "\n")
+        for place, line in enumerate(old):
+            codes = [str(place // 5**power % 5 + 1) for power in range(len(FIVES) - 1)]
+            new.write(",".join([line.rstrip("\n"), *codes]) + "\n")
+
+
 def seconds_behind(batch, program, folder):
-    """What the table after each batch takes, in seconds: the median of the differences of runs in
-    turn, with tables and without, since batches take far more time than what they differ by."""
+    """What each table from a cube that is behind by a batch takes, in seconds: the median of the
+    differences of runs in turn, with tables and without, since batches take far more time than what
+    they differ by. After each batch a table is asked from each of some cubes of as many cells."""
+    tables = [OF_FOUR[0].replace("TENURE", name) for name in FIVES]
     runs = []
-    for queries in ((), OF_FOUR):
+    for queries in ((), tables):
         script = f"{folder}/script-{len(queries)}.txt"
-        make_script(script, Case(SMALL, ASCENDING, queries, batch, BATCHES))
+        with open(script, "w", encoding="ascii") as out:
+            for number in range(BATCHES):
+                out.writelines(lines_before(batch, number))
+                out.writelines(f"a table {query}\n" for query in queries)
         runs.append(words_of(program, folder, script))
     differences = []
     for _ in range(TURNS):
-        without, tables = (seconds_of(words, f"{folder}/turn.out") for words in runs)
-        differences.append((tables - without) / BATCHES)
+        without, with_tables = (seconds_of(words, f"{folder}/turn.out") for words in runs)
+        differences.append((with_tables - without) / (BATCHES * len(tables)))
     return statistics.median(differences)
 
 
@@ -351,8 +374,9 @@ def main(program, baseline):
                 os.mkdir(folder)
                 make_input(folder, case.persons, case.order)
             measure(case, programs, folder)
+        widen(f"{top}/{SMALL}-{ASCENDING}", f"{top}/wide")
         behind = {
-            batch: seconds_behind(batch, programs[PROGRAM], f"{top}/{SMALL}-{ASCENDING}")
+            batch: seconds_behind(batch, programs[PROGRAM], f"{top}/wide")
             for batch in (ONE_CHANGE, HUNDRED, MANY_CHANGES)
         }
     for one, many in zip(cases[1::2], cases[2::2]):

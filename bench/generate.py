@@ -1,10 +1,12 @@
 #!/usr/bin/env python3
-"""Writes the generated input into a folder: classes.csv, recodes.csv, ptable.csv and people.csv.
+"""Writes the generated input into a folder: classes.csv, recodes.csv, ptable.csv, people.csv and,
+where there are persons, script.txt.
 
     generate.py FOLDER START PERSONS [shuffled]
 
-The same START and PERSONS give the same bytes. Persons are numbered from 1 and come in ascending
-order; with `shuffled` the same lines come in another order, which is the same each time.
+The same START and PERSONS give the same bytes, those of `tb_gen`. Persons are numbered from 1 and
+come in ascending order; with `shuffled` the same lines come in another order, which is the same
+each time.
 """
 import random
 import sys
@@ -14,10 +16,16 @@ AGES = [str(n) for n in range(101)]
 SEXES = ["1", "2"]
 TENURES = ["1", "2", "3", "4", "5"]
 VARIABLES = [("AREA", AREAS), ("AGE", AGES), ("SEX", SEXES), ("TENURE", TENURES)]
-DECADES = [f"{n}-{n + 9}" for n in range(0, 100, 10)] + ["100+"]
 
 LAST_ROW = 750
 KEYS = 256
+
+ROUNDS, AMENDS = 10, 50
+TABLES = [
+    "a table AREA by SEX with totals\n",
+    "b table AGE10 by TENURE where SEX in (1)\n",
+    "a table AREA by SEX with totals\n",
+]
 
 
 def draws(state):
@@ -37,7 +45,7 @@ def class_lines():
 def recode_lines():
     yield "recode,variable,code,group\n"
     for age in AGES:
-        yield f"AGE10,AGE,{age},{DECADES[int(age) // 10]}\n"
+        yield f"AGE10,AGE,{age},g{int(age) // 10}\n"
 
 
 def ptable_lines(start):
@@ -56,6 +64,18 @@ def person_lines(start, persons):
         yield f"{person},{key},{area},{age},{sex},{tenure}\n"
 
 
+def script_lines(start, persons):
+    draw = draws((start + 2) % 2**32)
+    for _ in range(ROUNDS):
+        yield from TABLES
+        for _ in range(AMENDS):
+            person = 1 + next(draw) % persons
+            tenure = TENURES[next(draw) % len(TENURES)]
+            yield f"custodian amend {person} TENURE={tenure}\n"
+        yield "custodian publish\n"
+    yield "custodian stats\n"
+
+
 def write(path, lines):
     with open(path, "w", encoding="ascii", newline="") as out:
         out.writelines(lines)
@@ -66,6 +86,8 @@ def main(folder, start, persons, order="ascending"):
     write(f"{folder}/classes.csv", class_lines())
     write(f"{folder}/recodes.csv", recode_lines())
     write(f"{folder}/ptable.csv", ptable_lines(start))
+    if persons > 0:
+        write(f"{folder}/script.txt", script_lines(start, persons))
     people = person_lines(start, persons)
     if order == "shuffled":
         people = list(people)

@@ -22,7 +22,7 @@ pub fn real_ports<R: Net<Listener = TcpListener, Stream = TcpStream> + Eprint>(
 {
     let mut net = Vec::new(alloc);
     for _ in 0..=MOST_WORKERS {
-        net.push(Port::of(RealListen::new(rt)))?;
+        net.push(Port::of(RealListen::new(rt, alloc)))?;
     }
     Ok(net)
 }

@@ -5,19 +5,38 @@ ghost use Rattle.tb_base.specs.Records.{AllFit};
 ghost use Rattle.tb_cube.specs.Cubes.{cube_over};
 ghost use Rattle.tb_delta.specs.Counting.{HasCube};
 
+use crate::cutting::build_in_parts;
 use crate::gate::Gate;
+use rayon::current_num_threads;
 use std::alloc::Global;
 use std::sync::ledger::Ledger;
 use std::thread::Threads;
 use tb_base::{Memory, Shape, Steps, VarSet};
 use tb_cube::Cube;
-use tb_delta::count_all;
+use tb_grid::cells_over;
 use tb_release::Release;
 
+// Fewer records than these are counted sooner than threads are started for them.
+const FEWEST_TO_CUT: usize = 250_000;
+
+// A part has at least this many records for each cell of its cube: to make a cell and merge it
+// takes as long as to put in one record or two.
+const RECORDS_A_CELL: usize = 4;
+
+// Into how many parts it is worth to cut records: as many as processors, where each part has enough
+// records for its cells.
+fn parts_for(rt: &impl Threads, records: usize, cells: usize) -> usize {
+    if records < FEWEST_TO_CUT {
+        return 1;
+    }
+    current_num_threads(rt).min(records / RECORDS_A_CELL / cells.max(1))
+}
+
 /// The cube of a release over some variables, counted from its records, which are lent once. It
-/// reaches the gate before the first of them. It takes memory for the cube alone.
+/// reaches the gate before the first of them. Many records over few cells are counted by several
+/// threads, each into a cube of its own. It takes memory for the cubes alone.
 pub fn build<G: Gate, L: Ledger>(
-    _rt: &(impl Threads + Sync),
+    rt: &(impl Threads + Sync),
     alloc: Global,
     shape: &Shape,
     release: &Release,
@@ -32,5 +51,6 @@ pub fn build<G: Gate, L: Ledger>(
     ensures cube { IfOk result (λ cube. cube ≡ cube_over shape.now vars.now release.now.records) }
 {
     gate.reach();
-    count_all(alloc, shape, vars, release, steps)
+    let parts = parts_for(rt, release.len(), cells_over(shape, vars, 0));
+    build_in_parts(rt, alloc, shape, release, vars, parts, steps)
 }

@@ -4,7 +4,7 @@ use Rattle.std.specs.Prelude.{bytes_eq, option_map}
 use Rattle.std.specs.Map.{lookup, update}
 use Rattle.std.proofs.lemmas.Bool.{cases_Bool, false_from_ne_true}
 use Rattle.std.proofs.lemmas.Slice.Eq.{bytes_eq-Decides}
-use Rattle.tb_io.specs.HeldFiles.{bytes_of, held_of, Gives}
+use Rattle.tb_io.specs.HeldFiles.{bytes_of, held_of, HasHeld}
 
 -- a look-up of a name in the map finds what the files hold under it
 pub bytes_of-held : (entries : List (String Global × Vec ℕ Global)) (name : List ℕ)
@@ -16,10 +16,10 @@ bytes_of-held (e ∷ es) name = elim (cases_Bool (bytes_eq name (string_bytes e.
 ]
 
 -- a map that was updated at a name gives it these bytes
-pub Gives-held : (old new : List (String Global × Vec ℕ Global)) (name : List ℕ) (v : Vec ℕ Global) (bytes : List ℕ)
+pub HasHeld-updated : (old new : List (String Global × Vec ℕ Global)) (name : List ℕ) (v : Vec ℕ Global) (bytes : List ℕ)
     → ((q : List ℕ) → lookup (λ k. bytes_eq q (string_bytes k)) new ≡ update bytes_eq (λ p. lookup (λ k. bytes_eq p (string_bytes k)) old) name (Some v) q)
-    → v.items ≡ bytes → Gives (held_of old) (held_of new) name bytes
-Gives-held old new name v bytes h e =
+    → v.items ≡ bytes → HasHeld (held_of old) (held_of new) name bytes
+HasHeld-updated old new name v bytes h e =
     let itself : bytes_eq name name ≡ true = (bytes_eq-Decides name name).1 refl in
     record {
       here = bytes_of-held new name ∙ (rw (h name, itself, e) refl);

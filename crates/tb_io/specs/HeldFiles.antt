@@ -27,7 +27,7 @@ abbrev pub held_of : List (String Global × Vec ℕ Global) → HeldFiles
 held_of entries = map (λ e. (string_bytes e.0, e.1.items)) entries
 
 -- the name has these bytes now, and every other name has what it had
-pub record Gives (old new : HeldFiles) (name bytes : List ℕ) : Type 0 where
+pub record HasHeld (old new : HeldFiles) (name bytes : List ℕ) : Type 0 where
   pub here : bytes_of new name ≡ Some bytes
   pub others : (other : List ℕ) → other ≢ name → bytes_of new other ≡ bytes_of old other
 

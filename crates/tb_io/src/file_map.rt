@@ -2,7 +2,7 @@
 
 ghost use Rattle.std.specs.Prelude.{◌≡◌, [], IfSome, IfNone, None, Some, OnOk, OnErr, IfOk};
 ghost use Rattle.std.specs.Option.{option_copied};
-ghost use Rattle.tb_io.specs.HeldFiles.{bytes_of, Gives};
+ghost use Rattle.tb_io.specs.HeldFiles.{bytes_of, HasHeld};
 ghost use Rattle.tb_io.specs.FileAnswers.{IsCopy};
 
 use crate::answers::FileRead;
@@ -39,7 +39,7 @@ impl FileMap {
 
     /// Gives the name these bytes. Out of memory, it changes nothing.
     pub(crate) fn hold(&mut self, name: &str, bytes: &[u8]) -> Result<(), Memory>
-        ensures ok { OnOk result (Gives self.old self.new name.now bytes.now) }
+        ensures ok { OnOk result (HasHeld self.old self.new name.now bytes.now) }
         ensures err { OnErr result (self.new ≡ self.old) }
     {
         let name = String::from_str(self.alloc, name)?;

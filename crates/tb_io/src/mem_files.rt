@@ -2,7 +2,7 @@ ghost use Rattle.std.specs.Prelude.{◌≡◌, ◌≤◌, [], ℕ, Some, None, I
 ghost use Rattle.std.specs.Option.{option_copied};
 ghost use Rattle.tb_io.specs.Faults.{HasRisen, one_more};
 ghost use Rattle.tb_io.specs.FileAnswers.{IsWithin, Tells, TellsOf};
-ghost use Rattle.tb_io.specs.HeldFiles.{FailingFiles, bytes_of, Gives};
+ghost use Rattle.tb_io.specs.HeldFiles.{FailingFiles, bytes_of, HasHeld};
 ghost use Rattle.tb_io.specs.HeldFiles.{IsReading, fails_next, after_read};
 ghost use Rattle.tb_io.specs.declared.answers.FileRead.TheVariants as file_read;
 
@@ -52,7 +52,7 @@ impl MemFiles {
     /// Gives the name these bytes, in place of those that it had. It takes memory for both. Out of
     /// memory, it changes nothing.
     pub fn hold(&mut self, name: &str, bytes: &[u8]) -> Result<(), Memory>
-        ensures ok { OnOk result (Gives self.old.held self.new.held name.now bytes.now) }
+        ensures ok { OnOk result (HasHeld self.old.held self.new.held name.now bytes.now) }
         ensures rest { self.new ≡ record self.old { held = self.new.held } }
         ensures err { OnErr result (self.new ≡ self.old) }
     {

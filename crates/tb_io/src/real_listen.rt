@@ -3,31 +3,34 @@ ghost use Rattle.tb_io.specs.Listeners.{CanAccept, HasFailed, Gives, connection,
 
 use crate::answers::{Accepted, Bound};
 use crate::listen::Listen;
-use crate::real_stream::{RealSource, RealStreamSink, ends_of};
+use crate::real_stream::{Outbox, RealSource, RealStreamSink, ends_of};
+use std::alloc::Global;
 use std::io;
 use std::io::ErrorKind;
 use std::marker::Model;
-use std::net::{Ipv4Addr, Net, OpenListener, OpenStream, TcpListener, TcpStream};
+use std::net::{Ipv4Addr, Net, TcpListener, TcpStream};
 
 /// How many clients in a row may go away before they are accepted; the next one fails the accept.
 const MOST_LOST_CLIENTS: u32 = 1_000;
 
-// A socket that listens on a port.
+// A socket that listens on a port, and the outbox of its sessions.
 #[derive(Drop)]
 struct OpenPort {
     socket: TcpListener,
     port: u16,
+    outbox: Outbox,
 }
 
 /// A TCP listener on the loopback address, 127.0.0.1.
 ///
-/// It tells no sessions, and closes those that come back. Each error of the system counts one
-/// fault, up to the count's last value, and is told by one line on the standard error; so is the
-/// port, once the listener is bound to it. Where the standard error can't be written nothing is
-/// told, and nothing else changes.
+/// It tells no sessions, and closes those that come back, once what they wrote was written out.
+/// Each error of a bind or an accept counts one fault, up to the count's last value, and is told by
+/// one line on the standard error; so is the port, once the listener is bound to it. Where the
+/// standard error can't be written nothing is told, and nothing else changes.
 #[derive(Drop)]
 pub struct RealListen<'a, R: Net<Listener = TcpListener, Stream = TcpStream> + Eprint> {
     rt: &'a R,
+    alloc: Global,
     bound: Option<OpenPort>,
     faults: u64,
     is_out: bool,
@@ -45,12 +48,14 @@ impl<'a, R: Net<Listener = TcpListener, Stream = TcpStream> + Eprint> Model for 
 }
 
 impl<'a, R: Net<Listener = TcpListener, Stream = TcpStream> + Eprint> RealListen<'a, R> {
-    /// A listener of this runtime that isn't bound, with no fault so far.
-    pub fn new(rt: &'a R) -> RealListen<'a, R>
+    /// A listener of this runtime that isn't bound, with no fault so far. It takes no memory. A
+    /// bind takes all that the sessions need, and fails where it is refused.
+    pub fn new(rt: &'a R, alloc: Global) -> RealListen<'a, R>
         ensures { result ≡ telling_none 0 None false }
     {
         RealListen {
             rt,
+            alloc,
             bound: None,
             faults: 0,
             is_out: false,
@@ -75,7 +80,7 @@ impl<'a, R: Net<Listener = TcpListener, Stream = TcpStream> + Eprint> RealListen
             unreachable!()
         };
         let port = bound.port;
-        match accept_ends(&bound.socket) {
+        match accept_ends(bound) {
             Ok(ends) => {
                 self.is_out = true;
                 Ok(ends)
@@ -89,12 +94,29 @@ impl<'a, R: Net<Listener = TcpListener, Stream = TcpStream> + Eprint> RealListen
     }
 }
 
-// The next stream of a socket, as its two ends. Small texts are to be sent at once; where that
-// can't be had they come later.
-fn accept_ends(socket: &TcpListener) -> io::Result<(RealSource, RealStreamSink)> {
-    let (stream, _) = socket.accept()?;
+// A socket that listens on this port, with an outbox.
+fn open_port<R: Net<Listener = TcpListener, Stream = TcpStream>>(
+    rt: &R,
+    alloc: Global,
+    port: u16,
+) -> io::Result<OpenPort>
+    ensures { IfOk result (λ bound. bound.port ≡ port) }
+{
+    let outbox = Outbox::new(alloc)?;
+    let socket = TcpListener::bind(rt, (Ipv4Addr::LOCALHOST, port))?;
+    Ok(OpenPort {
+        socket,
+        port,
+        outbox,
+    })
+}
+
+// The next stream of a port, as its two ends. What is written out is to be sent at once; where that
+// can't be had it comes later.
+fn accept_ends(bound: &OpenPort) -> io::Result<(RealSource, RealStreamSink)> {
+    let (stream, _) = bound.socket.accept()?;
     let _ = stream.set_nodelay(true);
-    ends_of(stream)
+    ends_of(stream, &bound.outbox)
 }
 
 impl<'a, R: Net<Listener = TcpListener, Stream = TcpStream> + Eprint> Listen for RealListen<'a, R> {
@@ -105,10 +127,10 @@ impl<'a, R: Net<Listener = TcpListener, Stream = TcpStream> + Eprint> Listen for
     ghost seen = { λ listener. listener };
 
     fn bind(&mut self, port: u16) -> Bound {
-        match TcpListener::bind(self.rt, (Ipv4Addr::LOCALHOST, port)) {
-            Ok(socket) => {
+        match open_port(self.rt, self.alloc, port) {
+            Ok(bound) => {
                 let _ = eprintln!(self.rt; "listening on 127.0.0.1:{port}");
-                self.bound = Some(OpenPort { socket, port });
+                self.bound = Some(bound);
                 Bound::Ready
             }
             Err(e) => {

@@ -1,52 +1,150 @@
-// The two ends of a TCP stream. They tell nothing of what they give and take.
+// The two ends of a TCP stream, and the outbox, where bytes wait to be written to it. They tell
+// nothing of what they give and take.
 
 ghost use Rattle.std.specs.Prelude.{◌≡◌, None, IfOk};
+ghost use Rattle.std.specs.Io.{ReadsAtMost};
 
 use crate::answers::Wrote;
 use crate::read::Read;
 use crate::sink::Sink;
 use crate::source::Source;
+use std::alloc::Global;
 use std::io;
-use std::net::{OpenStream, Shutdown, TcpStream};
+use std::io::{BufWriter, ErrorKind, Write};
+use std::net::{Shutdown, TcpStream};
+use std::sync::{Arc, Mutex, MutexGuard};
+
+/// How many bytes wait before they are written out together.
+const BUFFER: usize = 16_384;
+
+// The peer of the session that is out, and nobody between sessions, where bytes are lost.
+#[derive(Drop)]
+struct Peer {
+    stream: Option<TcpStream>,
+}
+
+impl Write for Peer {
+    fn write(&mut self, buf: &[u8]) -> io::Result<usize> {
+        match &mut self.stream {
+            Some(stream) => stream.write(buf),
+            None => Ok(buf.len()),
+        }
+    }
+
+    fn flush(&mut self) -> io::Result<()> {
+        Ok(())
+    }
+}
+
+/// Bytes that wait to be written to the peer together. A listener has one outbox for its sessions,
+/// one after another, and both ends of a session share it.
+#[derive(Drop)]
+pub(crate) struct Outbox {
+    shared: Arc<Mutex<BufWriter<Peer>>>,
+}
+
+impl Outbox {
+    /// An outbox of nobody. It takes all memory that its sessions need.
+    pub(crate) fn new(alloc: Global) -> io::Result<Outbox> {
+        let out = BufWriter::with_capacity(alloc, BUFFER, Peer { stream: None })?;
+        let shared = Arc::new(alloc, Mutex::new(out))?;
+        Ok(Outbox { shared })
+    }
+
+    // The same outbox, for another end. It takes no memory.
+    fn share(&self) -> io::Result<Outbox> {
+        let shared = Arc::try_clone(&self.shared)?;
+        Ok(Outbox { shared })
+    }
+
+    // It fails only where another thread has the outbox: nobody waits for it.
+    fn lock(&self) -> io::Result<MutexGuard<'_, BufWriter<Peer>>> {
+        match self.shared.try_lock() {
+            Some(out) => Ok(out),
+            None => Err(io::Error::from(ErrorKind::WouldBlock)),
+        }
+    }
+
+    // Takes the bytes, and writes out what waits where there is no room for them.
+    fn put(&self, bytes: &[u8]) -> io::Result<()> {
+        self.lock()?.write_all(bytes)
+    }
+
+    // Writes out what waits.
+    fn send(&self) -> io::Result<()> {
+        self.lock()?.flush()
+    }
+
+    // Begins the session of this stream.
+    fn open(&self, stream: TcpStream) -> io::Result<()> {
+        self.lock()?.get_mut().stream = Some(stream);
+        Ok(())
+    }
+
+    // Writes out what waits, and ends the session: what can't be written is lost.
+    fn close(&self) -> io::Result<()> {
+        let mut out = self.lock()?;
+        let sent = out.flush();
+        out.get_mut().stream = None;
+        out.flush()?;
+        sent
+    }
+}
 
 /// The reading end of a TCP stream.
 ///
+/// Before it reads it writes out what its writing end took, so no peer waits for what was written.
 /// Each error of the system counts one fault, up to the count's last value, and the read fails; so
-/// does one whose peer has reset the connection. A read where the peer has ended it returns End.
+/// does one whose peer has reset the connection, or takes no more, and one beside a write in
+/// another thread. A read where the peer has ended it returns End.
 #[derive(Drop)]
 pub struct RealSource {
     stream: TcpStream,
+    outbox: Outbox,
     faults: u64,
 }
 
 /// The writing end of a TCP stream.
 ///
-/// Each error of the system counts one fault, up to the count's last value, and the write fails; so
-/// does one whose peer has closed the connection. No write raises a signal.
+/// What it takes waits until there is no room for more, the reading end reads, or the session is
+/// given back; what can't be written out by then is lost. Each error of the system counts one
+/// fault, up to the count's last value, and the write fails; so does one whose peer has closed the
+/// connection, where bytes are written out, and one beside a read in another thread. No write
+/// raises a signal, and none takes memory.
 #[derive(Drop)]
 pub struct RealStreamSink {
-    stream: TcpStream,
+    outbox: Outbox,
     faults: u64,
 }
 
-/// Both ends of a stream, with no fault so far.
-pub(crate) fn ends_of(stream: TcpStream) -> io::Result<(RealSource, RealStreamSink)>
+/// Both ends of a stream, with no fault so far, over the outbox of their listener.
+pub(crate) fn ends_of(
+    stream: TcpStream,
+    outbox: &Outbox,
+) -> io::Result<(RealSource, RealStreamSink)>
     ensures { IfOk result (λ ends. (ends.0.faults ≡ 0) × (ends.1.faults ≡ 0)) }
 {
-    let other = stream.try_clone()?;
-    let reader = RealSource { stream, faults: 0 };
+    let reads = outbox.share()?;
+    let writes = outbox.share()?;
+    outbox.open(stream.try_clone()?)?;
+    let reader = RealSource {
+        stream,
+        outbox: reads,
+        faults: 0,
+    };
     let writer = RealStreamSink {
-        stream: other,
+        outbox: writes,
         faults: 0,
     };
     Ok((reader, writer))
 }
 
 impl RealSource {
-    /// Closes the stream, both ways, whoever else has an end of it. All that was written before
-    /// reaches the peer.
+    /// Writes out what waits and closes the stream, both ways. All that was written reaches the
+    /// peer.
     pub(crate) fn close(self) {
         // Where the peer has closed it already nothing is left to do.
+        let _ = self.outbox.close();
         let _ = self.stream.shutdown(Shutdown::Both);
     }
 }
@@ -58,7 +156,7 @@ impl Source for RealSource {
 
     /// Waits for the peer where nothing is there yet.
     fn read(&mut self, buf: &mut [u8]) -> Read {
-        match io::Read::read(&mut self.stream, buf) {
+        match read_next(&self.outbox, &mut self.stream, buf) {
             Ok(0) => Read::End,
             Ok(n) => Read::Got(n),
             Err(_) => {
@@ -74,9 +172,9 @@ impl Sink for RealStreamSink {
 
     ghost taken = { λ _. None };
 
-    /// Waits for the peer where it is behind.
+    /// Waits for the peer where there is no room and it is behind.
     fn write(&mut self, bytes: &[u8]) -> Wrote {
-        match io::Write::write_all(&mut self.stream, bytes) {
+        match self.outbox.put(bytes) {
             Ok(()) => Wrote::All,
             Err(_) => {
                 self.faults = self.faults.saturating_add(1);
@@ -84,4 +182,12 @@ impl Sink for RealStreamSink {
             }
         }
     }
+}
+
+// Writes out what waits, and then reads.
+fn read_next(outbox: &Outbox, stream: &mut TcpStream, buf: &mut [u8]) -> io::Result<usize>
+    ensures { ReadsAtMost result buf.new }
+{
+    outbox.send()?;
+    io::Read::read(stream, buf)
 }

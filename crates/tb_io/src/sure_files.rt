@@ -1,6 +1,6 @@
 ghost use Rattle.std.specs.Prelude.{◌≡◌, ◌≢◌, ◌≤◌, [], Some, OnOk, OnErr};
 ghost use Rattle.tb_io.specs.FileAnswers.{IsWithin, Tells, IsCopy};
-ghost use Rattle.tb_io.specs.HeldFiles.{bytes_or_none, Gives};
+ghost use Rattle.tb_io.specs.HeldFiles.{bytes_or_none, HasHeld};
 ghost use Rattle.tb_io.specs.declared.answers.FileRead.TheVariants as file_read;
 
 use crate::answers::FileRead;
@@ -39,7 +39,7 @@ impl SureFiles {
     /// Gives the name these bytes, in place of those that it had. It takes memory for both. Out of
     /// memory, it changes nothing.
     pub fn hold(&mut self, name: &str, bytes: &[u8]) -> Result<(), Memory>
-        ensures ok { OnOk result (Gives self.old self.new name.now bytes.now) }
+        ensures ok { OnOk result (HasHeld self.old self.new name.now bytes.now) }
         ensures err { OnErr result (self.new ≡ self.old) }
     {
         self.held.hold(name, bytes)

@@ -1,8 +1,12 @@
-//! Tests of listeners: sessions over loopback, with clients that stay and clients that go away, and
-//! sessions in memory.
+//! Tests of listeners: sessions over loopback, with clients that stay and clients that go away,
+//! what waits between the two ends of a session, and sessions in memory.
 #![tactic(auto)]
 
 #[cfg(test)]
 mod loopback;
 #[cfg(test)]
 mod memory;
+#[cfg(test)]
+mod tasks;
+#[cfg(test)]
+mod waiting;

@@ -1,7 +1,6 @@
 // Sessions over loopback, between a listener of the system and clients that stay or go away.
 
-ghost use Rattle.tb_io.specs.Listeners.{CanAccept};
-
+use super::tasks::{Served, Task, serve_one};
 use std::io::{Read as _, Write as _};
 use std::net::{Ipv4Addr, Net, TcpListener, TcpStream};
 use std::process::Abort;
@@ -9,43 +8,19 @@ use std::test::Fail;
 use std::thread;
 use std::thread::{Threads, join};
 use std::time::{Clock, Duration};
-use tb_io::{Accepted, Bound, Listen, Read, RealListen, Sink, Source, Wrote};
-
-// What became of a session on the server's side.
-#[derive(Clone, Copy, Debug, PartialEq, Eq)]
-pub(crate) enum Served {
-    // It read this byte and wrote it back.
-    Byte(u8),
-    // Nothing was left to read.
-    AtEnd,
-    // The read failed.
-    Broken,
-    // So many writes were whole before one failed.
-    Cut(u32),
-    // No write failed.
-    Whole,
-    // No session came, or the accept failed, or the bind.
-    None,
-    Refused,
-    Unbound,
-}
-
-// How many pieces of this length a server writes to a client that goes away.
-const PIECES: u32 = 10_000;
-
-const PIECE: usize = 65_536;
+use tb_io::{Bound, Listen, RealListen};
 
 // How often a client tries to connect, 10 ms after one another.
 const TRIES: u32 = 1_000;
 
 // A port that is free now.
-fn free_port<R: Net<Listener = TcpListener, Stream = TcpStream>>(rt: &R) -> Option<u16> {
+pub(crate) fn free_port<R: Net<Listener = TcpListener, Stream = TcpStream>>(rt: &R) -> Option<u16> {
     let listener = TcpListener::bind(rt, (Ipv4Addr::LOCALHOST, 0)).ok()?;
     Some(listener.local_addr().ok()?.port())
 }
 
 // Connects as soon as there is a listener.
-fn connect<R: Net<Listener = TcpListener, Stream = TcpStream> + Clock>(
+pub(crate) fn connect<R: Net<Listener = TcpListener, Stream = TcpStream> + Clock>(
     rt: &R,
     port: u16,
 ) -> Option<TcpStream> {
@@ -58,67 +33,13 @@ fn connect<R: Net<Listener = TcpListener, Stream = TcpStream> + Clock>(
     None
 }
 
-// Reads a byte and writes it back.
-fn echo<S: Source, O: Sink>(reader: &mut S, writer: &mut O) -> Served {
-    let mut byte = [0; 1];
-    match reader.read(&mut byte) {
-        Read::Got(_) => match writer.write(&byte) {
-            Wrote::All => Served::Byte(byte[0]),
-            Wrote::Failed => Served::Cut(0),
-        },
-        Read::End => Served::AtEnd,
-        Read::Failed => Served::Broken,
-    }
-}
-
-// Reads a byte, and then writes more than a client takes that has gone away.
-fn pour<S: Source, O: Sink>(reader: &mut S, writer: &mut O) -> Served {
-    let mut byte = [0; 1];
-    if let Read::Failed = reader.read(&mut byte) {
-        return Served::Broken;
-    }
-    let piece = [b'x'; PIECE];
-    for whole in 0..PIECES {
-        if let Wrote::Failed = writer.write(&piece) {
-            return Served::Cut(whole);
-        }
-    }
-    Served::Whole
-}
-
-// What a server does in a session.
-#[derive(Clone, Copy)]
-pub(crate) enum Task {
-    Echo,
-    Pour,
-}
-
-// Accepts a session, serves it and gives it back.
-pub(crate) fn serve_one<N: Listen>(listener: &mut N, task: Task) -> Served
-    requires { CanAccept (N.seen listener.old) }
-    ensures { CanAccept (N.seen listener.new) }
-{
-    match listener.accept() {
-        Accepted::Session(mut reader, mut writer) => {
-            let served = match task {
-                Task::Echo => echo(&mut reader, &mut writer),
-                Task::Pour => pour(&mut reader, &mut writer),
-            };
-            listener.give_back(reader, writer);
-            served
-        }
-        Accepted::End => Served::None,
-        Accepted::Failed => Served::Refused,
-    }
-}
-
 // Serves two sessions of a port, one after another.
-fn serve_two<R: Net<Listener = TcpListener, Stream = TcpStream> + Eprint>(
+pub(crate) fn serve_two<R: Net<Listener = TcpListener, Stream = TcpStream> + Eprint + AllocGlobal>(
     rt: &R,
     port: u16,
     first: Task,
 ) -> (Served, Served) {
-    let mut listener = RealListen::new(rt);
+    let mut listener = RealListen::new(rt, rt.alloc());
     match listener.bind(port) {
         Bound::Ready => {
             let one = serve_one(&mut listener, first);
@@ -130,7 +51,7 @@ fn serve_two<R: Net<Listener = TcpListener, Stream = TcpStream> + Eprint>(
 }
 
 // Sends these bytes, and returns the one byte that comes back before the end.
-fn ask<R: Net<Listener = TcpListener, Stream = TcpStream> + Clock>(
+pub(crate) fn ask<R: Net<Listener = TcpListener, Stream = TcpStream> + Clock>(
     rt: &R,
     port: u16,
     bytes: &[u8],
@@ -177,7 +98,13 @@ fn break_off<R: Net<Listener = TcpListener, Stream = TcpStream> + Clock>(
 
 // The second session begins once the first was given back.
 fn two_sessions<
-    R: Net<Listener = TcpListener, Stream = TcpStream> + Eprint + Clock + Threads + Abort + Sync,
+    R: Net<Listener = TcpListener, Stream = TcpStream>
+        + Eprint
+        + AllocGlobal
+        + Clock
+        + Threads
+        + Abort
+        + Sync,
 >(rt: &R) -> Result<(), Fail> {
     let port = free_port(rt).ok_or("a port")?;
     let (served, back) = join(
@@ -193,7 +120,13 @@ fn two_sessions<
 // The first client sends more than the server reads, and still reads all that was written and the
 // end.
 fn unread_bytes<
-    R: Net<Listener = TcpListener, Stream = TcpStream> + Eprint + Clock + Threads + Abort + Sync,
+    R: Net<Listener = TcpListener, Stream = TcpStream>
+        + Eprint
+        + AllocGlobal
+        + Clock
+        + Threads
+        + Abort
+        + Sync,
 >(rt: &R) -> Result<(), Fail> {
     let port = free_port(rt).ok_or("a port")?;
     let (served, back) = join(
@@ -207,7 +140,13 @@ fn unread_bytes<
 }
 
 fn client_leaves<
-    R: Net<Listener = TcpListener, Stream = TcpStream> + Eprint + Clock + Threads + Abort + Sync,
+    R: Net<Listener = TcpListener, Stream = TcpStream>
+        + Eprint
+        + AllocGlobal
+        + Clock
+        + Threads
+        + Abort
+        + Sync,
 >(rt: &R) -> Result<(), Fail> {
     let port = free_port(rt).ok_or("a port")?;
     let (served, back) = join(
@@ -221,7 +160,13 @@ fn client_leaves<
 }
 
 fn client_breaks_off<
-    R: Net<Listener = TcpListener, Stream = TcpStream> + Eprint + Clock + Threads + Abort + Sync,
+    R: Net<Listener = TcpListener, Stream = TcpStream>
+        + Eprint
+        + AllocGlobal
+        + Clock
+        + Threads
+        + Abort
+        + Sync,
 >(rt: &R) -> Result<(), Fail> {
     let port = free_port(rt).ok_or("a port")?;
     let ((first, second), back) = join(
@@ -236,53 +181,13 @@ fn client_breaks_off<
 }
 
 // Binds a second listener to a port that is in use, and returns how both ended.
-fn bind_twice<R: Net<Listener = TcpListener, Stream = TcpStream> + Eprint>(
+fn bind_twice<R: Net<Listener = TcpListener, Stream = TcpStream> + Eprint + AllocGlobal>(
     rt: &R,
     port: u16,
 ) -> (Bound, Bound) {
-    let mut first = RealListen::new(rt);
-    let mut second = RealListen::new(rt);
+    let mut first = RealListen::new(rt, rt.alloc());
+    let mut second = RealListen::new(rt, rt.alloc());
     (first.bind(port), second.bind(port))
-}
-
-// Serves a session whose ends are used in two threads.
-fn echo_apart<N: Listen + Send, R: Threads + Sync>(rt: &R, listener: &mut N) -> Served
-    requires { CanAccept (N.seen listener.old) }
-{
-    match listener.accept() {
-        Accepted::Session(mut reader, mut writer) => {
-            let mut byte = [0; 1];
-            let (read, wrote) = join(rt, || reader.read(&mut byte), || writer.write(b"c"));
-            listener.give_back(reader, writer);
-            match (read, wrote) {
-                (Read::Got(_), Wrote::All) => Served::Byte(byte[0]),
-                _ => Served::Broken,
-            }
-        }
-        Accepted::End => Served::None,
-        Accepted::Failed => Served::Refused,
-    }
-}
-
-fn serve_apart<R: Net<Listener = TcpListener, Stream = TcpStream> + Eprint + Threads + Sync>(
-    rt: &R,
-    port: u16,
-) -> Served {
-    let mut listener = RealListen::new(rt);
-    match listener.bind(port) {
-        Bound::Ready => echo_apart(rt, &mut listener),
-        Bound::Failed => Served::Unbound,
-    }
-}
-
-fn ends_apart<
-    R: Net<Listener = TcpListener, Stream = TcpStream> + Eprint + Clock + Threads + Abort + Sync,
->(rt: &R) -> Result<(), Fail> {
-    let port = free_port(rt).ok_or("a port")?;
-    let (served, back) = join(rt, || serve_apart(rt, port), || ask(rt, port, b"a"));
-    assert_eq!(rt; served, Served::Byte(b'a'));
-    assert_eq!(rt; back, Some(b'c'));
-    Ok(())
 }
 
 #[test]
@@ -303,11 +208,6 @@ fn client_that_closes_at_once_ends_its_session_alone(rt: HostRuntime) -> Result<
 #[test]
 fn write_to_a_client_that_went_away_fails(rt: HostRuntime) -> Result<(), Fail> {
     client_breaks_off(&rt)
-}
-
-#[test]
-fn ends_of_a_session_serve_in_two_threads(rt: HostRuntime) -> Result<(), Fail> {
-    ends_apart(&rt)
 }
 
 #[test]

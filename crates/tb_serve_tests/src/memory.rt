@@ -4,7 +4,7 @@ ghost use Rattle.std.specs.Prelude.{IfOk};
 ghost use Rattle.tb_io.specs.HeldSessions.{listener_of};
 ghost use Rattle.tb_io.specs.Listeners.{CanBind};
 
-use crate::loopback::{Served, Task, serve_one};
+use crate::tasks::{Served, Task, serve_one};
 use std::alloc::Global;
 use std::test::Fail;
 use tb_base::Memory;
