@@ -82,7 +82,7 @@ tb_table <- function(session, query, where = NULL, totals = FALSE, labels = FALS
   if (last < 4 || !grepl("^release [0-9]+$", reply[1])) tb_expect_another(session, reply)
   table <- read.csv(
     text = reply[2:(last - 1)], colClasses = "character", check.names = FALSE,
-    na.strings = character(0), encoding = "UTF-8"
+    na.strings = character(0)
   )
   counts <- table[[ncol(table)]]
   counts[counts == "c"] <- NA
