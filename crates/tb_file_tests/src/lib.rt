@@ -11,6 +11,8 @@ mod accepted;
 #[cfg(test)]
 mod files;
 #[cfg(test)]
+mod generated;
+#[cfg(test)]
 mod printed;
 #[cfg(test)]
 mod refused;
