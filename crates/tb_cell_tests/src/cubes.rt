@@ -1,4 +1,4 @@
-// The cube of a release over one variable, past a gate, with ample memory.
+// The cube of a release over one variable, past a gate and in parts, with ample memory.
 
 ghost use Rattle.std.specs.Prelude.{◌≡◌, ◌<◌, IfOk};
 ghost use Rattle.tb_base.specs.Records.{AllFit};
@@ -10,10 +10,10 @@ use std::marker::Brand;
 use std::sync::ledger::{Blank, Ledger};
 use std::test::Fail;
 use std::thread::Threads;
-use tb_base::{Cell, Memory, Shape, Steps, VarSet};
-use tb_build::{Gate, build};
+use tb_base::{Cell, Codes, MOST_PERSONS, Memory, People, Record, Shape, Steps, VarSet};
+use tb_build::{Gate, build, build_in_parts};
 use tb_grid::{MOST_CELLS, cells_over};
-use tb_release::Release;
+use tb_release::{Release, records_fit};
 use tb_schema::Schema;
 use tb_small_values::{release, schema};
 
@@ -40,19 +40,65 @@ fn sex(alloc: Global, shape: &Shape) -> Result<VarSet, Memory>
     Ok(vars)
 }
 
-// 200 + 100 + 20 = 320, and 320 - 256 = 64.
-fn are_worked(cells: &[Cell]) -> bool {
-    let want = [Cell { count: 3, key: 64 }, Cell { count: 1, key: 7 }];
-    cells == want.as_slice()
+// The cells of SEX: 200 + 100 + 20 = 320, and 320 - 256 = 64.
+fn worked() -> [Cell; 2] {
+    [Cell { count: 3, key: 64 }, Cell { count: 1, key: 7 }]
 }
 
-// Whether the cells of SEX are those worked by hand, and the gate was reached once.
+// As many persons as are counted in parts where there are several processors.
+const MANY: u32 = 250_000;
+
+// By turns they are of the second category of SEX with key 1, and of the first with key 0; so 125,000
+// are of each, and 125,000 - 488 * 256 = 72.
+fn many_worked() -> [Cell; 2] {
+    let each = MANY / 2;
+    [
+        Cell {
+            count: each,
+            key: 0,
+        },
+        Cell {
+            count: each,
+            key: 72,
+        },
+    ]
+}
+
+fn many_people(alloc: Global) -> Result<People, Memory> {
+    let mut people = People::with_room(alloc, MANY as usize);
+    for person in 1..=MANY {
+        let second = person % 2;
+        let codes = Codes::of(alloc, &[second as u16, 0, 0])?;
+        let key = second as u8;
+        if people.add(Record { person, key, codes }).is_err() {
+            return Err(Memory);
+        }
+    }
+    Ok(people)
+}
+
+// Release 0 of persons who fit the schema.
+fn first(alloc: Global, schema: &Schema, people: People) -> Result<Release, Memory>
+    ensures { IfOk result (λ release. AllFit (shape_of schema.now) release.records) }
+{
+    if !records_fit(schema.shape(), people.all()) {
+        return Err(Memory);
+    }
+    if people.len() > MOST_PERSONS {
+        return Err(Memory);
+    }
+    let release = Release::first(alloc, people)?;
+    Ok(release)
+}
+
+// Whether the cells of SEX are those that are wanted, and the gate was reached once.
 fn is_right<L: Ledger, R: Threads + Sync>(
     blank: Blank,
     rt: &R,
     alloc: Global,
     schema: &Schema,
     release: &Release,
+    want: &[Cell],
 ) -> Result<bool, Memory>
     requires ledger { blank.name ≡ L.name }
     requires parts { blank.parts ≡ L.parts }
@@ -64,14 +110,62 @@ fn is_right<L: Ledger, R: Threads + Sync>(
     let mut steps = Steps::<L>::new(blank);
     let shape = schema.shape();
     let cube = build(rt, alloc, shape, release, &vars, &mut gate, &mut steps)?;
-    Ok(gate.times == 1 && are_worked(cube.as_slice()))
+    Ok(gate.times == 1 && cube.as_slice() == want)
+}
+
+// Whether the cells of SEX are those that are wanted, in each number of parts up to seven.
+fn is_right_in_parts<L: Ledger, R: Threads + Sync>(
+    blank: Blank,
+    rt: &R,
+    alloc: Global,
+    schema: &Schema,
+    release: &Release,
+    want: &[Cell],
+) -> Result<bool, Memory>
+    requires ledger { blank.name ≡ L.name }
+    requires parts { blank.parts ≡ L.parts }
+    requires some { 0 < L.parts }
+    requires fit { AllFit (shape_of schema.now) release.now.records }
+{
+    let vars = sex(alloc, schema.shape())?;
+    let mut steps = Steps::<L>::new(blank);
+    let shape = schema.shape();
+    for parts in 0..8 {
+        let cube = build_in_parts(rt, alloc, shape, release, &vars, parts, &mut steps)?;
+        if cube.as_slice() != want {
+            return Ok(false);
+        }
+    }
+    Ok(true)
 }
 
 #[test]
 fn ample_memory_is_enough(rt: HostRuntime) -> Result<(), Fail> {
     let schema = schema(rt.alloc())?;
     let release = release(rt.alloc(), &schema)?;
-    let right = is_right::<Brand, _>(Blank::new(1), &rt, rt.alloc(), &schema, &release)?;
+    let want = worked();
+    let right = is_right::<Brand, _>(Blank::new(1), &rt, rt.alloc(), &schema, &release, &want)?;
+    assert!(rt; right);
+    Ok(())
+}
+
+#[test]
+fn parts_are_enough(rt: HostRuntime) -> Result<(), Fail> {
+    let schema = schema(rt.alloc())?;
+    let release = release(rt.alloc(), &schema)?;
+    let want = worked();
+    let alloc = rt.alloc();
+    let right = is_right_in_parts::<Brand, _>(Blank::new(1), &rt, alloc, &schema, &release, &want)?;
+    assert!(rt; right);
+    Ok(())
+}
+
+#[test]
+fn many_persons_are_counted(rt: HostRuntime) -> Result<(), Fail> {
+    let schema = schema(rt.alloc())?;
+    let release = first(rt.alloc(), &schema, many_people(rt.alloc())?)?;
+    let want = many_worked();
+    let right = is_right::<Brand, _>(Blank::new(1), &rt, rt.alloc(), &schema, &release, &want)?;
     assert!(rt; right);
     Ok(())
 }

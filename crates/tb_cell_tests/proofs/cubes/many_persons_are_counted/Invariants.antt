@@ -1,0 +1,5 @@
+use Rattle.tb_cell_tests.proofs.cubes.many_persons_are_counted.Given as goal
+
+-- the ledger of the blank
+abbrev pub ghosts-is_right : goal.ghosts-is_right
+ghosts-is_right g a = record { name = a.blank.name; parts = a.blank.parts }
