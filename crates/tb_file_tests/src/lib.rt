@@ -1,6 +1,6 @@
 //! Tests of the files: each reader's files by their bytes, each fault with its place, the texts of
-//! faults, names at their limits, and the forms over the system. Each reader is called with ample
-//! memory.
+//! faults, names at their limits, the generated files, and the forms over the system. Each call has
+//! ample memory.
 //!
 //! They call public functions alone. Tests stand in crates of their own since a crate that has
 //! tests is proved twice. Whole runs stand in `tablebuilder`.

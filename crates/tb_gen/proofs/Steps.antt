@@ -1,5 +1,6 @@
 -- Loops that write: what is written so far, and then the lines of the rest, is the whole.
-use Rattle.std.proofs.Common.{◌≡◌, refl, sym, ap, ◌∙◌, subst, ℕ, zero, suc, ◌+◌, ◌-◌, ◌*◌, ◌/◌, ◌<◌, ◌≤◌, List, [], ◌++◌, arith, append_assoc, append-nil}
+use Rattle.std.proofs.Common.{◌≡◌, refl, sym, ap, ◌∙◌, ℕ}
+use Rattle.std.proofs.Common.{zero, suc, ◌+◌, ◌-◌, ◌*◌, ◌/◌, ◌<◌, ◌≤◌, List, [], ◌++◌, arith, append_assoc, append-nil}
 use Rattle.std.specs.List.{flat_map, range_with_len}
 use Rattle.tb_gen.specs.Draws.{after, draw, next_state}
 use Rattle.tb_gen.specs.Lines.{each_below}
@@ -14,7 +15,8 @@ unfolding rest_of each_below
 all_left n lines = let same : n - 0 ≡ n = omega arith in ap (λ k. flat_map lines (range_with_len 0 k)) same
 
 -- the lines of one number are written
-pub one_more : (n : ℕ) (lines : ℕ → List ℕ) (i : ℕ) (old new all : List ℕ) → i < n → new ≡ old ++ lines i → old ++ rest_of n lines i ≡ all → new ++ rest_of n lines (i + 1) ≡ all
+pub one_more : (n : ℕ) (lines : ℕ → List ℕ) (i : ℕ) (old new all : List ℕ) → i < n → new ≡ old ++ lines i
+    → old ++ rest_of n lines i ≡ all → new ++ rest_of n lines (i + 1) ≡ all
 unfolding rest_of
 one_more n lines i old new all below grown whole =
     let count : n - i ≡ suc (n - (i + 1)) = omega arith in
@@ -60,7 +62,8 @@ unfolding after
 none_yet x = refl
 
 -- a file that has its header alone
-pub starts : (n : ℕ) (lines : ℕ → List ℕ) (empty head file : List ℕ) → empty ≡ [] → file ≡ empty ++ head → file ++ rest_of n lines 0 ≡ head ++ each_below n lines
+pub starts : (n : ℕ) (lines : ℕ → List ℕ) (empty head file : List ℕ) → empty ≡ [] → file ≡ empty ++ head
+    → file ++ rest_of n lines 0 ≡ head ++ each_below n lines
 starts n lines empty head file none grown =
     let text : file ≡ head = grown ∙ ap (λ t. t ++ head) none in
     ap (λ t. t ++ rest_of n lines 0) text ∙ ap (λ t. head ++ t) (all_left n lines)

@@ -1,5 +1,5 @@
 -- Worked draws, a worked person and lines, computed from the definitions.
-use Rattle.std.specs.Prelude.{◌≡◌, refl, ℕ, List, [], ◌∷◌, codes, map}
+use Rattle.std.specs.Prelude.{◌≡◌, refl, [], ◌∷◌, codes, map}
 use Rattle.std.specs.Fmt.{digits}
 use Rattle.tb_gen.specs.Draws.{after, seed}
 use Rattle.tb_gen.specs.Lines.{each_below}

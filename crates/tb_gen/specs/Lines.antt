@@ -1,5 +1,5 @@
 -- Lines of the generated files.
-use Rattle.std.specs.Prelude.{ℕ, List, ◌∷◌, [], flat_map}
+use Rattle.std.specs.Prelude.{ℕ, List, flat_map}
 use Rattle.std.specs.List.{join_with_byte, range_with_len}
 use Rattle.tb_model.specs.Texts.{line_text}
 

@@ -5,4 +5,5 @@ use Rattle.tb_gen.proofs.Steps.{rest_of}
 use Rattle.tb_gen.proofs.classes.add_classes.Given as goal
 
 abbrev pub invariant-loop-category : goal.invariant-loop-category
-invariant-loop-category l = l.file.items ++ rest_of (categories_of l.variable) (class_line l.variable) l.category ≡ l.fn.file.items ++ class_lines l.variable
+invariant-loop-category l = l.file.items ++ rest_of (categories_of l.variable) (class_line l.variable) l.category
+    ≡ l.fn.file.items ++ class_lines l.variable

@@ -1,4 +1,4 @@
-use Rattle.std.proofs.Common.{◌≡◌, ℕ, ◌+◌, ◌*◌, List, ◌++◌, ◌∙◌, sym, ap, arith}
+use Rattle.std.proofs.Common.{ℕ, ◌+◌, ◌*◌, List, ◌++◌, ◌∙◌, sym, ap, arith}
 use Rattle.tb_gen.specs.Draws.{after}
 use Rattle.tb_gen.specs.Generated.{person_line}
 use Rattle.tb_gen.proofs.Steps.{none_yet, starts, draws_more, one_more, none_left}

@@ -8,5 +8,6 @@ use Rattle.tb_gen.proofs.ptable.add_row.Given as goal
 abbrev pub invariant-loop-ckey : goal.invariant-loop-ckey
 invariant-loop-ckey l = record {
   draws : l.draws ≡ after l.ckey l.fn.draws;
-  file : l.file.items ++ rest_of KEY_RANGE (λ ckey. pvalue_line l.pcv ckey (after ckey l.fn.draws)) l.ckey ≡ l.fn.file.items ++ row_lines l.pcv l.fn.draws;
+  file : l.file.items ++ rest_of KEY_RANGE (λ ckey. pvalue_line l.pcv ckey (after ckey l.fn.draws)) l.ckey
+      ≡ l.fn.file.items ++ row_lines l.pcv l.fn.draws;
 }

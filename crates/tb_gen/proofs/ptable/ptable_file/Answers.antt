@@ -1,4 +1,4 @@
-use Rattle.std.proofs.Common.{◌≡◌, ℕ, ◌+◌, ◌*◌, List, ◌++◌, ◌∙◌, sym, ap, arith}
+use Rattle.std.proofs.Common.{ℕ, ◌+◌, ◌*◌, List, ◌++◌, ◌∙◌, sym, ap, arith}
 use Rattle.tb_base.specs.declared.cells.TheConstants.{KEY_RANGE}
 use Rattle.tb_model.specs.declared.rows.TheConstants.{LAST_ROW}
 use Rattle.tb_gen.specs.Draws.{after, seed}

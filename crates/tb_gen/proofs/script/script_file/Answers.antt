@@ -1,4 +1,4 @@
-use Rattle.std.proofs.Common.{◌≡◌, ℕ, ◌*◌, List, ◌++◌, ◌∙◌, sym, ap, codes, arith}
+use Rattle.std.proofs.Common.{ℕ, ◌*◌, List, ◌++◌, ◌∙◌, sym, ap, codes, arith}
 use Rattle.tb_gen.specs.Draws.{after, seed}
 use Rattle.tb_gen.specs.Generated.{round_lines}
 use Rattle.tb_gen.proofs.Steps.{rest_of, none_yet, all_left, draws_more, one_more, none_left}

@@ -1,4 +1,4 @@
-use Rattle.std.proofs.Common.{◌≡◌, ◌≤◌, ◌+◌, ◌-◌, sym, ap, ◌∙◌, ◌++◌, length, decimal, drop, arith, length-append, length-drop}
+use Rattle.std.proofs.Common.{ap, length, decimal, drop, arith, length-append, length-drop}
 use Rattle.std.proofs.lemmas.Fmt.{length-decimal-le}
 use Rattle.tb_gen.proofs.line.Line.put_number.Goals as goal
 
