@@ -1,0 +1,13 @@
+use Rattle.std.proofs.Common.{◌≡◌, sym, ap, ◌∙◌, get_or, length, Some, subst, List, ◌<◌}
+use Rattle.tb_base.specs.declared.records.Record.{Record}
+use Rattle.tb_pages.specs.Pages.{no_page}
+use Rattle.tb_pages.proofs.Changed.{stands, found_there}
+use Rattle.tb_pages.proofs.register.Register.record.Goals as goal
+
+pub page-requires : goal.page-requires
+page-requires c = (stands c.requires.register.distinct c.requires.spot).page.within
+
+pub returns : goal.returns
+returns c =
+    let s = stands c.requires.register.distinct c.requires.spot in
+    found_there s ∙ ap Some (sym (c.index-page-spot.is ∙ ap (λ rs. get_or rs c.args.spot.place c.index-page-spot.result) c.page.ensures ∙ s.place.at c.index-page-spot.result))
