@@ -163,9 +163,6 @@ some_page (Some e) k is = refl
 pub has_entry : (book : Book) (q k : ℕ) → page_in book q ≡ Some k → is_some (finmap.get book q) ≡ true
 has_entry book q k is = some_page (finmap.get book q) k is
 
-pub empty_shards : (n : ℕ) → n ≡ SHARDS → AreShards (replicate n [])
-empty_shards n all = record { all = length-replicate n [] ∙ all; own = apart_none_in 0 n }
-
 pub empty_book : (n : ℕ) → book_of (replicate n []) ≡ finmap.empty
 empty_book n = ap (λ es. finmap.from_entries (map (λ (e : Entry). (e.person, e)) es)) (none_in n)
 

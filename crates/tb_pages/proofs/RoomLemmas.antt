@@ -7,9 +7,8 @@ use Rattle.std.proofs.lemmas.List.Sums.{length-filter, count_by-le-length}
 use Rattle.tb_base.specs.declared.records.Record.{Record}
 use Rattle.tb_base.specs.Persons.{has_person}
 use Rattle.tb_pages.specs.declared.page.TheConstants.{PAGE_ROOM}
-use Rattle.tb_pages.specs.declared.pages.TheConstants.{PAGES}
 use Rattle.tb_pages.specs.Pages.{PageValue, is_of, page_of, with_added, cut, at_person, page_without, page_replaced, changed_pages}
-use Rattle.tb_pages.specs.Rooms.{last_length, AreFilledBy, ChangesFill, RecordsFill}
+use Rattle.tb_pages.specs.Rooms.{last_length, AreFilledBy, ChangesFill, FewPages, RecordsFill}
 use Rattle.tb_pages.proofs.PageFinds.{grown}
 
 -- what an add does: the last page has one more, or a new page has one and the last one was full
@@ -98,8 +97,5 @@ pub records_fill : RecordsFill
 records_fill records = let h = all_fill [] records 0 (omega arith) in omega arith
 
 -- so there are few
-pub few_pages : (pages : List PageValue) (adds : ℕ) → AreFilledBy pages adds → adds ≤ 2000000 → length pages ≤ 1954
+pub few_pages : FewPages
 few_pages pages adds filled le = omega arith
-
-pub few_numbers : (pages : List PageValue) (adds : ℕ) → AreFilledBy pages adds → adds ≤ 2000001 → length pages ≤ PAGES
-few_numbers pages adds filled le = omega arith

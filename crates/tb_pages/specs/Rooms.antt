@@ -1,7 +1,8 @@
 -- How many pages there can be.
-use Rattle.std.specs.Prelude.{◌≤◌, ℕ, ◌+◌, ◌*◌, List, [], ◌∷◌, length, Option}
+use Rattle.std.specs.Prelude.{◌<◌, ◌≤◌, ℕ, ◌+◌, ◌*◌, List, [], ◌∷◌, length, Option}
 use Rattle.tb_base.specs.declared.records.Record.{Record}
 use Rattle.tb_pages.specs.declared.page.TheConstants.{PAGE_ROOM}
+use Rattle.tb_pages.specs.declared.pages.TheConstants.{PAGES}
 use Rattle.tb_pages.specs.Pages.{PageValue, changed_pages, cut}
 
 -- how many records the last page has
@@ -24,3 +25,9 @@ ChangesFill =
 -- so are those of release 0
 abbrev pub RecordsFill : Type 0
 RecordsFill = (records : List Record) → AreFilledBy (cut records) (length records)
+
+-- two million adds leave fewer pages than there are numbers
+abbrev pub FewPages : Type 0
+FewPages =
+    (pages : List PageValue) (adds : ℕ) → AreFilledBy pages adds → adds ≤ 2000000
+    → length pages < PAGES

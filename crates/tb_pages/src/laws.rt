@@ -1,5 +1,5 @@
 //! Laws of pages and their stamps. Each function does nothing, and its contract is a law.
-ghost use Rattle.tb_pages.specs.Rooms.{ChangesFill, RecordsFill};
+ghost use Rattle.tb_pages.specs.Rooms.{ChangesFill, FewPages, RecordsFill};
 ghost use Rattle.tb_pages.specs.Stamps.{ChangesKeepPages, StampsTell, StepsKeepPages};
 
 /// A change leaves each page that doesn't get its stamp as it was.
@@ -25,4 +25,9 @@ pub fn changes_fill()
 /// So are those of release 0.
 pub fn records_fill()
     ensures { RecordsFill }
+{}
+
+/// Two million adds leave fewer pages than there are numbers for them.
+pub fn few_pages()
+    ensures { FewPages }
 {}

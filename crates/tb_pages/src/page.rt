@@ -14,7 +14,7 @@ pub const PAGE_ROOM: usize = 1_024;
 /// A page of at most `PAGE_ROOM` records, with its stamp: the number of the release that last
 /// changed it.
 #[derive(Drop)]
-pub struct Page {
+pub(crate) struct Page {
     records: Vec<Record>,
     stamp: u32,
 }
@@ -35,7 +35,7 @@ impl Model for Page {
 
 impl Page {
     /// A page of these records, with stamp 0. It takes no memory.
-    pub fn of(records: Vec<Record>) -> Page
+    pub(crate) fn of(records: Vec<Record>) -> Page
         requires { length records.items ≤ PAGE_ROOM }
         ensures { result ≡ page_of records.items 0 }
     {
@@ -43,7 +43,7 @@ impl Page {
     }
 
     /// A page of one record, with room for `PAGE_ROOM`.
-    pub fn of_one(alloc: Global, stamp: u32, one: Record) -> Result<Page, Memory>
+    pub(crate) fn of_one(alloc: Global, stamp: u32, one: Record) -> Result<Page, Memory>
         ensures { IfOk result (λ page. page ≡ page_of (one ∷ []) stamp) }
     {
         let mut records = Vec::with_capacity(alloc, PAGE_ROOM)?;
@@ -52,7 +52,7 @@ impl Page {
     }
 
     /// An equal page, with room for `PAGE_ROOM` records.
-    pub fn copy(&self, alloc: Global) -> Result<Page, Memory>
+    pub(crate) fn copy(&self, alloc: Global) -> Result<Page, Memory>
         ensures { IfOk result (λ page. page ≡ self.now) }
     {
         let records = copies_of(alloc, &self.records)?;
@@ -61,28 +61,28 @@ impl Page {
     }
 
     /// How many records there are.
-    pub fn len(&self) -> usize
+    pub(crate) fn len(&self) -> usize
         ensures { result ≡ length self.now.records }
     {
         self.records.len()
     }
 
     /// The number of the release that last changed it.
-    pub fn stamp(&self) -> u32
+    pub(crate) fn stamp(&self) -> u32
         ensures { result ≡ self.now.stamp }
     {
         self.stamp
     }
 
     /// The records, in order.
-    pub fn records(&self) -> &[Record]
+    pub(crate) fn records(&self) -> &[Record]
         ensures { result.now ≡ self.now.records }
     {
         self.records.as_slice()
     }
 
     /// The place of the record of a person who has one.
-    pub fn find(&self, person: u32) -> usize
+    pub(crate) fn find(&self, person: u32) -> usize
         requires { has_person self.now.records person ≡ true }
         ensures { IsPlace self.now.records person result }
     {
@@ -90,14 +90,14 @@ impl Page {
     }
 
     /// Gives it another stamp.
-    pub fn restamp(&mut self, stamp: u32)
+    pub(crate) fn restamp(&mut self, stamp: u32)
         ensures { self.new ≡ page_of self.old.records stamp }
     {
         self.stamp = stamp;
     }
 
     /// Puts a record last.
-    pub fn push(&mut self, one: Record) -> Result<(), Memory>
+    pub(crate) fn push(&mut self, one: Record) -> Result<(), Memory>
         requires { length self.old.records < PAGE_ROOM }
         ensures { OnOk result (self.new ≡ page_of (self.old.records ++ one ∷ []) self.old.stamp) }
     {
@@ -106,7 +106,7 @@ impl Page {
     }
 
     /// Takes a record out, and closes up.
-    pub fn take_out(&mut self, place: usize) -> Record
+    pub(crate) fn take_out(&mut self, place: usize) -> Record
         requires { place < length self.old.records }
         ensures taken { slice_get self.old.records place ≡ Some result }
         ensures new { self.new ≡ page_of (remove self.old.records place) self.old.stamp }
@@ -115,7 +115,7 @@ impl Page {
     }
 
     /// Puts another record in the place of one, which is returned.
-    pub fn replace(&mut self, place: usize, new: Record) -> Record
+    pub(crate) fn replace(&mut self, place: usize, new: Record) -> Record
         requires { place < length self.old.records }
         ensures taken { slice_get self.old.records place ≡ Some result }
         ensures new { self.new ≡ page_of (slice_set self.old.records place new) self.old.stamp }

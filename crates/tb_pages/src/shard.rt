@@ -16,7 +16,7 @@ pub struct Entry {
 
 /// Entries that ascend by their persons.
 #[derive(Drop)]
-pub struct Shard {
+pub(crate) struct Shard {
     list: Vec<Entry>,
 }
 
@@ -63,7 +63,7 @@ fn sort(list: &mut Vec<Entry>)
 
 impl Shard {
     /// These entries, sorted by their persons. It takes no memory.
-    pub fn of(list: Vec<Entry>) -> Shard
+    pub(crate) fn of(list: Vec<Entry>) -> Shard
         requires { AreApart list.items }
         ensures { HoldSame list.items result }
     {
@@ -73,7 +73,7 @@ impl Shard {
     }
 
     /// An equal shard, with room for one more entry.
-    pub fn copy(&self, alloc: Global) -> Result<Shard, Memory>
+    pub(crate) fn copy(&self, alloc: Global) -> Result<Shard, Memory>
         ensures { IfOk result (λ shard. shard ≡ self.now) }
     {
         let mut list = Vec::with_capacity(alloc, self.list.len() + 1)?;
@@ -82,7 +82,7 @@ impl Shard {
     }
 
     /// What there is of a person.
-    pub fn get(&self, person: u32) -> Option<Entry>
+    pub(crate) fn get(&self, person: u32) -> Option<Entry>
         ensures { result ≡ held_in self.now person }
     {
         match search(&self.list, person) {
@@ -92,7 +92,7 @@ impl Shard {
     }
 
     /// Puts an entry in the place of its person's, or adds it.
-    pub fn set(&mut self, entry: Entry) -> Result<(), Memory>
+    pub(crate) fn set(&mut self, entry: Entry) -> Result<(), Memory>
         ensures ok { OnOk result (Sets self.old self.new entry) }
         ensures err { OnErr result (self.new ≡ self.old) }
     {
