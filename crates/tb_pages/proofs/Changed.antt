@@ -1,6 +1,6 @@
 -- A change that is made in a register.
-use Rattle.std.proofs.Common.{◌≡◌, ℕ, suc, ◌+◌, ◌-◌, ◌<◌, ◌≤◌, true, false, cond, not, eqb, List, [], ◌∷◌, ◌++◌, map, length, get_or, set, refl, sym, ap, ◌∙◌, subst, arith, length-append}
-use Rattle.std.specs.Prelude.{Option, Some, None, filter, is_some, if◌then◌else◌, remove, slice_set}
+use Rattle.std.proofs.Common.{◌≡◌, ℕ, suc, ◌+◌, ◌-◌, ◌≤◌, true, false, cond, not, eqb, List, [], ◌∷◌, ◌++◌, map, length, get_or, set, refl, sym, ap, ◌∙◌, subst, arith, length-append}
+use Rattle.std.specs.Prelude.{Some, None, filter, is_some, if◌then◌else◌, remove, slice_set}
 use Rattle.std.specs.List.{slice_get}
 use Rattle.std.specs.FinMap as finmap
 use Rattle.std.proofs.lemmas.List.{length-map}
@@ -11,7 +11,7 @@ use Rattle.tb_base.proofs.PersonLemmas.{AreDistinct-push}
 use Rattle.tb_pages.specs.declared.register.Register.{Register}
 use Rattle.tb_pages.specs.declared.register.Spot.{Spot}
 use Rattle.tb_pages.specs.declared.shard.Entry.{Entry}
-use Rattle.tb_pages.specs.Books.{Book, keys_in, page_in}
+use Rattle.tb_pages.specs.Books.{keys_in, page_in}
 use Rattle.tb_pages.specs.Pages.{PageValue, is_of, record_of, page_of, no_page, records_in, with_page, with_added, at_person, page_without, page_replaced, page_number}
 use Rattle.tb_pages.specs.Registers.{IsAdded, IsRegister, IsReplaced, IsSpot, IsTaken}
 use Rattle.tb_pages.proofs.Tests.{flip}

@@ -1,5 +1,5 @@
 -- Entries in the lists of their shards, in any order, and sorted.
-use Rattle.std.proofs.Common.{◌≡◌, ◌≢◌, ℕ, zero, suc, ◌+◌, ◌%◌, ◌<◌, ◌≤◌, Bool, true, false, cond, eqb, List, [], ◌∷◌, ◌++◌, map, length, take, get_or, set, replicate, refl, sym, ap, ◌∙◌, subst, inl, inr, arith, append_assoc}
+use Rattle.std.proofs.Common.{◌≡◌, ℕ, zero, suc, ◌+◌, ◌%◌, ◌<◌, Bool, true, false, cond, eqb, List, [], ◌∷◌, ◌++◌, map, length, take, get_or, set, replicate, refl, sym, ap, ◌∙◌, subst, inl, inr, arith}
 use Rattle.std.specs.Prelude.{Option, Some, None, is_some, ◌&&◌, ◌||◌}
 use Rattle.std.specs.List.{list_any, IsDistinct, AllByRecursion}
 use Rattle.std.specs.List.Sorted.{IsPermutation, IsNonDecreasingBy}
@@ -9,15 +9,15 @@ use Rattle.std.specs.FinMap.{same_map, nat_cmp-IsAntisymmetric}
 use Rattle.std.specs.Cmp.{nat_cmp_total}
 use Rattle.std.proofs.lemmas.Bool.{eq-eqb, eqb-false, cases_lt}
 use Rattle.std.proofs.lemmas.Bool.Decides.{eqb_tells}
-use Rattle.std.proofs.lemmas.List.{get_or-set_same, get_or-set_other, length-map, get_or-map, map-set, length-replicate, get_or_past, get_or_append_left, get_or-append_right, length_push, map-append, take_more}
+use Rattle.std.proofs.lemmas.List.{get_or-set_same, get_or-set_other, length-map, get_or-map, map-set, length-replicate, get_or_past, get_or_append_left, length_push, map-append, take_more}
 use Rattle.std.proofs.lemmas.List.Sorted.{IsPermutation-map, list_any-IsPermutation}
 use Rattle.std.proofs.lemmas.Map.Keys.{IsDistinct-IsPermutation, IsDistinct-cons, IsDistinct-from_apart, IsDistinct-head, IsDistinct-tail}
 use Rattle.tb_pages.specs.declared.shard.Entry.{Entry}
 use Rattle.tb_pages.specs.declared.book.TheConstants.{SHARDS}
-use Rattle.tb_pages.specs.Books.{AreApart, AreLists, AreShards, AreSorted, Book, HoldSame, InOwnShards, Rise, Sets, book_of, held_in}
+use Rattle.tb_pages.specs.Books.{AreApart, AreLists, AreShards, AreSorted, HoldSame, InOwnShards, Rise, Sets, book_of, held_in}
 use Rattle.tb_pages.proofs.Tests.{flip}
 use Rattle.tb_pages.proofs.ShardLemmas.{none_parts}
-use Rattle.tb_pages.proofs.BookLemmas.{apart_at, apart_none_in, book_after, get_at, held-append, shards_after}
+use Rattle.tb_pages.proofs.BookLemmas.{apart_at, apart_none_in, book_after, get_at, shards_after}
 
 -- ---- one more entry
 held_more : (b : Bool) (x : Entry) (new old : Option Entry) (c : Bool) (e : Entry) → (b ≡ true → c ≡ false) → new ≡ cond c (Some e) old → cond b (Some x) new ≡ cond c (Some e) (cond b (Some x) old)

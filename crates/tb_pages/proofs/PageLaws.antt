@@ -1,11 +1,10 @@
 -- What a change leaves in pages is what it leaves in the list of all records.
-use Rattle.std.proofs.Common.{◌≡◌, ◌≢◌, ℕ, zero, suc, ◌+◌, ◌<◌, ◌≤◌, Bool, true, false, cond, not, eqb, ltb, List, [], ◌∷◌, ◌++◌, map, length, get_or, set, refl, sym, ap, ◌∙◌, subst, inl, inr, arith, append_assoc, append-nil}
-use Rattle.std.specs.Prelude.{Option, Some, None, filter, fold, flat_map, if◌then◌else◌, ◌||◌, is_some, ◌⊎◌}
-use Rattle.std.specs.Option.{option_map}
+use Rattle.std.proofs.Common.{◌≡◌, ℕ, Bool, true, false, not, eqb, ltb, List, [], ◌∷◌, ◌++◌, map, length, refl, sym, ap, ◌∙◌, append_assoc, append-nil}
+use Rattle.std.specs.Prelude.{filter, fold, if◌then◌else◌}
 use Rattle.std.proofs.lemmas.List.{map-append}
 use Rattle.std.proofs.lemmas.List.Elements.{filter-append}
 use Rattle.tb_base.specs.declared.records.Record.{Record}
-use Rattle.tb_base.specs.Persons.{has_person, AreDistinct}
+use Rattle.tb_base.specs.Persons.{has_person}
 use Rattle.tb_pages.proofs.Tests.{none_first}
 use Rattle.tb_pages.specs.declared.page.TheConstants.{PAGE_ROOM}
 use Rattle.tb_pages.specs.Pages.{PageValue, is_of, page_of, records_in, with_added, cut, at_person, page_without, page_replaced}

@@ -1,13 +1,13 @@
 -- How many pages there can be.
-use Rattle.std.proofs.Common.{◌≡◌, ℕ, zero, suc, ◌+◌, ◌*◌, ◌<◌, ◌≤◌, Bool, true, false, cond, not, ltb, List, [], ◌∷◌, ◌++◌, map, length, refl, sym, ap, ◌∙◌, subst, inl, inr, arith, length-append}
-use Rattle.std.specs.Prelude.{◌⊎◌, fold, filter, if◌then◌else◌, Option, Some, None}
+use Rattle.std.proofs.Common.{◌≡◌, ℕ, suc, ◌+◌, ◌<◌, ◌≤◌, Bool, true, false, cond, not, ltb, List, [], ◌∷◌, ◌++◌, map, length, refl, sym, ap, ◌∙◌, inl, inr, arith, length-append}
+use Rattle.std.specs.Prelude.{◌⊎◌, fold, if◌then◌else◌, Some, None}
 use Rattle.std.proofs.lemmas.Bool.{ltb-false, ltb-true}
 use Rattle.std.proofs.lemmas.List.{length-map}
 use Rattle.std.proofs.lemmas.List.Sums.{length-filter, count_by-le-length}
 use Rattle.tb_base.specs.declared.records.Record.{Record}
 use Rattle.tb_base.specs.Persons.{has_person}
 use Rattle.tb_pages.specs.declared.page.TheConstants.{PAGE_ROOM}
-use Rattle.tb_pages.specs.Pages.{PageValue, is_of, page_of, with_added, cut, at_person, page_without, page_replaced, changed_pages}
+use Rattle.tb_pages.specs.Pages.{PageValue, is_of, page_of, with_added, at_person, page_without, page_replaced}
 use Rattle.tb_pages.specs.Rooms.{last_length, AreFilledBy, ChangesFill, FewPages, RecordsFill}
 use Rattle.tb_pages.proofs.PageFinds.{grown}
 

@@ -1,12 +1,12 @@
 -- What the stamps of pages tell.
-use Rattle.std.proofs.Common.{◌≡◌, ℕ, zero, suc, ◌+◌, ◌<◌, ◌≤◌, Bool, true, false, cond, ltb, List, [], ◌∷◌, ◌++◌, map, length, get_or, refl, sym, ap, ◌∙◌, subst, inl, inr, arith}
-use Rattle.std.specs.Prelude.{◌⊎◌, fold, if◌then◌else◌, Option, Some, None}
+use Rattle.std.proofs.Common.{◌≡◌, ℕ, zero, suc, ◌<◌, ◌≤◌, Bool, true, false, cond, ltb, List, [], ◌∷◌, ◌++◌, map, length, get_or, refl, sym, ap, ◌∙◌, subst, inl, inr, arith}
+use Rattle.std.specs.Prelude.{◌⊎◌, fold, if◌then◌else◌, Some, None}
 use Rattle.std.proofs.lemmas.Bool.{cases_lt}
 use Rattle.std.proofs.lemmas.List.{get_or-map, length-map}
 use Rattle.tb_base.specs.declared.records.Record.{Record}
 use Rattle.tb_base.specs.Persons.{has_person}
 use Rattle.tb_pages.specs.declared.page.TheConstants.{PAGE_ROOM}
-use Rattle.tb_pages.specs.Pages.{PageValue, page_of, no_page, with_added, cut, at_person, page_without, page_replaced, changed_pages}
+use Rattle.tb_pages.specs.Pages.{PageValue, page_of, no_page, with_added, cut, at_person, page_without, page_replaced}
 use Rattle.tb_pages.specs.Stamps.{KeepsPages, ChangesKeepPages, StepsKeepPages, StampsTell}
 
 keeps_none : (stamp : ℕ) (pages : List PageValue) → KeepsPages stamp pages pages

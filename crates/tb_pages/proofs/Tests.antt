@@ -1,6 +1,6 @@
 -- Tests of numbers, and keys that come into a key book.
-use Rattle.std.proofs.Common.{◌≡◌, ◌≢◌, ℕ, ◌<◌, Bool, true, false, cond, eqb, refl, sym, ap, ◌∙◌, inl, inr, arith}
-use Rattle.std.specs.Prelude.{Option, Some, ◌||◌}
+use Rattle.std.proofs.Common.{◌≡◌, ◌≢◌, ℕ, Bool, true, false, cond, eqb, refl, sym, ap, ◌∙◌, inl, inr, arith}
+use Rattle.std.specs.Prelude.{Some, ◌||◌}
 use Rattle.std.specs.FinMap as finmap
 use Rattle.std.specs.FinMap.{get-insert}
 use Rattle.std.specs.Ordering.{nat_cmp, is_eq}

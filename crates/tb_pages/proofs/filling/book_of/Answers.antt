@@ -1,8 +1,6 @@
-use Rattle.std.proofs.Common.{◌≡◌, ◌+◌, ◌/◌, ◌<◌, ◌≤◌, ◌++◌, ◌∷◌, [], Some, length, take, get_or, List, sym, ap, ◌∙◌, subst, arith}
-use Rattle.std.proofs.lemmas.List.{take_more, take_all, length-take-le}
+use Rattle.std.proofs.Common.{◌≡◌, take, List, sym, subst, arith}
+use Rattle.std.proofs.lemmas.List.{take_all}
 use Rattle.tb_base.specs.declared.records.Record.{Record}
-use Rattle.tb_base.specs.Persons.{AreDistinct}
-use Rattle.tb_pages.specs.declared.page.TheConstants.{PAGE_ROOM}
 use Rattle.tb_pages.specs.Books.{Book}
 use Rattle.tb_pages.specs.Pages.{cut}
 use Rattle.tb_pages.specs.Fillings.{AreFilled}

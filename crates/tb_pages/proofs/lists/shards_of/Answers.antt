@@ -1,4 +1,4 @@
-use Rattle.std.proofs.Common.{◌≡◌, ◌+◌, ◌++◌, ◌∷◌, [], ◌<◌, length, take, map, List, sym, ap, ◌∙◌, subst, refl, arith, ◌≤◌}
+use Rattle.std.proofs.Common.{◌≡◌, [], length, take, map, sym, ap, ◌∙◌, subst, refl, arith}
 use Rattle.std.specs.Arc.{arc_value}
 use Rattle.std.proofs.lemmas.Iterator.Adapters.{YieldsList-from_vec}
 use Rattle.std.proofs.lemmas.Iterator.Consumers.{YieldsList-turn, YieldsList-end}

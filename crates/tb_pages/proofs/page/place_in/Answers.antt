@@ -1,6 +1,5 @@
-use Rattle.std.proofs.Common.{◌≡◌, sym, ap, ◌∙◌, [], rules}
+use Rattle.std.proofs.Common.{sym, ap, ◌∙◌, [], rules}
 use Rattle.std.specs.Prelude.{is_some}
-use Rattle.std.proofs.lemmas.Bool.{eq-eqb}
 use Rattle.std.proofs.lemmas.List.Quantifiers.{position-Some}
 use Rattle.std.proofs.lemmas.List.Sorted.{answers_always}
 use Rattle.tb_base.specs.declared.records.Record.{Record}

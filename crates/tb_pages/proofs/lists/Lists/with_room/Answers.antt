@@ -1,5 +1,4 @@
-use Rattle.std.proofs.Common.{◌≡◌, ap, sym, ◌∙◌, subst, arith}
-use Rattle.tb_pages.specs.declared.book.TheConstants.{SHARDS}
+use Rattle.std.proofs.Common.{ap, sym, ◌∙◌, subst, arith}
 use Rattle.tb_pages.specs.Books.{AreLists, book_of}
 use Rattle.tb_pages.proofs.BookLemmas.{empty_book}
 use Rattle.tb_pages.proofs.ListLemmas.{none_lists}

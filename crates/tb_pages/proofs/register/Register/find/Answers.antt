@@ -1,4 +1,4 @@
-use Rattle.std.proofs.Common.{◌≡◌, true, sym, ap, ◌∙◌, get_or}
+use Rattle.std.proofs.Common.{sym, ap, ◌∙◌}
 use Rattle.std.specs.Prelude.{is_some}
 use Rattle.tb_base.specs.Persons.{has_person}
 use Rattle.tb_pages.specs.Pages.{PageValue, no_page}

@@ -1,6 +1,4 @@
-use Rattle.std.proofs.Common.{◌≡◌, sym, ap, ◌∙◌, get_or, length, Some, subst, List, ◌<◌}
-use Rattle.tb_base.specs.declared.records.Record.{Record}
-use Rattle.tb_pages.specs.Pages.{no_page}
+use Rattle.std.proofs.Common.{sym, ap, ◌∙◌, get_or, Some}
 use Rattle.tb_pages.proofs.Changed.{stands, found_there}
 use Rattle.tb_pages.proofs.register.Register.record.Goals as goal
 

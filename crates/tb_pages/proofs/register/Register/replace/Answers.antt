@@ -1,4 +1,4 @@
-use Rattle.std.proofs.Common.{◌≡◌, ◌<◌, refl}
+use Rattle.std.proofs.Common.{refl}
 use Rattle.tb_pages.specs.declared.register.Register.{Register}
 use Rattle.tb_pages.proofs.Changed.{stands, replace_made}
 use Rattle.tb_pages.proofs.register.Register.replace.Goals as goal
