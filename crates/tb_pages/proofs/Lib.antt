@@ -1,0 +1,13 @@
+pub mod Tests
+pub mod PageLists
+pub mod PageLaws
+pub mod PageFinds
+pub mod ShardLemmas
+pub mod BookLemmas
+pub mod ListLemmas
+pub mod Filled
+pub mod CutLemmas
+pub mod Changed
+pub mod RoomLemmas
+pub mod StampLemmas
+pub mod LentLemmas
