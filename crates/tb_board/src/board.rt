@@ -94,8 +94,9 @@ impl<B: Named> Board<B> {
     }
 
     /// Publishes the batch of some edits, and returns the number of the release to which it leads.
-    /// The refusals are those of `tb_release::next` on the release of the custodian, who is as before
-    /// after one, and where the call is out of memory. The next release is made before the turn.
+    /// The refusals are those of `tb_release::next` on the release of the custodian, who is as
+    /// before after one, and where the call is out of memory. The next release is made before the
+    /// turn.
     pub fn publish(
         &self,
         rt: &impl Wait,
@@ -122,8 +123,8 @@ impl<B: Named> Board<B> {
         Ok(guard.publish(&self.front, custodian, publication)?)
     }
 
-    /// The numbers of the desk in this turn. Its release is how many batches the custodian's pass has
-    /// seen; of the others the clause has their bounds alone.
+    /// The numbers of the desk in this turn. Its release is how many batches the custodian's pass
+    /// has seen; of the others the clause has their bounds alone.
     pub fn stats(&self, rt: &impl Wait, custodian: &mut Custodian) -> Stats
         requires name { custodian.old.writer.name ≡ B.name }
         requires whole { IsWhole custodian.old }

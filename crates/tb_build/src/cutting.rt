@@ -74,9 +74,9 @@ fn merge_parts(cube: &mut Cube, cubes: &[Cube], lent: &Lent<'_>, size: usize)
 }
 
 /// The cube of a release over some variables, counted from its records, which are lent once, in
-/// some number of parts, at most `MOST_PARTS`: each part's cube is made in a thread of its own where
-/// one can be made, and merged; one part, or none, is the walk by this thread. It takes memory for
-/// the cubes alone.
+/// some number of parts, at most `MOST_PARTS`: each part's cube is made in a thread of its own
+/// where one can be made, and merged; one part, or none, is the walk by this thread. It takes
+/// memory for the cubes alone.
 pub fn build_in_parts<L: Ledger>(
     rt: &(impl Threads + Sync),
     alloc: Global,

@@ -48,8 +48,8 @@ fn worked() -> [Cell; 2] {
 // As many persons as are counted in parts where there are several processors.
 const MANY: u32 = 250_000;
 
-// By turns they are of the second category of SEX with key 1, and of the first with key 0; so 125,000
-// are of each, and 125,000 - 488 * 256 = 72.
+// By turns they are of the second category of SEX with key 1, and of the first with key 0; so
+// 125,000 are of each, and 125,000 - 488 * 256 = 72.
 fn many_worked() -> [Cell; 2] {
     let each = MANY / 2;
     [

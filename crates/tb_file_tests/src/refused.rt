@@ -142,7 +142,8 @@ static CLASS_ROWS: [Row; 12] = [
         "RepeatedCode",
         3,
     ),
-    // Two faults in a record: the first in the order of the table. Two in a file: the first record's.
+    // Two faults in a record: the first in the order of the table. Two in a file: that of the first
+    // record.
     (File::Classes, b"by,Total,a,\n", 10, "BadCsv", 1),
     (File::Classes, b"by,Total,a\n", 2, "BadName", 1),
     (File::Classes, b"A,,\xFF\n", 3, "BadCode", 1),
@@ -267,7 +268,8 @@ static PEOPLE_ROWS: [Row; 16] = [
         "PersonTwice",
         3,
     ),
-    // Two faults in a record: the first in the order of the table. Two in a file: the first record's.
+    // Two faults in a record: the first in the order of the table. Two in a file: that of the first
+    // record.
     (File::People, b"0,2,1,0-15\n", 6, "BadCsv", 1),
     (File::People, b"0,256,1,0-15,E1\n", 2, "BadPerson", 1),
     (File::People, b"1,256,3,0-15,E1\n", 3, "BadKey", 1),

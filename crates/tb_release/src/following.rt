@@ -28,8 +28,8 @@ fn refused(kind: EditFaultKind) -> EditFault
 /// They are made in their order, each on what those before it left. The first refusal is returned:
 /// `Nothing` where there is no edit; `TooMany` where the old release is the last that may be, or
 /// there would be too many changes; and else that of the first edit that isn't possible, with its
-/// number. It takes memory for the next release's records with a flag each, for the changes, and for
-/// a map of the persons that the edits name.
+/// number. It takes memory for the next release's records with a flag each, for the changes, and
+/// for a map of the persons that the edits name.
 pub fn next(
     alloc: Global,
     shape: &Shape,
