@@ -1,4 +1,4 @@
-.PHONY: test try build demo serve guide bench bench-serve bench-tools
+.PHONY: test try build demo serve guide refusals bench bench-serve bench-tools
 
 # The whole gate: every proof, the wrong bodies that must be refused, the tests and the program.
 test:
@@ -27,6 +27,11 @@ serve: build
 # examples/small with the program's own files.
 guide: build
 	python3 docs/guide.py crates/tablebuilder/out/tablebuilder docs/GUIDE.md examples/small crates/tablebuilder/data
+
+# Runs the built program on each kind of refusal and compares what it prints, what it says of it on the
+# standard error, and its status.
+refusals: build
+	python3 docs/refusals.py crates/tablebuilder/out/tablebuilder
 
 # The program beside a plain one over generated persons: medians, spreads, peak memory and ratios.
 bench: bench-tools build
