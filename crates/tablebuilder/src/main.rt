@@ -2,13 +2,20 @@
 //! scratch over the records and perturbed by the cell key method.
 //!
 //! The program runs the top call of `tb_top`, whose contract tells what was written with each
-//! status, over the system's arguments, files, output and listeners.
+//! status, over the system's arguments, files, output and listeners. It keeps the last line of a
+//! run that was refused (`last_line`), and says in words on the standard error what that means
+//! (`refusals`, and `kinds` for the records of files).
 #![tactic(auto)]
 
+mod kinds;
+mod last_line;
 mod ports;
+mod refusals;
 
 ghost use Rattle.std.specs.Prelude.{◌≡◌, ◌<◌};
 
+use last_line::LastLine;
+use refusals::Refusal;
 use std::alloc::AllocError;
 use std::io::ErrorKind;
 use std::marker::Brand;
@@ -21,7 +28,7 @@ use std::thread::Threads;
 use std::{env, io};
 use tb_base::{Status, Steps};
 use tb_io::{RealFiles, RealSink, Wrote};
-use tb_top::{End, end_by, tablebuilder};
+use tb_top::{End, end_by, read_command, tablebuilder};
 
 // The arguments after the program's name.
 fn arguments<R: Env + AllocGlobal>(rt: &R) -> io::Result<Vec<String>> {
@@ -30,6 +37,16 @@ fn arguments<R: Env + AllocGlobal>(rt: &R) -> io::Result<Vec<String>> {
         words.push(word).map_err(AllocError::from)?;
     }
     Ok(words)
+}
+
+// How a run ends whose arguments can't be read.
+fn end_of(fault: &io::Error) -> End {
+    if fault.kind() == ErrorKind::OutOfMemory {
+        End::Memory
+    } else {
+        // An argument that isn't UTF-8 is none of the command's.
+        End::Usage
+    }
 }
 
 // Runs the command of these arguments over the system's files and listeners, writing into `out`,
@@ -44,7 +61,7 @@ fn run_words<
         + Net<Listener = TcpListener, Stream = TcpStream>
         + Sync,
     L: Ledger,
->(rt: &R, words: &[String], out: &mut RealSink<'_, R>, blank: Blank) -> Status
+>(rt: &R, words: &[String], out: &mut LastLine<'_, R>, blank: Blank) -> Status
     requires name { blank.name ≡ L.name }
     requires parts { blank.parts ≡ L.parts }
     requires some { 0 < L.parts }
@@ -64,26 +81,31 @@ fn run_words<
     )
 }
 
-// Runs the command of the arguments.
-fn run_command<
-    R: Env
-        + FileSystem
-        + Print
-        + Eprint
-        + AllocGlobal
-        + Threads
-        + Wait
-        + Net<Listener = TcpListener, Stream = TcpStream>
-        + Sync,
->(rt: &R, out: &mut RealSink<'_, R>) -> Status {
-    match arguments(rt) {
-        Ok(words) => run_words::<R, Brand>(rt, &words, out, Blank::new(1)),
-        Err(e) if e.kind() == ErrorKind::OutOfMemory => end_by(&End::Memory, out),
-        // An argument that isn't UTF-8 is none of the command's.
-        Err(_) => end_by(&End::Usage, out),
+// Says in words why a run of these arguments was refused, for whoever reads the standard error.
+fn explain(rt: &impl Eprint, words: &[String], status: Status, line: Option<&str>) {
+    let command = read_command(words);
+    if let Some(refusal) = Refusal::of(command.as_ref(), status, line) {
+        // Where that can't be written nothing can be said of it either.
+        let _ = rt.eprintln(refusal);
     }
 }
 
+// Writes out what waits and explains how the run of these arguments ended, which is returned.
+fn finish<R: Print + Eprint>(
+    rt: &R,
+    words: &[String],
+    status: Status,
+    out: &mut LastLine<'_, R>,
+) -> Status {
+    let status = match out.flush() {
+        Wrote::All => status,
+        Wrote::Failed => Status::WriteFault,
+    };
+    explain(rt, words, status, out.text());
+    status
+}
+
+// Runs the command of the arguments.
 fn run<
     R: Env
         + FileSystem
@@ -95,26 +117,24 @@ fn run<
         + Net<Listener = TcpListener, Stream = TcpStream>
         + Sync,
 >(rt: &R) -> Status {
-    let Ok(mut out) = RealSink::new(rt, rt.alloc()) else {
+    let Ok(out) = RealSink::new(rt, rt.alloc()) else {
+        explain(rt, &[], Status::Memory, None);
         return Status::Memory;
     };
-    let status = run_command(rt, &mut out);
-    match out.flush() {
-        Wrote::All => status,
-        Wrote::Failed => Status::WriteFault,
+    let mut out = LastLine::new(out);
+    match arguments(rt) {
+        Ok(words) => {
+            let status = run_words::<R, Brand>(rt, &words, &mut out, Blank::new(1));
+            finish(rt, &words, status, &mut out)
+        }
+        Err(fault) => {
+            let status = end_by(&end_of(&fault), &mut out);
+            finish(rt, &[], status, &mut out)
+        }
     }
 }
 
-// What the arguments may be, for whoever reads the standard error.
-const USAGE: &str =
-    "usage: tablebuilder script CLASSES RECODES PTABLE PEOPLE THRESHOLD SCRIPT\n       \
-    tablebuilder serve CLASSES RECODES PTABLE PEOPLE THRESHOLD PORT WORKERS SESSIONS";
-
 fn main(rt: HostRuntime) -> ExitCode {
     let status = run(&rt);
-    if status == Status::Usage {
-        // Where that can't be written nothing can be said of it either.
-        let _ = rt.eprintln(USAGE);
-    }
     ExitCode::from(status.number())
 }

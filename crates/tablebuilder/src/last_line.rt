@@ -1,0 +1,60 @@
+// The standard output, with the line by which a run that was refused ends.
+
+ghost use Rattle.std.specs.Prelude.{None};
+
+use std::str;
+use tb_io::{RealSink, Sink, Wrote};
+
+// No last line that tells of a refusal has so many bytes.
+const ROOM: usize = 64;
+
+// How such a line begins, and no other text does.
+const BEGINNING: &[u8] = b"fault ";
+
+// As many bytes of a line as are kept.
+fn first_of(line: &[u8]) -> [u8; ROOM] {
+    let mut first = [0; ROOM];
+    for (kept, byte) in first.iter_mut().zip(line) {
+        *kept = *byte;
+    }
+    first
+}
+
+/// The standard output, and the last line that it took, where that tells of a refusal.
+#[derive(Drop)]
+pub struct LastLine<'a, P: Print> {
+    out: RealSink<'a, P>,
+    line: [u8; ROOM],
+}
+
+impl<'a, P: Print> LastLine<'a, P> {
+    /// This output, of which no line is known.
+    pub fn new(out: RealSink<'a, P>) -> LastLine<'a, P> {
+        let line = [0; ROOM];
+        LastLine { out, line }
+    }
+
+    /// Writes out what waits.
+    pub fn flush(&mut self) -> Wrote {
+        self.out.flush()
+    }
+
+    /// The line, without what ends it. None where no line tells of a refusal.
+    pub fn text(&self) -> Option<&str> {
+        let end = self.line.iter().position(|byte| *byte == b'\n')?;
+        str::from_utf8(self.line.get(..end)?).ok()
+    }
+}
+
+impl<'a, P: Print> Sink for LastLine<'a, P> {
+    ghost faults = { λ sink. sink.out.faults };
+
+    ghost taken = { λ _. None };
+
+    fn write(&mut self, bytes: &[u8]) -> Wrote {
+        if bytes.starts_with(BEGINNING) {
+            self.line = first_of(bytes);
+        }
+        self.out.write(bytes)
+    }
+}

@@ -1,0 +1,131 @@
+// A refusal in words, for whoever reads the standard error.
+
+use crate::kinds::Kind;
+use tb_base::{Status, read_number};
+use tb_top::{Command, Input, Inputs, most_bytes_of};
+use thiserror::Error;
+
+/// Why a run was refused, or couldn't be finished. A file has the name that the arguments gave it.
+#[derive(Debug, Drop, Error)]
+pub enum Refusal<'a> {
+    #[error("usage: tablebuilder script CLASSES RECODES PTABLE PEOPLE THRESHOLD SCRIPT\n       \
+        tablebuilder serve CLASSES RECODES PTABLE PEOPLE THRESHOLD PORT WORKERS SESSIONS")]
+    Usage,
+    #[error("{file}: the file must have at most {most} bytes")]
+    TooLong { file: &'a str, most: u64 },
+    #[error("{file}: the file must be there, and this user must be allowed to read it")]
+    Unread { file: &'a str },
+    #[error("{file}, header: {kind}")]
+    Header { file: &'a str, kind: Kind },
+    #[error("{file}, record {at}: {kind}")]
+    Record { file: &'a str, kind: Kind, at: u32 },
+    #[error("{file}, line {at}: the line must be the name of a lane (a letter and up to 15 more \
+        letters and digits), a blank and the lane's line, or begin with #; it may have 4096 \
+        bytes, and a script 64 lanes")]
+    BadLine { file: &'a str, at: u32 },
+    #[error("the standard output must take what is written")]
+    Unwritten,
+    #[error("out of memory")]
+    Memory,
+    #[error("port {port} and the {workers} after it must be free on this machine, and go on \
+        accepting clients")]
+    Net { port: u16, workers: u32 },
+}
+
+// The file of this name in a last line.
+fn input_named(word: &str) -> Option<Input> {
+    let inputs = [
+        Input::Classes,
+        Input::Recodes,
+        Input::Ptable,
+        Input::People,
+        Input::Script,
+    ];
+    for input in inputs {
+        if input.name() == word {
+            return Some(input);
+        }
+    }
+    None
+}
+
+fn inputs_of<'c, 'a>(command: &'c Command<'a>) -> &'c Inputs<'a> {
+    match command {
+        Command::Script { inputs, script: _ } => inputs,
+        Command::Serve { inputs, service: _ } => inputs,
+    }
+}
+
+// The name that the arguments give a file.
+fn name_of<'a>(command: &Command<'a>, file: Input) -> Option<&'a str> {
+    let inputs = inputs_of(command);
+    match file {
+        Input::Classes => Some(inputs.classes.as_str()),
+        Input::Recodes => Some(inputs.recodes.as_ref()?.as_str()),
+        Input::Ptable => Some(inputs.ptable.as_str()),
+        Input::People => Some(inputs.people.as_str()),
+        Input::Script => match command {
+            Command::Script { inputs: _, script } => Some(script.as_str()),
+            Command::Serve { .. } => None,
+        },
+    }
+}
+
+fn read_at(word: &str) -> Option<u32> {
+    read_number(word.as_bytes())
+}
+
+// What a last line says of a file.
+fn of_file<'a>(command: &Command<'a>, line: &str) -> Option<Refusal<'a>> {
+    let mut words = line.split(' ').skip(1);
+    let first = words.next()?;
+    let second = words.next()?;
+    if first == "read" {
+        let file = name_of(command, input_named(second)?)?;
+        return Some(Refusal::Unread { file });
+    }
+    let input = input_named(first)?;
+    let file = name_of(command, input)?;
+    if second == "TooLong" {
+        let most = most_bytes_of(input);
+        return Some(Refusal::TooLong { file, most });
+    }
+    if input == Input::Script {
+        let at = read_at(second)?;
+        return Some(Refusal::BadLine { file, at });
+    }
+    let kind = Kind::of(input, words.next()?)?;
+    match read_at(words.next()?)? {
+        0 => Some(Refusal::Header { file, kind }),
+        at => Some(Refusal::Record { file, kind, at }),
+    }
+}
+
+impl<'a> Refusal<'a> {
+    /// Why a run of a command, of which there is none where the arguments are refused, ended with
+    /// this status and this last line. None where it was done.
+    pub fn of(
+        command: Option<&Command<'a>>,
+        status: Status,
+        line: Option<&str>,
+    ) -> Option<Refusal<'a>> {
+        match status {
+            Status::Done => None,
+            Status::Usage => Some(Refusal::Usage),
+            Status::WriteFault => Some(Refusal::Unwritten),
+            Status::Memory => Some(Refusal::Memory),
+            Status::NetFault => match command? {
+                Command::Serve { inputs: _, service } => Some(Refusal::Net {
+                    port: service.port(),
+                    workers: service.workers(),
+                }),
+                Command::Script { .. } => None,
+            },
+            Status::Schema
+            | Status::Perturbation
+            | Status::Microdata
+            | Status::Script
+            | Status::ReadFault => of_file(command?, line?),
+        }
+    }
+}

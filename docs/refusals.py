@@ -1,0 +1,199 @@
+"""Runs the program on each kind of refusal once, and compares what it prints, what it says of it on the
+standard error, and its status.
+
+Usage: refusals.py PROGRAM
+
+Each run is over the files of examples/small, of which a row of the table replaces one.
+"""
+
+import os
+import resource
+import shutil
+import socket
+import subprocess
+import sys
+import tempfile
+
+SMALL = os.path.join(os.path.dirname(os.path.abspath(__file__)), "..", "examples", "small")
+NAMES = ("classes.csv", "recodes.csv", "ptable.csv", "people.csv", "script.txt")
+SCRIPT = "script classes.csv recodes.csv ptable.csv people.csv 0 script.txt"
+USAGE = """\
+usage: tablebuilder script CLASSES RECODES PTABLE PEOPLE THRESHOLD SCRIPT
+       tablebuilder serve CLASSES RECODES PTABLE PEOPLE THRESHOLD PORT WORKERS SESSIONS
+"""
+SPELLED = (
+    "must be a letter followed by letters, digits or `_`, 1 to 32 bytes, and none of table, by, where, and, not, in,"
+    " with, totals, labels, person, record_key"
+)
+CODED = "must be 1 to 16 letters, digits, `_`, `-`, `+` or `.`, and not `Total`"
+UNREAD = "the file must be there, and this user must be allowed to read it"
+FIELDS = "the record must have as many fields as the header"
+LIMITS = "there are at most 64 variables of 10,000 categories each, and 256 recodes"
+LINE = (
+    "the line must be the name of a lane (a letter and up to 15 more letters and digits), a blank and the lane's"
+    " line, or begin with #; it may have 4096 bytes, and a script 64 lanes"
+)
+
+CLASSES = "variable,code,label\n"
+RECODES = "recode,variable,code,group\n"
+PTABLE = "pcv,ckey,pvalue\n"
+PEOPLE = "person,record_key,SEX,AGE,AREA\n"
+VARIABLES = "".join(f"V{i},1,\n" for i in range(65))
+GROUPS = "".join(f"R{i},SEX,1,all\n" for i in range(257))
+# More bytes than a file may have, without taking as many on the disk.
+LONG = 268_435_457
+LONG_SCRIPT = 16_777_217
+
+# The file that is replaced and its text or length (None: there is none), the line printed, what the standard
+# error says, and the status.
+FILES = [
+    ("classes.csv", "variable,code\n", "fault classes 1 BadHeader 0",
+     "classes.csv, header: the header must have each of `variable`, `code` and `label` once", 3),
+    ("classes.csv", CLASSES + "SEX,1\n", "fault classes 10 BadCsv 1",
+     "classes.csv, record 1: the record has not as many fields as the header", 3),
+    ("classes.csv", CLASSES + "SEX,1,\n1SEX,1,\n", "fault classes 2 BadName 2",
+     f"classes.csv, record 2: the `variable` {SPELLED}", 3),
+    ("classes.csv", CLASSES + "SEX,Total,\n", "fault classes 3 BadCode 1",
+     f"classes.csv, record 1: the `code` {CODED}", 3),
+    ("classes.csv", CLASSES + 'SEX,1,"Ma\nle"\n', "fault classes 11 BadLabel 1",
+     "classes.csv, record 1: the `label` must be UTF-8 text of up to 200 bytes on one line", 3),
+    ("classes.csv", CLASSES + "SEX,1,Male\nSEX,1,Female\n", "fault classes 4 RepeatedCode 2",
+     "classes.csv, record 2: an earlier record has the same `variable` and `code`", 3),
+    ("classes.csv", CLASSES + VARIABLES, "fault classes 12 TooMany 65", f"classes.csv, record 65: {LIMITS}", 3),
+    ("classes.csv", LONG, "fault classes TooLong", "classes.csv: the file must have at most 268435456 bytes", 3),
+    ("classes.csv", None, "fault read classes", f"classes.csv: {UNREAD}", 7),
+    ("recodes.csv", RECODES.replace("group", "code"), "fault recodes 1 BadHeader 0",
+     "recodes.csv, header: the header must have each of `recode`, `variable`, `code` and `group` once", 3),
+    ("recodes.csv", RECODES + "AGE2,AGE,0-15,young,x\n", "fault recodes 10 BadCsv 1",
+     "recodes.csv, record 1: the record has not as many fields as the header", 3),
+    ("recodes.csv", RECODES + "where,AGE,0-15,young\n", "fault recodes 2 BadName 1",
+     f"recodes.csv, record 1: the `recode` {SPELLED}", 3),
+    ("recodes.csv", RECODES + "AGE2,FOO,0-15,young\n", "fault recodes 5 UnknownVariable 1",
+     "recodes.csv, record 1: the `variable` is not in the classification", 3),
+    ("recodes.csv", RECODES + "SEX,AGE,0-15,young\n", "fault recodes 9 NameTwice 1",
+     "recodes.csv, record 1: the `recode` has the name of a variable, or names two variables", 3),
+    ("recodes.csv", RECODES + "AGE2,AGE,7,young\n", "fault recodes 6 UnknownCode 1",
+     "recodes.csv, record 1: the `code` is not one of its variable's", 3),
+    ("recodes.csv", RECODES + "AGE2,AGE,65+,old\nAGE2,AGE,65+,old\n", "fault recodes 7 CodeTwice 2",
+     "recodes.csv, record 2: an earlier record has the same `recode` and `code`", 3),
+    ("recodes.csv", RECODES + "AGE2,AGE,65+,the old\n", "fault recodes 3 BadCode 1",
+     f"recodes.csv, record 1: the `group` {CODED}", 3),
+    ("recodes.csv", RECODES + GROUPS, "fault recodes 12 TooMany 257", f"recodes.csv, record 257: {LIMITS}", 3),
+    ("recodes.csv", RECODES + "AGE2,AGE,0-15,young\nAGE2,AGE,65+,old\n", "fault recodes 8 CodeMissing 1",
+     "recodes.csv, record 1: the `recode` lacks a code of its variable", 3),
+    ("recodes.csv", LONG, "fault recodes TooLong", "recodes.csv: the file must have at most 268435456 bytes", 3),
+    ("recodes.csv", None, "fault read recodes", f"recodes.csv: {UNREAD}", 7),
+    ("ptable.csv", "", "fault ptable 1 BadHeader 0",
+     "ptable.csv, header: the header must have each of the columns pcv, ckey and pvalue once", 4),
+    ("ptable.csv", PTABLE + "1,7,1,0\n", "fault ptable 7 BadCsv 1", f"ptable.csv, record 1: {FIELDS}", 4),
+    ("ptable.csv", PTABLE + "1,7,+1\n", "fault ptable 2 BadNumber 1",
+     "ptable.csv, record 1: pcv and ckey must be numbers, and pvalue a number with a minus sign or without", 4),
+    ("ptable.csv", PTABLE + "1,256,0\n", "fault ptable 3 OutOfRange 1",
+     "ptable.csv, record 1: pcv must be at most 750, ckey at most 255 and pvalue from -1000 to 1000", 4),
+    ("ptable.csv", PTABLE + "3,10,-4\n", "fault ptable 4 Negative 1",
+     "ptable.csv, record 1: pcv + pvalue must not be negative", 4),
+    ("ptable.csv", PTABLE + "0,0,1\n", "fault ptable 6 ZeroRow 1",
+     "ptable.csv, record 1: where pcv is 0, pvalue must be 0", 4),
+    ("ptable.csv", PTABLE + "1,7,1\n1,7,1\n", "fault ptable 5 PairTwice 2",
+     "ptable.csv, record 2: an earlier record has the same pcv and ckey", 4),
+    ("ptable.csv", LONG, "fault ptable TooLong", "ptable.csv: the file must have at most 268435456 bytes", 4),
+    ("ptable.csv", None, "fault read ptable", f"ptable.csv: {UNREAD}", 7),
+    ("people.csv", "person,SEX,AGE,AREA\n", "fault people 1 BadHeader 0",
+     "people.csv, header: the header must have each of person, record_key and the variables once", 5),
+    ("people.csv", PEOPLE + "101,200,1,0-15\n", "fault people 6 BadCsv 1", f"people.csv, record 1: {FIELDS}", 5),
+    ("people.csv", PEOPLE + "0,200,1,0-15,E1\n", "fault people 2 BadPerson 1",
+     "people.csv, record 1: person must be a number from 1 to 4294967295", 5),
+    ("people.csv", PEOPLE + "101,200,1,0-15,E1\n102,100,1,65+,E1\n103,256,1,65+,E2\n", "fault people 3 BadKey 3",
+     "people.csv, record 3: record_key must be a number from 0 to 255", 5),
+    ("people.csv", PEOPLE + "101,200,1,0-15,E3\n", "fault people 4 UnknownCode 1",
+     "people.csv, record 1: each variable's field must be one of the variable's codes", 5),
+    ("people.csv", PEOPLE + "101,200,1,0-15,E1\n101,200,1,0-15,E1\n", "fault people 5 PersonTwice 2",
+     "people.csv, record 2: an earlier record has the same person", 5),
+    ("people.csv", PEOPLE + "".join(f"{i},0,1,65+,E1\n" for i in range(1, 1_000_002)), "fault people 7 TooMany 1000001",
+     "people.csv, record 1000001: there must be at most 1000000 records", 5),
+    ("people.csv", LONG, "fault people TooLong", "people.csv: the file must have at most 268435456 bytes", 5),
+    ("people.csv", None, "fault read people", f"people.csv: {UNREAD}", 7),
+    ("script.txt", "a table SEX\na table AREA\n!x\n", "fault script 3", f"script.txt, line 3: {LINE}", 6),
+    ("script.txt", LONG_SCRIPT, "fault script TooLong", "script.txt: the file must have at most 16777216 bytes", 6),
+    ("script.txt", None, "fault read script", f"script.txt: {UNREAD}", 7),
+]
+
+
+class Runs:
+    """Runs of a program over copies of the accepted files, with how many were right and wrong."""
+
+    def __init__(self, program, work):
+        self.program = os.path.abspath(program)
+        self.work = work
+        self.right = self.wrong = 0
+
+    def fill(self, name=None, text=None):
+        """Copies the accepted files, with another one, or none, under `name`."""
+        for each in NAMES:
+            shutil.copy(os.path.join(SMALL, each), self.work)
+        path = os.path.join(self.work, name or NAMES[0])
+        if isinstance(text, str):
+            with open(path, "w", encoding="utf-8", newline="") as file:
+                file.write(text)
+        elif isinstance(text, int):
+            with open(path, "w", encoding="utf-8") as file:
+                file.truncate(text)
+        elif name:
+            os.remove(path)
+
+    def run(self, words, out, err, status, stdout=subprocess.PIPE, memory=None):
+        """Compares what a run of these arguments prints, what it says and its status."""
+        limit = memory and (lambda: resource.setrlimit(resource.RLIMIT_AS, (memory, memory)))
+        done = subprocess.run([self.program, *words], cwd=self.work, stdin=subprocess.DEVNULL, stdout=stdout,
+                              stderr=subprocess.PIPE, preexec_fn=limit, timeout=60, check=False)
+        got = ((done.stdout or b"").decode(), done.stderr.decode(), done.returncode)
+        if got == (out, err, status):
+            self.right += 1
+        else:
+            self.wrong += 1
+            print(f"{words}\n  printed and said: {got}\n  wanted:           {(out, err, status)}")
+
+
+def others(runs):
+    """What comes of the arguments, the memory, the output and the ports."""
+    runs.fill()
+    words = SCRIPT.split()
+    for bad in ([], ["--help"], words[:-1], [b"\xff"]):
+        runs.run(bad, "fault usage\n", USAGE, 2)
+    here = [f"./{word}" if word == "people.csv" else word for word in words]
+    runs.fill("people.csv", PEOPLE + "101,200,1,0-15,E1\n101,200,1,0-15,E1\n")
+    said = "./people.csv, record 2: an earlier record has the same person\n"
+    runs.run(here, "fault people 5 PersonTwice 2\n", said, 5)
+    serve = ["serve", *here[1:6], "4000", "1", "1"]
+    runs.run(serve, "fault people 5 PersonTwice 2\n", said, 5)
+    with socket.socket() as taken:
+        taken.bind(("127.0.0.1", 0))
+        taken.listen()
+        port = taken.getsockname()[1]
+        if port <= 65_519:
+            runs.fill()
+            said = f"port {port} and the 2 after it must be free on this machine, and go on accepting clients\n"
+            runs.run([*serve[:6], str(port), "2", "1"], "fault net\n", said, 10)
+    runs.fill("people.csv", LONG - 1)
+    runs.run(words, "fault memory\n", "out of memory\n", 9, memory=200_000_000)
+    runs.fill()
+    with open("/dev/full", "wb") as full:
+        runs.run(words, "", "the standard output must take what is written\n", 8, stdout=full)
+    runs.fill("script.txt", "# no lines\n")
+    runs.run(words, "", "", 0)
+
+
+def main():
+    (program,) = sys.argv[1:]
+    with tempfile.TemporaryDirectory() as work:
+        runs = Runs(program, work)
+        for name, text, line, said, status in FILES:
+            runs.fill(name, text)
+            runs.run(SCRIPT.split(), line + "\n", said + "\n", status)
+        others(runs)
+    print(f"{runs.right} refusals as wanted, {runs.wrong} not")
+    return 1 if runs.wrong else 0
+
+
+if __name__ == "__main__":
+    sys.exit(main())
