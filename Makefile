@@ -49,16 +49,14 @@ serve: build
 guide: build
 	python3 docs/guide.py crates/tablebuilder/out/tablebuilder docs/GUIDE.md examples/small crates/tablebuilder/data
 
-<<<<<<< HEAD
 # The tests of each client against servers over examples/small, at free ports.
 clients: build
 	python3 clients/run.py crates/tablebuilder/out/tablebuilder examples/small
-=======
+
 # Runs the built program on each kind of refusal and compares what it prints, what it says of it on the
 # standard error, and its status.
 refusals: build
 	python3 docs/refusals.py crates/tablebuilder/out/tablebuilder
->>>>>>> h-top-c
 
 # The program beside a plain one over generated persons: medians, spreads, peak memory and ratios.
 bench: bench-tools build
