@@ -9,8 +9,8 @@ use std::time::{Clock, Duration};
 // How often a client tries to connect, 10 ms after one another.
 const TRIES: u32 = 1_000;
 
-// How many lines a client sends at most that never reads.
-const MOST_LINES: u32 = 1_000_000;
+// How often a client that never reads sends many lines at most: more than any buffers hold.
+const MOST_SENDS: u32 = 1_000_000;
 
 // A query, and its reply at release 0.
 const QUERY: &[u8] = b"table SEX\n";
@@ -127,10 +127,10 @@ fn leave_in_reply(stream: &mut TcpStream) -> Option<bool> {
     Some(back == *b"release")
 }
 
-fn never_read(stream: &mut TcpStream) -> Option<bool> {
+fn never_read(stream: &mut TcpStream, queries: &[u8]) -> Option<bool> {
     stream.set_nonblocking(true).ok()?;
-    for _ in 0..MOST_LINES {
-        if stream.write_all(QUERY).is_err() {
+    for _ in 0..MOST_SENDS {
+        if stream.write_all(queries).is_err() {
             return Some(true);
         }
     }
@@ -150,7 +150,7 @@ pub fn visit<R: Net<Listener = TcpListener, Stream = TcpStream> + AllocGlobal + 
         Client::ManyAtOnce => ask_at_once(&mut stream, &queries),
         Client::LeavesInLine => leave_in_line(&mut stream),
         Client::LeavesInReply => leave_in_reply(&mut stream),
-        Client::NeverReads => never_read(&mut stream),
+        Client::NeverReads => never_read(&mut stream, &queries),
     }
 }
 

@@ -52,7 +52,8 @@ fn visits<R: Net<Listener = TcpListener, Stream = TcpStream> + AllocGlobal + Clo
     let mut right: u32 = 0;
     for client in CLIENTS {
         let visited = visit(rt, port, client);
-        if visited == Some(true) && ask(rt, port) == Some(true) {
+        let asked = ask(rt, port);
+        if visited == Some(true) && asked == Some(true) {
             right = right.saturating_add(1);
         }
     }
