@@ -6,6 +6,7 @@ Usage: refusals.py PROGRAM
 Each run is over the files of examples/small, of which a row of the table replaces one.
 """
 
+import errno
 import os
 import resource
 import shutil
@@ -172,7 +173,11 @@ def others(runs):
         port = taken.getsockname()[1]
         if port <= 65_519:
             runs.fill()
-            said = f"port {port} and the 2 after it must be free on this machine, and go on accepting clients\n"
+            why = f"{os.strerror(errno.EADDRINUSE)} (os error {errno.EADDRINUSE})"
+            said = (
+                f"cannot listen on 127.0.0.1:{port}: {why}\n"
+                f"port {port} and the 2 after it must be free on this machine, and go on accepting clients\n"
+            )
             runs.run([*serve[:6], str(port), "2", "1"], "fault net\n", said, 10)
     runs.fill("people.csv", LONG - 1)
     runs.run(words, "fault memory\n", "out of memory\n", 9, memory=200_000_000)
