@@ -3,15 +3,19 @@
 //! ample memory.
 //!
 //! They call public functions alone. Tests stand in crates of their own since a crate that has
-//! tests is proved twice. Whole runs stand in `tablebuilder`.
+//! tests is proved twice. Whole runs stand in `tb_top_tests`.
 #![tactic(auto)]
 
 #[cfg(test)]
 mod accepted;
 #[cfg(test)]
+mod faults;
+#[cfg(test)]
 mod files;
 #[cfg(test)]
 mod generated;
+#[cfg(test)]
+mod limits;
 #[cfg(test)]
 mod printed;
 #[cfg(test)]

@@ -1,86 +1,9 @@
 // Files that are refused, each with its first fault.
 
+use crate::faults::{File, header_of, told};
 use std::alloc::Global;
 use std::test::Fail;
-use tb_base::{Memory, print_number};
-use tb_ptable::{PTable, PTableFault};
-use tb_records::{PeopleFault, read_people};
-use tb_rows::{FaultKind, FaultName};
-use tb_schema::{Schema, SchemaFault};
-use tb_small::CLASSES;
-
-enum File {
-    Classes,
-    Recodes,
-    Ptable,
-    People,
-}
-
-// What is told of a file: its fault's number, word and record, or why there is none.
-type Told = (u8, &'static str, u32);
-
-const ACCEPTED: Told = (0, "accepted", 0);
-
-const MEMORY: Told = (0, "memory", 0);
-
-// The name of a fault, with the number of its record.
-fn fault_told(name: FaultName, at: u32) -> Told {
-    (name.number(), name.word(), at)
-}
-
-fn schema_fault(fault: SchemaFault) -> Told {
-    match fault {
-        SchemaFault::Refused { kind, at, .. } => fault_told(kind.name(), at),
-        SchemaFault::Memory => MEMORY,
-    }
-}
-
-fn ptable_fault(fault: PTableFault) -> Told {
-    match fault {
-        PTableFault::Refused { kind, at } => fault_told(kind.name(), at),
-        PTableFault::Memory => MEMORY,
-    }
-}
-
-fn people_fault(fault: PeopleFault) -> Told {
-    match fault {
-        PeopleFault::Refused { kind, at } => fault_told(kind.name(), at),
-        PeopleFault::Memory => MEMORY,
-    }
-}
-
-fn schema_told(alloc: Global, classes: &[u8], recodes: Option<&[u8]>) -> Told {
-    match Schema::read(alloc, classes, recodes) {
-        Ok(_) => ACCEPTED,
-        Err(fault) => schema_fault(fault),
-    }
-}
-
-fn ptable_told(alloc: Global, file: &[u8]) -> Told {
-    match PTable::read(alloc, file) {
-        Ok(_) => ACCEPTED,
-        Err(fault) => ptable_fault(fault),
-    }
-}
-
-fn people_told(alloc: Global, file: &[u8]) -> Told {
-    let Ok(schema) = Schema::read(alloc, CLASSES, None) else {
-        return MEMORY;
-    };
-    match read_people(alloc, &schema, file) {
-        Ok(_) => ACCEPTED,
-        Err(fault) => people_fault(fault),
-    }
-}
-
-fn told(alloc: Global, file: &File, bytes: &[u8]) -> Told {
-    match file {
-        File::Classes => schema_told(alloc, bytes, None),
-        File::Recodes => schema_told(alloc, CLASSES, Some(bytes)),
-        File::Ptable => ptable_told(alloc, bytes),
-        File::People => people_told(alloc, bytes),
-    }
-}
+use tb_base::Memory;
 
 // Whole files whose header is bad: none, a column that is missing or there twice, other spellings,
 // a second mark.
@@ -115,15 +38,6 @@ fn bad_headers(rt: HostRuntime) -> Result<(), Fail> {
         );
     }
     Ok(())
-}
-
-fn header_of(file: &File) -> &'static [u8] {
-    match file {
-        File::Classes => b"variable,code,label\n",
-        File::Recodes => b"recode,variable,code,group\n",
-        File::Ptable => b"pcv,ckey,pvalue\n",
-        File::People => b"person,record_key,SEX,AGE,AREA\n",
-    }
 }
 
 // A file, the records under its header, and the number, the word and the record of its first fault.
@@ -340,66 +254,6 @@ fn first_faults(rt: HostRuntime) -> Result<(), Fail> {
     for rows in [class_rows(), recode_rows(), ptable_rows(), people_rows()] {
         let refused = refused_rows(rt.alloc(), rows)?;
         assert!(rt; refused == rows.len(), "{} at {refused}", rows.len());
-    }
-    Ok(())
-}
-
-// A file with a record for each number below `n`, which stands between two texts.
-type Many = (File, &'static [u8], u32, &'static [u8], Told);
-
-static LIMITS: [Many; 6] = [
-    (File::Classes, b"V", 64, b",1,\n", ACCEPTED),
-    (File::Classes, b"V", 65, b",1,\n", (12, "TooMany", 65)),
-    (File::Classes, b"A,", 10_000, b",\n", ACCEPTED),
-    (
-        File::Classes,
-        b"A,",
-        10_001,
-        b",\n",
-        (12, "TooMany", 10_001),
-    ),
-    (
-        File::Recodes,
-        b"G",
-        256,
-        b",SEX,1,g\n",
-        (8, "CodeMissing", 1),
-    ),
-    (
-        File::Recodes,
-        b"G",
-        257,
-        b",SEX,1,g\n",
-        (12, "TooMany", 257),
-    ),
-];
-
-fn limits() -> &'static [Many] {
-    &LIMITS
-}
-
-fn add_number(text: &mut Vec<u8>, before: &[u8], number: u32, after: &[u8]) -> Result<(), Memory> {
-    let mut digits = [b'0'; 10];
-    let len = print_number(number, &mut digits);
-    text.extend_from_slice(before)?;
-    text.extend_from_slice(&digits[..len])?;
-    text.extend_from_slice(after)?;
-    Ok(())
-}
-
-fn told_of_many(alloc: Global, many: &Many) -> Result<Told, Memory> {
-    let (file, before, n, after, _) = many;
-    let mut bytes = Vec::from_slice(alloc, header_of(file))?;
-    for number in 0..*n {
-        add_number(&mut bytes, before, number, after)?;
-    }
-    Ok(told(alloc, file, bytes.as_slice()))
-}
-
-#[test]
-fn most_records(rt: HostRuntime) -> Result<(), Fail> {
-    for many in limits() {
-        assert!(rt; told_of_many(rt.alloc(), many)? == many.4, "{}", many.2);
     }
     Ok(())
 }

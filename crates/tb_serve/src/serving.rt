@@ -24,10 +24,8 @@ use tb_base::{Memory, Status};
 use tb_board::{Board, Named, Opening};
 use tb_io::{Listen, Sink, Wrote};
 use tb_release::Release;
+use tb_session::FIRST_CAPACITY;
 use tb_text::Setup;
-
-// How many cubes are kept at first.
-const FIRST_CAPACITY: u32 = 64;
 
 // What the board is made of.
 fn open(alloc: Global, setup: &Setup, base: Release) -> Result<Opening, Memory>

@@ -11,12 +11,12 @@ use Rattle.tb_model.specs.Rules.{pvalues_of, threshold_of}
 use Rattle.tb_model.specs.Schemas.{SchemaValue}
 use Rattle.tb_model.specs.Setups.{SetupValue}
 use Rattle.tb_model.specs.Texts.{heading, line_text, place_text, table_text, text_of_cells}
-use Rattle.tb_release.specs.Batches.{BatchValue}
+use Rattle.tb_release.specs.Batches.{BatchValue, batch_of}
 use Rattle.tb_release.specs.Chains.{after_batch, release_after}
 use Rattle.tb_session.specs.Asks.{asks_of}
 use Rattle.tb_session.specs.Laws.{NumbersNeverFall, TablesNameTheirList}
 use Rattle.tb_session.specs.Outputs.{ReplyValue}
-use Rattle.tb_session.specs.Replies.{IsPublishReply, IsReplyTo, StateValue, batch_of}
+use Rattle.tb_session.specs.Replies.{IsPublishReply, IsReplyTo, StateValue}
 use Rattle.tb_session.specs.Transcripts.{IsLegal, IsStep, Sees}
 use Rattle.tb_session.specs.declared.asks.Asks.{Asks}
 use Rattle.tb_session.specs.declared.asks.Asks.TheVariants as asks

@@ -6,12 +6,12 @@ use Rattle.std.proofs.lemmas.List.{append_cancel_left, append_cancel_right}
 use Rattle.std.proofs.lemmas.List.Elements.{All-head, All-tail}
 use Rattle.tb_model.specs.Releases.{ReleaseValue}
 use Rattle.tb_model.specs.Setups.{SetupValue}
-use Rattle.tb_release.specs.Batches.{BatchValue}
+use Rattle.tb_release.specs.Batches.{BatchValue, batch_of}
 use Rattle.tb_release.specs.Chains.{release_after}
 use Rattle.tb_session.specs.Asks.{asks_of}
 use Rattle.tb_session.specs.Laws.{PublishedStays}
 use Rattle.tb_session.specs.Outputs.{ReplyValue}
-use Rattle.tb_session.specs.Replies.{IsPublishReply, IsReplyTo, StateValue, batch_of}
+use Rattle.tb_session.specs.Replies.{IsPublishReply, IsReplyTo, StateValue}
 use Rattle.tb_session.specs.ReplyLines.{published_line}
 use Rattle.tb_session.specs.Transcripts.{IsLegal}
 use Rattle.tb_session.proofs.Numbers.{number_after}

@@ -3,12 +3,11 @@ use Rattle.std.proofs.Common.{◌≡◌, ◌∙◌, refl, ap, subst, ℕ, ◌+�
 use Rattle.tb_board.specs.Custodians.{CustodianValue, IsWhole, after_publishing}
 use Rattle.tb_board.specs.Holders.{release_seen}
 use Rattle.tb_model.specs.Releases.{ReleaseValue}
-use Rattle.tb_release.specs.Batches.{CanFollow, batch_refusal}
+use Rattle.tb_release.specs.Batches.{CanFollow, batch_of, batch_refusal}
 use Rattle.tb_release.specs.FaultNames.{fault_name}
 use Rattle.tb_release.specs.declared.edits.Edit.{Edit}
 use Rattle.tb_release.specs.declared.fault.EditFaultKind.{EditFaultKind}
 use Rattle.tb_session.specs.Parties.{PublishLeads, state_at}
-use Rattle.tb_session.specs.Replies.{batch_of}
 use Rattle.tb_session.specs.ReplyLines.{memory_line, published_line, batch_refusal_line}
 
 module _ (old new : CustodianValue) (held after : List Edit) where

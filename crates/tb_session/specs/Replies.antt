@@ -16,7 +16,7 @@ use Rattle.tb_revise.specs.Faults as edits
 use Rattle.tb_revise.specs.FaultNames as edit_names
 use Rattle.tb_revise.specs.declared.fault.EditTextFault.{EditTextFault}
 use Rattle.tb_rows.specs.FaultNames.{FaultNameValue}
-use Rattle.tb_release.specs.Batches.{BatchValue, CanFollow, batch_refusal, changes_of}
+use Rattle.tb_release.specs.Batches.{BatchValue, CanFollow, batch_of, batch_refusal}
 use Rattle.tb_release.specs.Chains.{release_after}
 use Rattle.tb_release.specs.FaultNames as batch_names
 use Rattle.tb_release.specs.declared.edits.Edit.{Edit}
@@ -108,10 +108,6 @@ IsEditReply setup line held text after =
     IsHeld setup line held text after
     ⊎ (after ≡ held)
     × (IsFaulty setup line text ⊎ (IsOneTooMany setup line held text ⊎ (text ≡ memory_line)))
-
--- the batch of edits on a release
-abbrev pub batch_of : ReleaseValue → List Edit → BatchValue
-batch_of release list = record { changes = changes_of release list }
 
 -- `publish` where the held edits can follow the release: their batch is the chain's last
 abbrev pub IsPublished : ReleaseValue → StateValue → List ℕ → StateValue → Type 0

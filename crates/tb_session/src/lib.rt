@@ -23,6 +23,7 @@ mod answering;
 mod asks;
 mod count;
 pub mod laws;
+mod limits;
 mod line;
 mod line_by_line;
 mod party;
@@ -35,6 +36,7 @@ mod sessions;
 
 pub use answering::answer;
 pub use asks::Asks;
+pub use limits::FIRST_CAPACITY;
 pub use line::is_passed_over;
 pub use party::{Party, Role};
 pub use session_end::{MOST_LINES, SessionEnd};

@@ -26,10 +26,8 @@ use tb_board::{Board, Named, Opening};
 use tb_io::{Files, Listen, Sink, Wrote};
 use tb_script::{RunEnd, Script, run_script};
 use tb_serve::{Port, serve};
+use tb_session::FIRST_CAPACITY;
 use tb_text::Setup;
-
-/// How many cubes may be kept at the start.
-pub const FIRST_CAPACITY: u32 = 64;
 
 /// Writes the last line of a run that ends before its task begins, and returns how the run ended.
 pub fn end_by<O: Sink>(end: &End, out: &mut O) -> Status
