@@ -6,5 +6,5 @@ use Rattle.tb_release.proofs.draft.Draft.of.Goals as goal
 
 pub returns : goal.returns
 returns c =
-    let draft : Draft = record { register = c.in_ok-register.field-0; number = c.number.result; changes = c.changes.result; made = 0 } in
-    draft_of draft c.args.old.now c.in_ok-register.ensures.same c.in_ok-register.ensures.kept c.number.ensures c.changes.ensures refl c.requires
+    let draft : Draft = record { register = c.in_ok-share.field-0; number = c.number.result; changes = c.changes.result; made = 0 } in
+    draft_of draft c.args.old.now c.in_ok-share.ensures.same c.in_ok-share.ensures.kept c.number.ensures c.changes.ensures refl c.requires
