@@ -22,5 +22,11 @@ abbrev pub blank_start : StartValue
 blank_start =
     record {
       shape = [];
-      base = record { records = []; key_book = finmap.from_entries []; number = 0; changes = 0 };
+      base = record {
+        records = [];
+        pages = [];
+        key_book = finmap.from_entries [];
+        number = 0;
+        changes = 0;
+      };
     }

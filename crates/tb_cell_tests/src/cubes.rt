@@ -64,9 +64,10 @@ fn many_worked() -> [Cell; 2] {
     ]
 }
 
-fn many_people(alloc: Global) -> Result<People, Memory> {
-    let mut people = People::with_room(alloc, MANY as usize);
-    for person in 1..=MANY {
+// The persons from 1 to this number.
+pub(crate) fn people_up_to(alloc: Global, last: u32) -> Result<People, Memory> {
+    let mut people = People::with_room(alloc, last as usize);
+    for person in 1..=last {
         let second = person % 2;
         let codes = Codes::of(alloc, &[second as u16, 0, 0])?;
         let key = second as u8;
@@ -78,7 +79,7 @@ fn many_people(alloc: Global) -> Result<People, Memory> {
 }
 
 // Release 0 of persons who fit the schema.
-fn first(alloc: Global, schema: &Schema, people: People) -> Result<Release, Memory>
+pub(crate) fn first(alloc: Global, schema: &Schema, people: People) -> Result<Release, Memory>
     ensures { IfOk result (λ release. AllFit (shape_of schema.now) release.records) }
 {
     if !records_fit(schema.shape(), people.all()) {
@@ -163,7 +164,7 @@ fn parts_are_enough(rt: HostRuntime) -> Result<(), Fail> {
 #[test]
 fn many_persons_are_counted(rt: HostRuntime) -> Result<(), Fail> {
     let schema = schema(rt.alloc())?;
-    let release = first(rt.alloc(), &schema, many_people(rt.alloc())?)?;
+    let release = first(rt.alloc(), &schema, people_up_to(rt.alloc(), MANY)?)?;
     let want = many_worked();
     let right = is_right::<Brand, _>(Blank::new(1), &rt, rt.alloc(), &schema, &release, &want)?;
     assert!(rt; right);

@@ -10,7 +10,7 @@ use Rattle.tb_model.specs.Releases.{ReleaseValue}
 use Rattle.tb_release.specs.declared.edits.Change.{Change}
 use Rattle.tb_release.specs.Batches.{BatchValue}
 use Rattle.tb_release.specs.Chains.{changed_records, changed, after_batch, release_after}
-use Rattle.tb_release.specs.Edits.{is_of}
+use Rattle.tb_pages.specs.Pages.{is_of}
 use Rattle.tb_release.specs.Results.{ChangeFits}
 
 one_of : (b : Bool) (shape : List ℕ) (new r : Record) → Fits shape new → Fits shape r → Fits shape (cond b new r)

@@ -12,7 +12,8 @@ use Rattle.tb_pages.specs.declared.register.Register.{Register}
 use Rattle.tb_pages.specs.declared.register.Spot.{Spot}
 use Rattle.tb_pages.specs.declared.shard.Entry.{Entry}
 use Rattle.tb_pages.specs.Books.{keys_in, page_in}
-use Rattle.tb_pages.specs.Pages.{PageValue, is_of, record_of, page_of, no_page, records_in, with_page, with_added, at_person, page_without, page_replaced, page_number}
+use Rattle.tb_model.specs.Pages.{PageValue, page_of, records_in, with_added}
+use Rattle.tb_pages.specs.Pages.{is_of, record_of, no_page, with_page, at_person, page_without, page_replaced, page_number}
 use Rattle.tb_pages.specs.Registers.{IsAdded, IsRegister, IsReplaced, IsSpot, IsTaken}
 use Rattle.tb_pages.proofs.Tests.{flip}
 use Rattle.tb_pages.proofs.PageLaws.{records_in-added, records_in-without, records_in-replaced}

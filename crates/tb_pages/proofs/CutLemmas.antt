@@ -5,8 +5,8 @@ use Rattle.std.proofs.lemmas.Bool.{lt-ltb, le-ltb}
 use Rattle.std.proofs.lemmas.List.{take-append-drop, length-take-le, length-drop, reverse-append, map-append}
 use Rattle.std.proofs.lemmas.List.Sums.{fold-append}
 use Rattle.tb_base.specs.declared.records.Record.{Record}
-use Rattle.tb_pages.specs.declared.page.TheConstants.{PAGE_ROOM}
-use Rattle.tb_pages.specs.Pages.{PageValue, cut, page_of, with_added}
+use Rattle.tb_model.specs.declared.rooms.TheConstants.{PAGE_ROOM}
+use Rattle.tb_model.specs.Pages.{PageValue, cut, page_of, with_added}
 use Rattle.tb_pages.specs.Rooms.{last_length}
 use Rattle.tb_pages.proofs.RoomLemmas.{grows_added}
 

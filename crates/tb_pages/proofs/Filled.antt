@@ -12,9 +12,10 @@ use Rattle.tb_base.specs.Persons.{has_person, AreDistinct}
 use Rattle.tb_base.proofs.PersonLemmas.{distinct-new}
 use Rattle.tb_pages.proofs.Tests.{is_eq-nat_cmp, none_first}
 use Rattle.tb_pages.specs.declared.shard.Entry.{Entry}
-use Rattle.tb_pages.specs.declared.page.TheConstants.{PAGE_ROOM}
+use Rattle.tb_model.specs.declared.rooms.TheConstants.{PAGE_ROOM}
 use Rattle.tb_pages.specs.Books.{Book, keys_in, page_in}
-use Rattle.tb_pages.specs.Pages.{PageValue, records_in, with_added, page_number, cut}
+use Rattle.tb_model.specs.Pages.{PageValue, records_in, with_added, cut}
+use Rattle.tb_pages.specs.Pages.{page_number}
 use Rattle.tb_pages.specs.declared.register.Register.{Register}
 use Rattle.tb_pages.specs.Fillings.{AreFilled}
 use Rattle.tb_pages.specs.Registers.{IsRegister}

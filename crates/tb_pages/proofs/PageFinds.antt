@@ -12,8 +12,9 @@ use Rattle.std.proofs.lemmas.List.Folds.{list_any_at}
 use Rattle.tb_base.specs.declared.records.Record.{Record}
 use Rattle.tb_base.specs.Persons.{has_person, AreDistinct}
 use Rattle.tb_pages.proofs.Tests.{none_first}
-use Rattle.tb_pages.specs.declared.page.TheConstants.{PAGE_ROOM}
-use Rattle.tb_pages.specs.Pages.{PageValue, is_of, record_of, page_of, records_in, with_added, at_person, page_without, page_replaced, page_number}
+use Rattle.tb_model.specs.declared.rooms.TheConstants.{PAGE_ROOM}
+use Rattle.tb_model.specs.Pages.{PageValue, page_of, records_in, with_added}
+use Rattle.tb_pages.specs.Pages.{is_of, record_of, at_person, page_without, page_replaced, page_number}
 use Rattle.tb_pages.proofs.PageLaws.{filter_of_none, map_unless, without_there, replaced_there}
 
 -- ---- persons of two lists

@@ -6,8 +6,9 @@ use Rattle.std.proofs.lemmas.List.Elements.{filter-append}
 use Rattle.tb_base.specs.declared.records.Record.{Record}
 use Rattle.tb_base.specs.Persons.{has_person}
 use Rattle.tb_pages.proofs.Tests.{none_first}
-use Rattle.tb_pages.specs.declared.page.TheConstants.{PAGE_ROOM}
-use Rattle.tb_pages.specs.Pages.{PageValue, is_of, page_of, records_in, with_added, cut, at_person, page_without, page_replaced}
+use Rattle.tb_model.specs.declared.rooms.TheConstants.{PAGE_ROOM}
+use Rattle.tb_model.specs.Pages.{PageValue, page_of, records_in, with_added, cut}
+use Rattle.tb_pages.specs.Pages.{is_of, at_person, page_without, page_replaced}
 
 -- ---- one more record
 added_to_last : (b : Bool) (stamp : ℕ) (r : Record) (p : PageValue) → records_in (if b then page_of (p.records ++ r ∷ []) stamp ∷ [] else p ∷ page_of (r ∷ []) stamp ∷ []) ≡ records_in (p ∷ []) ++ r ∷ []

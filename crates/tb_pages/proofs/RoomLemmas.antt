@@ -6,8 +6,9 @@ use Rattle.std.proofs.lemmas.List.{length-map}
 use Rattle.std.proofs.lemmas.List.Sums.{length-filter, count_by-le-length}
 use Rattle.tb_base.specs.declared.records.Record.{Record}
 use Rattle.tb_base.specs.Persons.{has_person}
-use Rattle.tb_pages.specs.declared.page.TheConstants.{PAGE_ROOM}
-use Rattle.tb_pages.specs.Pages.{PageValue, is_of, page_of, with_added, at_person, page_without, page_replaced}
+use Rattle.tb_model.specs.declared.rooms.TheConstants.{PAGE_ROOM}
+use Rattle.tb_model.specs.Pages.{PageValue, page_of, with_added}
+use Rattle.tb_pages.specs.Pages.{is_of, at_person, page_without, page_replaced}
 use Rattle.tb_pages.specs.Rooms.{last_length, AreFilledBy, ChangesFill, FewPages, RecordsFill}
 use Rattle.tb_pages.proofs.PageFinds.{grown}
 

@@ -5,11 +5,12 @@ use Rattle.std.proofs.lemmas.Bool.{cases_lt}
 use Rattle.std.proofs.lemmas.List.{get_or-map, length-map}
 use Rattle.tb_base.specs.declared.records.Record.{Record}
 use Rattle.tb_base.specs.Persons.{has_person}
-use Rattle.tb_pages.specs.declared.page.TheConstants.{PAGE_ROOM}
-use Rattle.tb_pages.specs.Pages.{PageValue, page_of, no_page, with_added, cut, at_person, page_without, page_replaced}
+use Rattle.tb_model.specs.declared.rooms.TheConstants.{PAGE_ROOM}
+use Rattle.tb_model.specs.Pages.{PageValue, page_of, with_added, cut}
+use Rattle.tb_pages.specs.Pages.{no_page, at_person, page_without, page_replaced}
 use Rattle.tb_pages.specs.Stamps.{KeepsPages, ChangesKeepPages, StepsKeepPages, StampsTell}
 
-keeps_none : (stamp : ℕ) (pages : List PageValue) → KeepsPages stamp pages pages
+pub keeps_none : (stamp : ℕ) (pages : List PageValue) → KeepsPages stamp pages pages
 keeps_none stamp pages = record { long = omega arith; kept = λ i w. inr refl; fresh = λ i low w. absurd (omega arith) }
 
 then_kept : (stamp : ℕ) (a b c : PageValue) → (c.stamp ≡ stamp) ⊎ (c ≡ b) → (b.stamp ≡ stamp) ⊎ (b ≡ a) → (c.stamp ≡ stamp) ⊎ (c ≡ a)

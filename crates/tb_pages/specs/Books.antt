@@ -6,12 +6,9 @@ use Rattle.std.specs.Option.{option_map_or}
 use Rattle.std.specs.Coded.{Coded, code_by, coded×, coded_ℕ, coded_option}
 use Rattle.std.specs.FinMap as finmap
 use Rattle.std.specs.Ordering.{nat_cmp}
+use Rattle.tb_model.specs.Releases.{KeyBook}
 use Rattle.tb_pages.specs.declared.shard.Entry.{Entry}
 use Rattle.tb_pages.specs.declared.book.TheConstants.{SHARDS}
-
--- a key book: from persons to their record keys
-abbrev pub KeyBook : Type 0
-KeyBook = finmap.FinMap nat_cmp ℕ
 
 abbrev pub entry_code : Coded Entry
 entry_code =

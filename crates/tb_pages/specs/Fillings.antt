@@ -3,7 +3,8 @@ use Rattle.std.specs.Prelude.{◌≡◌, ℕ, List, map}
 use Rattle.std.specs.FinMap as finmap
 use Rattle.tb_base.specs.declared.records.Record.{Record}
 use Rattle.tb_pages.specs.Books.{Book, keys_in, page_in}
-use Rattle.tb_pages.specs.Pages.{PageValue, cut, page_number}
+use Rattle.tb_model.specs.Pages.{PageValue, cut}
+use Rattle.tb_pages.specs.Pages.{page_number}
 
 -- the key book has the page of each person's record
 abbrev pub ArePlaced : Book → List PageValue → Type 0

@@ -8,8 +8,10 @@ use Rattle.tb_pages.specs.declared.register.Register.{Register}
 use Rattle.tb_pages.specs.declared.register.Spot.{Spot}
 use Rattle.tb_pages.specs.Books.{keys_in}
 use Rattle.tb_pages.specs.Fillings.{ArePlaced}
-use Rattle.tb_pages.specs.Pages.{IsPlace, PageValue, no_page, page_number}
-use Rattle.tb_pages.specs.Pages.{changed_pages, record_of, records_in}
+use Rattle.tb_model.specs.Pages.{PageValue}
+use Rattle.tb_pages.specs.Pages.{IsPlace, no_page, page_number}
+use Rattle.tb_model.specs.Pages.{records_in}
+use Rattle.tb_pages.specs.Pages.{changed_pages, record_of}
 
 -- persons are found on their pages, the records are counted, and no person has two
 pub record IsRegister (register : Register) : Type 0 where

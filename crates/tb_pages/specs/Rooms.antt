@@ -1,9 +1,10 @@
 -- How many pages there can be.
 use Rattle.std.specs.Prelude.{◌<◌, ◌≤◌, ℕ, ◌+◌, ◌*◌, List, [], ◌∷◌, length, Option}
 use Rattle.tb_base.specs.declared.records.Record.{Record}
-use Rattle.tb_pages.specs.declared.page.TheConstants.{PAGE_ROOM}
+use Rattle.tb_model.specs.declared.rooms.TheConstants.{PAGE_ROOM}
 use Rattle.tb_pages.specs.declared.pages.TheConstants.{PAGES}
-use Rattle.tb_pages.specs.Pages.{PageValue, changed_pages, cut}
+use Rattle.tb_model.specs.Pages.{PageValue, cut}
+use Rattle.tb_pages.specs.Pages.{changed_pages}
 
 -- how many records the last page has
 abbrev pub last_length : List PageValue → ℕ

@@ -1,7 +1,8 @@
 -- What the stamps of pages tell.
 use Rattle.std.specs.Prelude.{◌≡◌, ◌<◌, ◌≤◌, ◌⊎◌, ℕ, suc, List, length, slice_index_or, Option}
 use Rattle.tb_base.specs.declared.records.Record.{Record}
-use Rattle.tb_pages.specs.Pages.{PageValue, changed_pages, cut, no_page}
+use Rattle.tb_model.specs.Pages.{PageValue, cut}
+use Rattle.tb_pages.specs.Pages.{changed_pages, no_page}
 
 -- pages come after others under a stamp: a page without that stamp is as it was, and a new page has
 -- it

@@ -3,16 +3,16 @@
 ghost use Rattle.std.specs.Prelude.{◌≡◌, ◌≤◌, IfOk, length};
 ghost use Rattle.tb_base.specs.declared.people.TheConstants.{MOST_PERSONS};
 ghost use Rattle.tb_base.specs.Persons.{AreDistinct};
-ghost use Rattle.tb_pages.specs.Pages.{cut};
+ghost use Rattle.tb_model.specs.Pages.{cut};
 ghost use Rattle.tb_pages.specs.Fillings.{AreFilled};
 
 use crate::book::Book;
 use crate::lists::Lists;
-use crate::page::PAGE_ROOM;
 use crate::pages::Pages;
 use crate::shard::Entry;
 use std::alloc::Global;
 use tb_base::{Memory, Record};
+use tb_model::PAGE_ROOM;
 
 // The key book of records that are put into pages, each after the other.
 fn book_of(alloc: Global, records: &[Record]) -> Result<Book, Memory>

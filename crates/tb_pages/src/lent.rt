@@ -2,7 +2,7 @@ ghost use Rattle.std.specs.Prelude.{◌≡◌, ◌<◌, ◌≤◌, ◌++◌, ◌
 ghost use Rattle.std.specs.Prelude.{flat_map, length, slice_index_or};
 ghost use Rattle.tb_pages.specs.declared.pages.TheConstants.{PAGES};
 ghost use Rattle.tb_pages.specs.Lents.{filled_from, pieces_of};
-ghost use Rattle.tb_pages.specs.Pages.{records_in};
+ghost use Rattle.tb_model.specs.Pages.{records_in};
 
 use crate::pages::Pages;
 use std::alloc::Global;

@@ -1,10 +1,10 @@
 //! Records in pages that releases share, and the key book in shards that they share.
 //!
-//! It stands on `tb_base`. `specs/Pages` says what pages are, what a change makes of them and how
-//! records are cut into pages, `Books` what a key book in shards is, `Fillings` how both are made
-//! from a list of records, `Registers` how they stand together and what a change leaves, `Lents`
-//! which pages are lent, `Rooms` how many pages there can be, and `Stamps` what the stamps of pages
-//! tell. `laws` cites the last two.
+//! It stands on `tb_base` and on `tb_model`, whose `Pages` says what pages are and how records are
+//! cut into pages. Here `specs/Pages` says what a change makes of them, `Books` what a key book in
+//! shards is, `Fillings` how both are made from a list of records, `Registers` how they stand
+//! together and what a change leaves, `Lents` which pages are lent, `Rooms` how many pages there
+//! can be, and `Stamps` what the stamps of pages tell. `laws` cites the last two.
 //!
 //! Of the lemmas `PageLists` (one page changes), `PageLaws` (all records of pages), `PageFinds` (a
 //! person's page and place), `CutLemmas` (pages from behind), `RoomLemmas` and `StampLemmas` are
@@ -24,7 +24,6 @@ mod shard;
 
 pub use book::{Book, SHARDS};
 pub use lent::{Lent, filled_places};
-pub use page::PAGE_ROOM;
 pub use pages::{PAGES, Pages};
 pub use register::{Register, Spot};
 pub use shard::Entry;

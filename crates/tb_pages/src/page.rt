@@ -1,15 +1,14 @@
 ghost use Rattle.std.specs.Prelude.{◌≡◌, ◌<◌, ◌≤◌, ◌++◌, ◌∷◌, [], true, IfOk, OnOk, length};
 ghost use Rattle.std.specs.Prelude.{position, remove, slice_get, slice_set, Some};
 ghost use Rattle.tb_base.specs.Persons.{has_person};
-ghost use Rattle.tb_pages.specs.Pages.{IsPlace, is_of, page_of};
+ghost use Rattle.tb_model.specs.Pages.{page_of};
+ghost use Rattle.tb_pages.specs.Pages.{IsPlace, is_of};
 
 use std::alloc::Global;
 use std::marker::Model;
 use std::mem;
 use tb_base::{Memory, Record};
-
-/// The most records that a page may have.
-pub const PAGE_ROOM: usize = 1_024;
+use tb_model::PAGE_ROOM;
 
 /// A page of at most `PAGE_ROOM` records, with its stamp: the number of the release that last
 /// changed it.
@@ -21,8 +20,8 @@ pub(crate) struct Page {
 
 impl Model for Page {
     ghost use Rattle.std.specs.Prelude.{◌≤◌, length};
-    ghost use Rattle.tb_pages.specs.Pages.{PageValue, page_code, page_of};
-    ghost use Rattle.tb_pages.specs.declared.page.TheConstants.{PAGE_ROOM};
+    ghost use Rattle.tb_model.specs.Pages.{PageValue, page_code, page_of};
+    ghost use Rattle.tb_model.specs.declared.rooms.TheConstants.{PAGE_ROOM};
 
     ghost Value = { PageValue };
 

@@ -2,15 +2,17 @@ ghost use Rattle.std.specs.Prelude.{◌≡◌, ◌+◌, ◌<◌, ◌≤◌, ◌+
 ghost use Rattle.std.specs.Prelude.{length, remove, slice_get, slice_index_or, slice_set};
 ghost use Rattle.std.specs.Arc.{arc_value};
 ghost use Rattle.tb_base.specs.Persons.{has_person};
-ghost use Rattle.tb_pages.specs.declared.page.TheConstants.{PAGE_ROOM};
+ghost use Rattle.tb_model.specs.declared.rooms.TheConstants.{PAGE_ROOM};
 ghost use Rattle.tb_pages.specs.declared.pages.TheConstants.{PAGES};
-ghost use Rattle.tb_pages.specs.Pages.{IsPlace, cut, no_page, page_of, with_added, with_page};
+ghost use Rattle.tb_model.specs.Pages.{cut, page_of, with_added};
+ghost use Rattle.tb_pages.specs.Pages.{IsPlace, no_page, with_page};
 
-use crate::page::{PAGE_ROOM, Page};
+use crate::page::Page;
 use std::alloc::Global;
 use std::marker::Model;
 use std::sync::Arc;
 use tb_base::{Memory, Record};
+use tb_model::PAGE_ROOM;
 
 /// How many pages have numbers.
 pub const PAGES: usize = 65_536;
@@ -26,7 +28,7 @@ impl Model for Pages {
     ghost use Rattle.std.specs.Prelude.{List, map};
     ghost use Rattle.std.specs.Coded.{coded_list};
     ghost use Rattle.std.specs.Arc.{arc_value};
-    ghost use Rattle.tb_pages.specs.Pages.{PageValue, page_code};
+    ghost use Rattle.tb_model.specs.Pages.{PageValue, page_code};
 
     ghost Value = { List PageValue };
 

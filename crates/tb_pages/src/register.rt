@@ -5,7 +5,8 @@ ghost use Rattle.tb_base.specs.Persons.{AreDistinct, has_person};
 ghost use Rattle.tb_pages.specs.declared.pages.TheConstants.{PAGES};
 ghost use Rattle.tb_pages.specs.Books.{keys_in};
 ghost use Rattle.tb_pages.specs.Fillings.{AreFilled};
-ghost use Rattle.tb_pages.specs.Pages.{page_number, record_of, records_in};
+ghost use Rattle.tb_model.specs.Pages.{records_in};
+ghost use Rattle.tb_pages.specs.Pages.{page_number, record_of};
 ghost use Rattle.tb_pages.specs.Registers.{IsAdded, IsRegister, IsReplaced, IsSpot, IsTaken};
 
 use crate::book::Book;

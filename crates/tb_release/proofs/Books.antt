@@ -1,38 +1,16 @@
 -- Key books.
-use Rattle.std.proofs.Common.{◌≡◌, ◌≢◌, ℕ, zero, suc, ◌<◌, ◌≤◌, Bool, true, false, cond, not, eqb, List, [], ◌∷◌, ◌++◌, map, length, get_or, refl, sym, ap, ◌∙◌, inl, inr, arith}
+use Rattle.std.proofs.Common.{◌≡◌, ℕ, zero, suc, ◌<◌, true, false, cond, not, eqb, List, [], ◌∷◌, map, length, get_or, refl, sym, ap, ◌∙◌, inl, inr, arith}
 use Rattle.std.specs.Prelude.{Option, Some, None, ◌==◌, ◌||◌}
 use Rattle.std.specs.FinMap as finmap
-use Rattle.std.specs.FinMap.{get-insert}
-use Rattle.std.specs.Ordering.{nat_cmp, is_eq}
-use Rattle.std.specs.declared.cmp.Ordering.TheVariants.{Less, Equal, Greater}
-use Rattle.std.specs.Cmp.{nat_cmp_total, nat_cmp_is}
-use Rattle.std.proofs.lemmas.Bool.{cases_order, eq-eqb, ne_eqb, eqb-false}
+use Rattle.std.specs.Ordering.{nat_cmp}
+use Rattle.std.proofs.lemmas.Bool.{eq-eqb, ne_eqb, eqb-false}
 use Rattle.std.proofs.lemmas.Bool.Decides.{eqb_tells}
 use Rattle.std.specs.Option.{option_map_or}
-use Rattle.tb_base.specs.declared.people.TheConstants.{MOST_PERSONS}
 use Rattle.tb_base.specs.declared.records.Record.{Record}
 use Rattle.tb_base.specs.Persons.{has_person, AreDistinct}
-use Rattle.tb_release.specs.Releases.{KeyBook, IsSound, release_view}
+use Rattle.tb_model.specs.Releases.{KeyBook}
+use Rattle.tb_pages.proofs.Tests.{get-book_insert, none_first}
 use Rattle.tb_release.specs.Possible.{has_other_key}
-
--- the order's test is that of equal numbers
-pub is_eq-nat_cmp : (a b : ℕ) → is_eq (nat_cmp a b) ≡ eqb a b
-is_eq-nat_cmp a b =
-    elim (cases_order a b) [
-      | inl same ↦ rw (← nat_cmp_is a b Equal same, eq-eqb a b same) refl
-      | inr apart ↦ elim apart [
-        | inl below ↦ let ne : a ≢ b = omega arith in rw (← nat_cmp_is a b Less below, ne_eqb a b ne) refl
-        | inr above ↦ let ne : a ≢ b = omega arith in rw (← nat_cmp_is a b Greater above, ne_eqb a b ne) refl
-      ]
-    ]
-
-pub get-book_insert : (book : KeyBook) (person key q : ℕ) → finmap.get (finmap.insert book person key) q ≡ cond (eqb q person) (Some key) (finmap.get book q)
-get-book_insert book person key q = get-insert nat_cmp_total book person key q ∙ ap (λ b. cond b (Some key) (finmap.get book q)) (is_eq-nat_cmp q person)
-
--- a person who is not among records is not that of the first, nor of a later one
-pub none_first : (b rest : Bool) → (b || rest) ≡ false → (b ≡ false) × (rest ≡ false)
-none_first true rest none = cc
-none_first false rest none = (refl, none)
 
 not_also : (a b : ℕ) → eqb a b ≡ false → eqb b a ≡ false
 not_also a b e = ne_eqb b a (λ h. eqb-false a b e (sym h))
@@ -42,25 +20,18 @@ none_at [] person k d none within = absurd (omega arith)
 none_at (x ∷ xs) person zero d none within = (none_first (eqb person x.person) (has_person xs person) none).0
 none_at (x ∷ xs) person (suc k) d none within = none_at xs person k d (none_first (eqb person x.person) (has_person xs person) none).1 (omega arith)
 
--- a book made of records' pairs and others has each record's key
-pub key_at : (records : List Record) (left : List (ℕ × ℕ)) (k : ℕ) (d : Record) → AreDistinct records → k < length records
-    → finmap.get (finmap.from_entries {R = nat_cmp} (map (λ (r : Record). (r.person, r.key)) records ++ left)) (get_or records k d).person ≡ Some (get_or records k d).key
-key_at [] left k d distinct within = absurd (omega arith)
-key_at (x ∷ xs) left zero d distinct within =
-    get-book_insert (finmap.from_entries (map (λ (r : Record). (r.person, r.key)) xs ++ left)) x.person x.key x.person
+-- a book made of records' pairs has each record's key
+pub key_at : (records : List Record) (k : ℕ) (d : Record) → AreDistinct records → k < length records
+    → finmap.get (finmap.from_entries {R = nat_cmp} (map (λ (r : Record). (r.person, r.key)) records)) (get_or records k d).person ≡ Some (get_or records k d).key
+key_at [] k d distinct within = absurd (omega arith)
+key_at (x ∷ xs) zero d distinct within =
+    get-book_insert (finmap.from_entries (map (λ (r : Record). (r.person, r.key)) xs)) x.person x.key x.person
     ∙ rw (eq-eqb x.person x.person refl) refl
-key_at (x ∷ xs) left (suc k) d distinct within =
+key_at (x ∷ xs) (suc k) d distinct within =
     let below : k < length xs = omega arith in
     let apart : eqb (get_or xs k d).person x.person ≡ false = not_also x.person (get_or xs k d).person (none_at xs x.person k d distinct.0 below) in
-    get-book_insert (finmap.from_entries (map (λ (r : Record). (r.person, r.key)) xs ++ left)) x.person x.key (get_or xs k d).person
-    ∙ rw apart (key_at xs left k d distinct.1 below)
-
-pub view_sound : (records : List Record) (left : List (ℕ × ℕ)) (number changes : ℕ) → AreDistinct records → length records ≤ MOST_PERSONS → IsSound (release_view records left number changes)
-view_sound records left number changes distinct few = record {
-  distinct = distinct;
-  in_book = λ k d within. key_at records left k d distinct within;
-  few = few;
-}
+    get-book_insert (finmap.from_entries (map (λ (r : Record). (r.person, r.key)) xs)) x.person x.key (get_or xs k d).person
+    ∙ rw apart (key_at xs k d distinct.1 below)
 
 -- a person who stands in the book keeps the key
 same_key : (found : Option ℕ) (key k : ℕ) → found ≡ Some k → option_map_or (λ old. not (old == key)) found false ≡ false → key ≡ k

@@ -90,7 +90,7 @@ after_follows release batch f s =
 
 next_sound : (release : ReleaseValue) (edits : List Edit) → ArePossible release edits → IsSound release → IsSound (next_release release edits)
 next_sound release edits can s =
-    let h = stay_sound release edits can s in record { distinct = h.distinct; in_book = h.in_book; few = h.few }
+    let h = stay_sound release edits can s in record { distinct = h.distinct; in_book = h.in_book; few = h.few; in_pages = h.in_pages }
 
 pub chains_hold : (release : ReleaseValue) (chain : List BatchValue) → IsSound release → IsChain release chain → ChainFacts release chain
 chains_hold release [] s is = record { sound = s; keys = λ q k at. at; number = omega arith; changes = omega arith }

@@ -1,6 +1,6 @@
 -- One edit.
 use Rattle.std.proofs.Common.{◌≡◌, ℕ, ◌+◌, ◌≤◌, Bool, true, false, not, leb, List, [], ◌∷◌, ◌++◌, map, length, refl, sym, ap, ◌∙◌, arith, length-append}
-use Rattle.std.specs.Prelude.{Some, None, filter, if◌then◌else◌}
+use Rattle.std.specs.Prelude.{Option, Some, None, filter, if◌then◌else◌}
 use Rattle.std.specs.FinMap as finmap
 use Rattle.std.proofs.lemmas.Bool.{leb-false, lt-leb, eq-eqb}
 use Rattle.std.proofs.lemmas.List.{length-map}
@@ -10,17 +10,22 @@ use Rattle.tb_base.specs.declared.records.Record.{Record}
 use Rattle.tb_base.specs.declared.people.TheConstants.{MOST_PERSONS}
 use Rattle.tb_base.specs.Persons.{has_person, AreDistinct}
 use Rattle.tb_base.proofs.PersonLemmas.{AreDistinct-push}
-use Rattle.tb_model.specs.Releases.{ReleaseValue}
+use Rattle.tb_model.specs.Pages.{PageValue, records_in}
+use Rattle.tb_model.specs.Releases.{KeyBook, ReleaseValue}
+use Rattle.tb_pages.specs.Pages.{changed_pages, is_of, record_of}
+use Rattle.tb_pages.proofs.PageLaws.{records_in-added, records_in-without, records_in-replaced}
+use Rattle.tb_pages.proofs.Tests.{get-book_insert}
 use Rattle.tb_release.specs.declared.edits.Edit.{Edit}
 use Rattle.tb_release.specs.declared.edits.Edit.TheVariants.{Add, Drop, Amend}
 use Rattle.tb_release.specs.declared.fault.EditFaultKind.TheVariants as kind
-use Rattle.tb_release.specs.Releases.{KeyBook, IsSound, HasKeyOf}
-use Rattle.tb_release.specs.Edits.{edited, amended, is_of, record_of}
+use Rattle.tb_release.specs.declared.edits.Change.{Change}
+use Rattle.tb_release.specs.Releases.{IsSound, HasKeyOf}
+use Rattle.tb_release.specs.Edits.{edited, edited_book, edited_pages, edited_records, amended, person_of}
 use Rattle.tb_release.specs.Possible.{IsPossible, refusal, has_other_key}
 use Rattle.tb_release.specs.Batches.{change_of}
-use Rattle.tb_release.specs.Chains.{changed}
+use Rattle.tb_release.specs.Chains.{changed, changed_book, changed_records}
 use Rattle.tb_release.proofs.Persons.{stands, found, none_found, dropped, replaced, record_of-here, record_of-gone, distinct-filter, distinct-map}
-use Rattle.tb_release.proofs.Books.{book_keeps, get-book_insert}
+use Rattle.tb_release.proofs.Books.{book_keeps}
 
 -- ---- an edit is possible exactly where there is no refusal
 add_parts : (a b c : Bool) → (if a then Some kind.PersonThere else if b then Some kind.KeyChanged else if c then Some kind.TooMany else None) ≡ None → (a ≡ false) × (b ≡ false) × (c ≡ false)
@@ -73,16 +78,52 @@ change_of-amend release person sets r distinct is =
     rw (is, kept) refl
 
 -- an edit that is possible is known by its change
-pub changed-change_of : (release : ReleaseValue) (edit : Edit) → AreDistinct release.records → IsPossible release edit → changed release (change_of release edit) ≡ edited release edit
-changed-change_of release (Add person key codes) distinct can = ap (changed release) (change_of-add release person key codes can.new)
-changed-change_of release (Drop person) distinct can =
-    let r = found person release.records can in ap (changed release) (change_of-drop release person r.0 distinct r.1)
-changed-change_of release (Amend person sets) distinct can =
+pub leads_records : (release : ReleaseValue) (edit : Edit) → AreDistinct release.records → IsPossible release edit
+    → changed_records release.records (person_of edit) (change_of release edit).before (change_of release edit).after ≡ edited_records release.records edit
+leads_records release (Add person key codes) distinct can =
+    ap (λ (c : Change). changed_records release.records person c.before c.after) (change_of-add release person key codes can.new)
+leads_records release (Drop person) distinct can =
+    let r = found person release.records can in
+    ap (λ (c : Change). changed_records release.records person c.before c.after) (change_of-drop release person r.0 distinct r.1)
+leads_records release (Amend person sets) distinct can =
     let r = found person release.records can in
     let s = stands person release.records r.0 distinct r.1 in
-    let same : map (λ x. if is_of person x then amended sets r.0 else x) release.records ≡ map (λ x. if is_of person x then amended sets x else x) release.records =
-    replaced (λ _. amended sets r.0) s ∙ sym (replaced (amended sets) s) in
-    ap (changed release) (change_of-amend release person sets r.0 distinct r.1) ∙ ap (λ rs. record release { records = rs }) same
+    ap (λ (c : Change). changed_records release.records person c.before c.after) (change_of-amend release person sets r.0 distinct r.1)
+    ∙ (replaced (λ _. amended sets r.0) s ∙ sym (replaced (amended sets) s))
+
+leads_book : (release : ReleaseValue) (edit : Edit) → AreDistinct release.records → IsPossible release edit
+    → changed_book release.key_book (person_of edit) (change_of release edit).before (change_of release edit).after ≡ edited_book release.key_book edit
+leads_book release (Add person key codes) distinct can =
+    ap (λ (c : Change). changed_book release.key_book person c.before c.after) (change_of-add release person key codes can.new)
+leads_book release (Drop person) distinct can =
+    let r = found person release.records can in
+    ap (λ (c : Change). changed_book release.key_book person c.before c.after) (change_of-drop release person r.0 distinct r.1)
+leads_book release (Amend person sets) distinct can =
+    let r = found person release.records can in
+    ap (λ (c : Change). changed_book release.key_book person c.before c.after) (change_of-amend release person sets r.0 distinct r.1)
+
+-- releases with the same parts
+pub same_release : {a b : List Record} {ps qs : List PageValue} {m n : KeyBook} {number number' changes changes' : ℕ} → a ≡ b → ps ≡ qs → m ≡ n → number ≡ number' → changes ≡ changes'
+    → ◌≡◌ {A = ReleaseValue} (record { records = a; pages = ps; key_book = m; number = number; changes = changes }) (record { records = b; pages = qs; key_book = n; number = number'; changes = changes' })
+same_release records pages book number changes = rw (records, pages, book, number, changes) refl
+
+pub changed-change_of : (release : ReleaseValue) (edit : Edit) → AreDistinct release.records → IsPossible release edit → changed release (change_of release edit) ≡ edited release edit
+changed-change_of release edit distinct can = same_release (leads_records release edit distinct can) refl (leads_book release edit distinct can) refl refl
+
+-- a change leaves the same in the pages as in the list of all records
+pub records_in-changed : (stamp : ℕ) (pages : List PageValue) (person : ℕ) (before after : Option Record)
+    → records_in (changed_pages stamp pages person before after) ≡ changed_records (records_in pages) person before after
+records_in-changed stamp pages person None None = refl
+records_in-changed stamp pages person None (Some new) = records_in-added stamp new pages
+records_in-changed stamp pages person (Some old) None = records_in-without stamp person pages
+records_in-changed stamp pages person (Some old) (Some new) = records_in-replaced stamp person new pages
+
+pub edited_in_pages : (release : ReleaseValue) (edit : Edit) → AreDistinct release.records → IsPossible release edit → release.records ≡ records_in release.pages
+    → edited_records release.records edit ≡ records_in (edited_pages release edit)
+edited_in_pages release edit distinct can in_pages =
+    let c = change_of release edit in
+    sym (leads_records release edit distinct can) ∙ ap (λ rs. changed_records rs (person_of edit) c.before c.after) in_pages
+    ∙ sym (records_in-changed (release.number + 1) release.pages (person_of edit) c.before c.after)
 
 -- ---- what it keeps
 pub key_stays : (release : ReleaseValue) (edit : Edit) → IsPossible release edit → (q k : ℕ) → finmap.get release.key_book q ≡ Some k → finmap.get (edited release edit).key_book q ≡ Some k
@@ -108,6 +149,7 @@ sound_after release (Add person key codes) can s =
       in_book = All-push (HasKeyOf book) release.records new
           (All-weaker (HasKeyOf release.key_book) (HasKeyOf book) (λ r h. book_keeps release.key_book person key r.person r.key can.same_key h) release.records s.in_book) own;
       few = let room = can.room in omega arith;
+      in_pages = edited_in_pages release (Add person key codes) s.distinct can s.in_pages;
     }
 sound_after release (Drop person) can s =
     let less : length (filter (λ x. not (is_of person x)) release.records) ≤ length release.records =
@@ -115,10 +157,12 @@ sound_after release (Drop person) can s =
       distinct = distinct-filter (λ x. not (is_of person x)) release.records s.distinct;
       in_book = All-filter (λ x. not (is_of person x)) (HasKeyOf release.key_book) release.records s.in_book;
       few = let few = s.few in omega arith;
+      in_pages = edited_in_pages release (Drop person) s.distinct can s.in_pages;
     }
 sound_after release (Amend person sets) can s = record {
   distinct = distinct-map (λ x. if is_of person x then amended sets x else x) (λ r. set_if-person (is_of person r) sets r) release.records s.distinct;
   in_book = All-map (HasKeyOf release.key_book) (λ x. if is_of person x then amended sets x else x) release.records
       (All-weaker (HasKeyOf release.key_book) (λ r. HasKeyOf release.key_book (if is_of person r then amended sets r else r)) (λ r h. has_key_if (is_of person r) release.key_book sets r h) release.records s.in_book);
   few = rw length-map s.few;
+  in_pages = edited_in_pages release (Amend person sets) s.distinct can s.in_pages;
 }

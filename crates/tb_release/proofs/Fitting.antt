@@ -8,9 +8,10 @@ use Rattle.std.proofs.lemmas.List.Elements.{All-push, All-filter, All-map, All-w
 use Rattle.tb_base.specs.declared.records.Record.{Record}
 use Rattle.tb_base.specs.Records.{Fits, AllFit}
 use Rattle.tb_model.specs.Releases.{ReleaseValue}
+use Rattle.tb_pages.specs.Pages.{is_of}
 use Rattle.tb_release.specs.declared.edits.Edit.{Edit}
 use Rattle.tb_release.specs.declared.edits.Edit.TheVariants.{Add, Drop, Amend}
-use Rattle.tb_release.specs.Edits.{edited, edited_all, amended, is_of}
+use Rattle.tb_release.specs.Edits.{edited, edited_all, amended}
 use Rattle.tb_release.specs.Laws.{EditFits}
 
 set_fits : (shape codes : List ℕ) (v category : ℕ) → length codes ≡ length shape → ((k : ℕ) → k < length shape → get_or codes k 0 < get_or shape k 0)

@@ -5,9 +5,7 @@ pub mod Edited
 pub mod Chained
 pub mod Fitting
 pub mod FitTests
-pub mod SlotLemmas
-pub mod InPlace
-pub mod Places
-pub mod Keys
+pub mod First
 pub mod Made
 pub mod Runs
+pub mod Stamped

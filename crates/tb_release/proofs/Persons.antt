@@ -8,8 +8,9 @@ use Rattle.std.proofs.lemmas.List.Folds.{find-append}
 use Rattle.std.proofs.lemmas.List.Elements.{filter-append}
 use Rattle.tb_base.specs.declared.records.Record.{Record}
 use Rattle.tb_base.specs.Persons.{has_person, AreDistinct}
-use Rattle.tb_release.specs.Edits.{is_of, record_of}
-use Rattle.tb_release.proofs.Books.{none_first}
+use Rattle.tb_pages.specs.Pages.{is_of, record_of}
+use Rattle.tb_pages.proofs.Tests.{none_first}
+use Rattle.tb_pages.proofs.PageLaws.{filter_of_none, map_unless}
 
 -- the person's record stands at one place
 pub record Stands (person : ℕ) (records : List Record) (r : Record) : Type 0 where
@@ -63,17 +64,6 @@ pub found : (person : ℕ) (records : List Record) → has_person records person
 found person [] is = cc
 found person (x ∷ xs) is = found-cons (eqb person x.person) person x xs is (found person xs)
 
--- nobody's record is left out or replaced
-filter_of_none : (person : ℕ) (records : List Record) → has_person records person ≡ false → filter (λ r. not (is_of person r)) records ≡ records
-filter_of_none person [] none = refl
-filter_of_none person (x ∷ xs) none =
-    let h = none_first (eqb person x.person) (has_person xs person) none in rw (h.0, filter_of_none person xs h.1) refl
-
-map_of_none : (f : Record → Record) (person : ℕ) (records : List Record) → has_person records person ≡ false → map (λ r. if is_of person r then f r else r) records ≡ records
-map_of_none f person [] none = refl
-map_of_none f person (x ∷ xs) none =
-    let h = none_first (eqb person x.person) (has_person xs person) none in rw (h.0, map_of_none f person xs h.1) refl
-
 -- the person's record is taken out
 pub dropped : {person : ℕ} {records : List Record} {r : Record} (s : Stands person records r)
     → filter (λ x. not (is_of person x)) records ≡ s.before ++ s.after
@@ -86,7 +76,7 @@ pub replaced : (f : Record → Record) {person : ℕ} {records : List Record} {r
     → map (λ x. if is_of person x then f x else x) records ≡ s.before ++ f r ∷ s.after
 replaced f {person} {records} {r} s =
     let same : eqb person r.person ≡ true = eq-eqb person r.person s.own in
-    rw (s.split, map-append (λ x. if is_of person x then f x else x) s.before (r ∷ s.after), same, map_of_none f person s.before s.none_before, map_of_none f person s.after s.none_after) refl
+    rw (s.split, map-append (λ x. if is_of person x then f x else x) s.before (r ∷ s.after), same, map_unless f person s.before s.none_before, map_unless f person s.after s.none_after) refl
 
 -- whose record is found afterwards
 pub record_of-here : (person : ℕ) (before after : List Record) (x : Record) → person ≡ x.person → has_person before person ≡ false → record_of (before ++ x ∷ after) person ≡ Some x

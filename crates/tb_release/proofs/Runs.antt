@@ -6,44 +6,53 @@ use Rattle.std.specs.Option.{ForSome}
 use Rattle.std.proofs.lemmas.Bool.{ne_eqb, lt-leb, le-ltb, eqb-false}
 use Rattle.std.proofs.lemmas.List.{drop_more}
 use Rattle.std.proofs.lemmas.List.Elements.{All-weaker, recursion_from_All, All-from_recursion}
+use Rattle.tb_base.specs.declared.people.TheConstants.{MOST_PERSONS}
 use Rattle.tb_base.specs.declared.records.Record.{Record}
 use Rattle.tb_base.specs.Records.{Fits, AllFit}
 use Rattle.tb_model.specs.Releases.{ReleaseValue}
+use Rattle.tb_pages.specs.Pages.{record_of}
+use Rattle.tb_pages.specs.Rooms.{AreFilledBy}
 use Rattle.tb_release.specs.declared.draft.Draft.{Draft}
 use Rattle.tb_release.specs.declared.edits.Edit.{Edit}
 use Rattle.tb_release.specs.declared.edits.Edit.TheVariants.{Add, Drop, Amend}
 use Rattle.tb_release.specs.declared.edits.Change.{Change}
 use Rattle.tb_release.specs.declared.fault.EditFaultKind.{EditFaultKind}
 use Rattle.tb_release.specs.declared.limits.TheConstants.{MOST_EDITS, MOST_RELEASES, MOST_CHANGES}
-use Rattle.tb_release.specs.Releases.{IsSound, release_view}
-use Rattle.tb_release.specs.Edits.{edited, edited_all, record_of}
+use Rattle.tb_release.specs.Releases.{IsKept, IsSound, registered}
+use Rattle.tb_release.specs.Edits.{edited, edited_all, person_of}
 use Rattle.tb_release.specs.Possible.{refusal, first_refusal}
-use Rattle.tb_release.specs.Batches.{BatchValue, Follows, person_of, change_of, changes_of, batch_refusal}
+use Rattle.tb_release.specs.Batches.{BatchValue, Follows, change_of, changes_of, batch_refusal}
 use Rattle.tb_release.specs.Chains.{after_batch}
 use Rattle.tb_release.specs.Laws.{EditFits}
 use Rattle.tb_release.specs.Results.{IsNext, ChangeFits}
-use Rattle.tb_release.specs.Drafts.{AreMade, AreNamed, ArePlaced, CanSet, HaveVariables, IsDraftOf, release_of}
-use Rattle.tb_release.specs.Slots.{closed_up}
+use Rattle.tb_release.specs.Drafts.{AreMade, CanSet, HaveVariables, IsDraft, IsDraftOf, release_of}
 use Rattle.tb_release.proofs.Chained.{can_follow, batches_lead_on, length-changes_of}
 use Rattle.tb_release.proofs.Fitting.{fit_after, stay_fitting}
-use Rattle.tb_release.proofs.Places.{closed_up-full}
 
--- ---- the beginning: a copy of a release
-pub draft_of : (draft : Draft) (release : ReleaseValue) (edits : List Edit) (records : List Record) → records ≡ release.records → draft.slots ≡ map Some records
-    → ArePlaced draft.places (map Some records) → AreNamed draft.places edits → release ≡ release_view release.records draft.left.entries release.number release.changes
-    → draft.living ≡ length records → draft.number ≡ release.number → draft.changes ≡ release.changes → IsSound release
-    → IsDraftOf release edits draft
-draft_of draft release edits records is slots placed named left living number changes sound =
-    let closed : closed_up draft.slots ≡ records = ap closed_up slots ∙ closed_up-full records in
-    let same : release_of draft ≡ release = rw (closed, is, number, changes) (sym left) in record {
+-- ---- the beginning and the end of a draft
+pub draft_of : (draft : Draft) (release : ReleaseValue) → release ≡ registered draft.register release.number release.changes → IsKept draft.register release.number release.changes
+    → draft.number ≡ release.number → draft.changes ≡ release.changes → draft.made ≡ 0 → release.number < MOST_RELEASES → IsDraftOf release draft
+draft_of draft release is kept number changes none more =
+    let same : release_of draft ≡ release = rw (number, changes) (sym is) in record {
       whole = record {
-        placed = subst (ArePlaced draft.places) (sym slots) placed;
-        living = living ∙ sym (ap length closed);
-        sound = subst IsSound (sym same) sound;
+        whole = kept.whole;
+        sound = subst IsSound (sym same) (subst IsSound (sym is) kept.sound);
+        room =
+            let adds : MOST_PERSONS + release.changes ≡ MOST_PERSONS + (draft.changes + draft.made) = omega (arith, changes, none) in
+            subst (AreFilledBy draft.register.pages) adds kept.room;
+        number = omega (arith, number, more);
       };
-      named = named;
       same = same;
+      none = none;
     }
+
+pub draft_kept : (draft : Draft) → IsDraft draft → draft.changes + draft.made ≤ MOST_CHANGES → IsKept draft.register (draft.number + 1) (draft.changes + draft.made)
+draft_kept draft d few = record {
+  whole = d.whole;
+  sound = record { distinct = d.sound.distinct; in_book = d.sound.in_book; few = d.sound.few; in_pages = d.sound.in_pages };
+  room = d.room;
+  few = few;
+}
 
 -- ---- the loop
 pub left_at : {X : Type 0} (xs : List X) (i : ℕ) (x : X) → i < length xs → x ≡ get_or xs i x → drop i xs ≡ x ∷ drop (i + 1) xs
@@ -52,10 +61,6 @@ left_at xs i x within here = drop_more xs i x within ∙ ap (λ y. y ∷ drop (i
 pub step_possible : (number : ℕ) (release next : ReleaseValue) (e : Edit) (es : List Edit) → refusal release e ≡ None → next ≡ edited release e
     → first_refusal (number + 1) next es ≡ first_refusal number release (e ∷ es)
 step_possible number release next e es can is = rw (can, is) refl
-
-pub step_refused : (number : ℕ) (release : ReleaseValue) (e : Edit) (es : List Edit) (why : EditFaultKind) → refusal release e ≡ Some why
-    → first_refusal number release (e ∷ es) ≡ Some (why, number)
-step_refused number release e es why is = rw is refl
 
 pub step_changes : (changes : List Change) (change : Change) (release next : ReleaseValue) (e : Edit) (es : List Edit) → next ≡ edited release e → change ≡ change_of release e
     → (changes ++ change ∷ []) ++ changes_of next es ≡ changes ++ changes_of release (e ∷ es)

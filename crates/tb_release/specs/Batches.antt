@@ -5,20 +5,14 @@ use Rattle.std.specs.Coded.{Coded, code_by, coded×, coded_ℕ, coded_list, code
 use Rattle.tb_base.specs.declared.records.Record.{Record}
 use Rattle.tb_base.specs.Records.{record_code}
 use Rattle.tb_model.specs.Releases.{ReleaseValue}
+use Rattle.tb_pages.specs.Pages.{record_of}
 use Rattle.tb_release.specs.declared.edits.Edit.{Edit}
-use Rattle.tb_release.specs.declared.edits.Edit.TheVariants.{Add, Drop, Amend}
 use Rattle.tb_release.specs.declared.edits.Change.{Change}
 use Rattle.tb_release.specs.declared.fault.EditFaultKind.{EditFaultKind}
 use Rattle.tb_release.specs.declared.fault.EditFaultKind.TheVariants as kind
 use Rattle.tb_release.specs.declared.limits.TheConstants.{MOST_EDITS, MOST_RELEASES, MOST_CHANGES}
-use Rattle.tb_release.specs.Edits.{record_of, edited, edited_all}
+use Rattle.tb_release.specs.Edits.{person_of, edited, edited_all}
 use Rattle.tb_release.specs.Possible.{ArePossible, first_refusal}
-
--- the person of an edit
-abbrev pub person_of : Edit → ℕ
-person_of (Add person key codes) = person
-person_of (Drop person) = person
-person_of (Amend person sets) = person
 
 -- the change of an edit: the person, with the record before it and the record after it
 abbrev pub change_of : ReleaseValue → Edit → Change

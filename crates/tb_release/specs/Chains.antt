@@ -3,10 +3,9 @@ use Rattle.std.specs.Prelude.{ℕ, ◌+◌, not, if◌then◌else◌, List, [], 
 use Rattle.std.specs.Prelude.{map, filter, fold, length, sum_by, Option, Some, None}
 use Rattle.std.specs.FinMap as finmap
 use Rattle.tb_base.specs.declared.records.Record.{Record}
-use Rattle.tb_model.specs.Releases.{ReleaseValue}
+use Rattle.tb_model.specs.Releases.{KeyBook, ReleaseValue}
+use Rattle.tb_pages.specs.Pages.{changed_pages, is_of}
 use Rattle.tb_release.specs.declared.edits.Change.{Change}
-use Rattle.tb_release.specs.Releases.{KeyBook}
-use Rattle.tb_release.specs.Edits.{is_of}
 use Rattle.tb_release.specs.Batches.{BatchValue, Follows}
 
 -- the records with a person's record before a change replaced by the one after it
@@ -23,11 +22,15 @@ changed_book book person None (Some new) = finmap.insert book person new.key
 changed_book book person None None = book
 changed_book book person (Some old) after = book
 
--- the release after a change
+-- the release after a change; the page that it touches has the number of the next release as its
+-- stamp
 abbrev pub changed : ReleaseValue → Change → ReleaseValue
 changed release change =
     record release {
       records = changed_records release.records change.person change.before change.after;
+      pages =
+          changed_pages (release.number + 1) release.pages change.person change.before
+          change.after;
       key_book = changed_book release.key_book change.person change.before change.after;
     }
 

@@ -1,20 +1,19 @@
 -- Edits, and what they leave.
-use Rattle.std.specs.Prelude.{ℕ, ◌==◌, Bool, not, if◌then◌else◌, List, [], ◌∷◌, ◌++◌}
-use Rattle.std.specs.Prelude.{map, filter, fold, find, slice_set, Option}
+use Rattle.std.specs.Prelude.{ℕ, ◌+◌, not, if◌then◌else◌, List, ◌∷◌, ◌++◌, []}
+use Rattle.std.specs.Prelude.{map, filter, fold, slice_set}
 use Rattle.std.specs.FinMap as finmap
 use Rattle.tb_base.specs.declared.records.Record.{Record}
-use Rattle.tb_model.specs.Releases.{ReleaseValue}
+use Rattle.tb_model.specs.Pages.{PageValue}
+use Rattle.tb_model.specs.Releases.{KeyBook, ReleaseValue}
+use Rattle.tb_pages.specs.Pages.{changed_pages, is_of, record_of}
 use Rattle.tb_release.specs.declared.edits.Edit.{Edit}
 use Rattle.tb_release.specs.declared.edits.Edit.TheVariants.{Add, Drop, Amend}
-use Rattle.tb_release.specs.Releases.{KeyBook}
 
--- whether a record is a person's
-abbrev pub is_of : ℕ → Record → Bool
-is_of person r = person == r.person
-
--- a person's record, if there is one
-abbrev pub record_of : List Record → ℕ → Option Record
-record_of records person = find (is_of person) records
+-- the person of an edit
+abbrev pub person_of : Edit → ℕ
+person_of (Add person key codes) = person
+person_of (Drop person) = person
+person_of (Amend person sets) = person
 
 -- a record with the settings made in their order
 abbrev pub amended : List (ℕ × ℕ) → Record → Record
@@ -35,11 +34,20 @@ edited_book book (Add person key codes) = finmap.insert book person key
 edited_book book (Drop person) = book
 edited_book book (Amend person sets) = book
 
+-- the pages that an edit leaves: its person's record before it is replaced by the one after it, and
+-- the page where that is has the number of the next release as its stamp
+abbrev pub edited_pages : ReleaseValue → Edit → List PageValue
+edited_pages release edit =
+    let person = person_of edit in
+    changed_pages (release.number + 1) release.pages person (record_of release.records person)
+    (record_of (edited_records release.records edit) person)
+
 -- the release that an edit leaves
 abbrev pub edited : ReleaseValue → Edit → ReleaseValue
 edited release edit =
     record release {
       records = edited_records release.records edit;
+      pages = edited_pages release edit;
       key_book = edited_book release.key_book edit;
     }
 

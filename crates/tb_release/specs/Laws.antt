@@ -1,14 +1,18 @@
 -- Laws of edits, batches and chains.
 use Rattle.std.specs.Prelude.{◌≡◌, ◌<◌, ◌≤◌, ◌↔◌, ℕ, ◌+◌, List, [], ◌∷◌, ◌++◌, length}
-use Rattle.std.specs.Prelude.{slice_index, true, All, Some, None}
+use Rattle.std.specs.Prelude.{slice_index, slice_index_or, take, true, All, Some, None}
 use Rattle.std.specs.List.{AllByRecursion}
 use Rattle.std.specs.FinMap as finmap
+use Rattle.tb_base.specs.declared.records.Record.{Record}
 use Rattle.tb_base.specs.Records.{Fits, AllFit}
-use Rattle.tb_model.specs.Releases.{ReleaseValue}
+use Rattle.tb_model.specs.Releases.{KeyBook, ReleaseValue, first_release}
+use Rattle.tb_model.specs.Setups.{SetupValue}
+use Rattle.tb_pages.specs.Pages.{no_page}
+use Rattle.tb_pages.specs.Stamps.{KeepsPages}
 use Rattle.tb_release.specs.declared.edits.Edit.{Edit}
 use Rattle.tb_release.specs.declared.edits.Edit.TheVariants.{Add, Drop, Amend}
 use Rattle.tb_release.specs.declared.limits.TheConstants.{MOST_EDITS}
-use Rattle.tb_release.specs.Releases.{KeyBook, IsSound}
+use Rattle.tb_release.specs.Releases.{IsSound}
 use Rattle.tb_release.specs.Edits.{edited_all}
 use Rattle.tb_release.specs.Possible.{ArePossible}
 use Rattle.tb_release.specs.Batches.{BatchValue, CanFollow, Follows, batch_of, batch_refusal}
@@ -90,3 +94,22 @@ abbrev pub ChainsSplit : Type 0
 ChainsSplit =
     (release : ReleaseValue) (first rest : List BatchValue) → IsChain release (first ++ rest)
     → IsChain release first × IsChain (release_after release first) rest
+
+-- after a batch each page has the next release's number as its stamp, or is as it was
+abbrev pub BatchesKeepPages : Type 0
+BatchesKeepPages =
+    (release : ReleaseValue) (batch : BatchValue)
+    → KeepsPages (release.number + 1) release.pages (after_batch release batch).pages
+
+-- page i of the release after a chain is page i of the release after so many of its first batches
+-- as the page's stamp says
+abbrev pub StampsTell : Type 0
+StampsTell =
+    (setup : SetupValue) (people : List Record) (chain : List BatchValue) (i : ℕ)
+    → let base = first_release setup people in
+    let last = release_after base chain in
+    let stamp = (slice_index_or last.pages i no_page).stamp in
+    i < length last.pages
+    → (stamp ≤ length chain)
+    × (slice_index_or last.pages i no_page
+    ≡ slice_index_or (release_after base (take stamp chain)).pages i no_page)

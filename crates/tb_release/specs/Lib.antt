@@ -7,5 +7,4 @@ pub mod Fitting
 pub mod Laws
 pub mod FaultNames
 pub mod Results
-pub mod Slots
 pub mod Drafts

@@ -5,12 +5,11 @@ use Rattle.std.specs.Option.{option_map_or}
 use Rattle.std.specs.FinMap as finmap
 use Rattle.tb_base.specs.declared.people.TheConstants.{MOST_PERSONS}
 use Rattle.tb_base.specs.Persons.{has_person}
-use Rattle.tb_model.specs.Releases.{ReleaseValue}
+use Rattle.tb_model.specs.Releases.{KeyBook, ReleaseValue}
 use Rattle.tb_release.specs.declared.edits.Edit.{Edit}
 use Rattle.tb_release.specs.declared.edits.Edit.TheVariants.{Add, Drop, Amend}
 use Rattle.tb_release.specs.declared.fault.EditFaultKind.{EditFaultKind}
 use Rattle.tb_release.specs.declared.fault.EditFaultKind.TheVariants as kind
-use Rattle.tb_release.specs.Releases.{KeyBook}
 use Rattle.tb_release.specs.Edits.{edited}
 
 -- whether a key book has another key for a person

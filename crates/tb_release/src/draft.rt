@@ -1,60 +1,49 @@
 // A release while it is edited.
 
-ghost use Rattle.std.specs.Prelude.{◌≡◌, ◌+◌, ◌<◌, ◌≤◌, [], true, All, IfOk, IfErr, length};
-ghost use Rattle.std.specs.Option.{ForSome};
+ghost use Rattle.std.specs.Prelude.{◌≡◌, ◌+◌, ◌==◌, ◌<◌, ◌≤◌, [], true, false, not, All, IfOk, IfErr};
+ghost use Rattle.std.specs.Prelude.{length};
+ghost use Rattle.std.specs.Option.{ForSome, option_map_or};
 ghost use Rattle.tb_base.specs.Persons.{has_person};
 ghost use Rattle.tb_base.specs.Records.{AllFit};
+ghost use Rattle.tb_pages.specs.Pages.{record_of};
 ghost use Rattle.tb_release.specs.declared.edits.Edit.TheVariants as edits;
 ghost use Rattle.tb_release.specs.declared.limits.TheConstants.{MOST_CHANGES, MOST_EDITS};
 ghost use Rattle.tb_release.specs.declared.limits.TheConstants.{MOST_RELEASES};
-ghost use Rattle.tb_release.specs.Batches.{person_of};
-ghost use Rattle.tb_release.specs.Drafts.{AreMade, AreNamed, CanSet, HaveVariables, IsDraft};
-ghost use Rattle.tb_release.specs.Drafts.{IsDraftOf, IsMade, IsNamed, release_of};
-ghost use Rattle.tb_release.specs.Edits.{record_of};
+ghost use Rattle.tb_release.specs.Drafts.{AreMade, CanSet, HaveVariables, IsDraft, IsDraftOf, IsMade};
+ghost use Rattle.tb_release.specs.Drafts.{release_of};
 ghost use Rattle.tb_release.specs.Laws.{EditFits};
 ghost use Rattle.tb_release.specs.Possible.{CanAdd, IsPossible, first_refusal, refusal};
 ghost use Rattle.tb_release.specs.Results.{IsWhy};
-ghost use Rattle.tb_release.specs.Slots.{place_of};
 
 use crate::edits::{Change, Edit, Sets};
 use crate::fault::{EditFault, EditFaultKind};
-use crate::parts::{amended_record, has_other_key, persons_of, places_of};
+use crate::parts::amended_record;
 use crate::release::Release;
-use crate::slots::Slots;
 use std::alloc::Global;
-use std::collections::{BTreeMap, HashMap};
 use tb_base::{Codes, MOST_PERSONS, Memory, Record, Shape};
+use tb_pages::Register;
 
-/// A copy of a release, while it is edited. A record that is dropped leaves its slot empty, and the
-/// slots close up once, at the end. Of persons, the map of places has those alone whom edits name.
+/// A release while it is edited. Its pages and shards are those of the old one until an edit
+/// touches them: then a copy is made, once for all its edits.
 #[derive(Drop)]
 pub(crate) struct Draft {
-    slots: Slots,
-    places: HashMap<u32, Option<usize>>,
-    left: BTreeMap<u32, u8>,
-    living: usize,
+    register: Register,
     number: u32,
     changes: u32,
+    made: usize,
 }
 
 impl Draft {
-    /// A copy of a release, in which the persons of these edits are looked up.
-    pub(crate) fn of(alloc: Global, old: &Release, edits: &[Edit]) -> Result<Draft, Memory>
-        requires { length edits.now ≤ MOST_EDITS }
-        ensures { IfOk result (λ draft. IsDraftOf old.now edits.now draft) }
+    /// A release with no edit made so far.
+    pub(crate) fn of(alloc: Global, old: &Release) -> Result<Draft, Memory>
+        requires { old.now.number < MOST_RELEASES }
+        ensures { IfOk result (λ draft. IsDraftOf old.now draft) }
     {
-        let records = old.records();
-        let persons = persons_of(alloc, edits)?;
-        let places = places_of(persons, records)?;
-        let slots = Slots::of(alloc, records, records.len() + edits.len())?;
-        let left = old.copy_left()?;
         Ok(Draft {
-            slots,
-            places,
-            left,
-            living: records.len(),
+            register: old.share(alloc)?,
             number: old.number(),
             changes: old.changes(),
+            made: 0,
         })
     }
 
@@ -67,8 +56,8 @@ impl Draft {
         edits: &[Edit],
     ) -> Result<Vec<Change>, EditFault>
         requires draft { IsDraft self.old }
-        requires named { AreNamed self.old.places edits.now }
         requires few { length edits.now ≤ MOST_EDITS }
+        requires room { self.old.changes + (self.old.made + length edits.now) ≤ MOST_CHANGES }
         requires fit { AllFit shape.now (release_of self.old).records }
         requires edits_fit { All (EditFits shape.now) edits.now }
         ensures made { IfOk result
@@ -87,44 +76,28 @@ impl Draft {
         Ok(changes)
     }
 
-    /// The next release, where so many edits were made.
-    pub(crate) fn finish(self, made: usize) -> Release
+    /// The next release.
+    pub(crate) fn finish(self, alloc: Global) -> Result<Release, Memory>
         requires draft { IsDraft self }
-        requires number { self.number < MOST_RELEASES }
-        requires changes { self.changes + made ≤ MOST_CHANGES }
-        ensures { result ≡ record (release_of self) {
+        requires changes { self.changes + self.made ≤ MOST_CHANGES }
+        ensures { IfOk result (λ next. next ≡ record (release_of self) {
           number = self.number + 1;
-          changes = self.changes + made;
-        } }
+          changes = self.changes + self.made;
+        }) }
     {
         let Draft {
-            slots,
-            places: _,
-            left,
-            living: _,
+            register,
             number,
             changes,
+            made,
         } = self;
-        let records = slots.close_up();
-        Release::of(records, left, number + 1, changes + made as u32)
-    }
-
-    // The place of a person's slot.
-    fn find(&self, person: u32) -> Option<usize>
-        requires draft { IsDraft self.now }
-        requires named { IsNamed self.now.places person }
-        ensures { result ≡ place_of self.now.slots person }
-    {
-        match self.places.get(&person) {
-            Some(place) => *place,
-            None => None,
-        }
+        let next = Release::of(alloc, register, number + 1, changes + made as u32)?;
+        Ok(next)
     }
 
     // Why an edit isn't possible, if it isn't.
     fn refusal(&self, edit: &Edit) -> Option<EditFaultKind>
-        requires draft { IsDraft self.now }
-        requires named { IsNamed self.now.places (person_of edit.now) }
+        requires { IsDraft self.now }
         ensures { result ≡ refusal (release_of self.now) edit.now }
     {
         match edit {
@@ -139,67 +112,62 @@ impl Draft {
     }
 
     fn refusal_of_add(&self, person: u32, key: u8) -> Option<EditFaultKind>
-        requires draft { IsDraft self.now }
-        requires named { IsNamed self.now.places person }
+        requires { IsDraft self.now }
         ensures { result ≡ refusal (release_of self.now) (edits.Add person key []) }
     {
-        if self.find(person).is_some() {
+        if self.register.has(person) {
             return Some(EditFaultKind::PersonThere);
         }
-        if has_other_key(&self.left, person, key) {
+        if is_other(self.register.key_of(person), key) {
             return Some(EditFaultKind::KeyChanged);
         }
-        if self.living >= MOST_PERSONS {
+        if self.register.living >= MOST_PERSONS {
             return Some(EditFaultKind::TooMany);
         }
         None
     }
 
     fn refusal_of_absent(&self, person: u32) -> Option<EditFaultKind>
-        requires draft { IsDraft self.now }
-        requires named { IsNamed self.now.places person }
+        requires { IsDraft self.now }
         ensures { result ≡ refusal (release_of self.now) (edits.Drop person) }
     {
-        match self.find(person) {
-            Some(_) => None,
-            None => Some(EditFaultKind::NoSuchPerson),
+        if self.register.has(person) {
+            return None;
         }
+        Some(EditFaultKind::NoSuchPerson)
     }
 
     // Makes an edit that is possible, and returns its change.
     fn make(&mut self, alloc: Global, edit: &Edit) -> Result<Change, Memory>
         requires draft { IsDraft self.old }
-        requires named { IsNamed self.old.places (person_of edit.now) }
+        requires room { self.old.changes + self.old.made < MOST_CHANGES }
         requires possible { IsPossible (release_of self.old) edit.now }
         requires can_set { CanSet (release_of self.old) edit.now }
         ensures { IfOk result (λ change. IsMade edit.now self.old self.new change) }
     {
         match edit {
-            Edit::Add { person, key, codes } => self.add(*person, *key, codes),
-            Edit::Drop { person } => self.take_out(*person),
+            Edit::Add { person, key, codes } => self.add(alloc, *person, *key, codes),
+            Edit::Drop { person } => self.take_out(alloc, *person),
             Edit::Amend { person, sets } => self.amend(alloc, *person, sets),
         }
     }
 
     // Puts a person's record last.
-    fn add(&mut self, person: u32, key: u8, codes: &Codes) -> Result<Change, Memory>
+    fn add(&mut self, alloc: Global, person: u32, key: u8, codes: &Codes) -> Result<Change, Memory>
         requires draft { IsDraft self.old }
-        requires named { IsNamed self.old.places person }
+        requires room { self.old.changes + self.old.made < MOST_CHANGES }
         requires possible { CanAdd (release_of self.old) person key }
         ensures { IfOk result
             (λ change. IsMade (edits.Add person key codes.now) self.old self.new change) }
     {
-        let place = self.slots.len();
         let kept = Record {
             person,
             key,
             codes: codes.copy()?,
         };
         let after = kept.copy()?;
-        self.slots.push(kept)?;
-        self.places.insert(person, Some(place))?;
-        self.left.remove(&person);
-        self.living += 1;
+        self.register.add(alloc, self.number + 1, kept)?;
+        self.made += 1;
         Ok(Change {
             person,
             before: None,
@@ -208,20 +176,18 @@ impl Draft {
     }
 
     // Takes a person's record out, and keeps the key.
-    fn take_out(&mut self, person: u32) -> Result<Change, Memory>
+    fn take_out(&mut self, alloc: Global, person: u32) -> Result<Change, Memory>
         requires draft { IsDraft self.old }
-        requires named { IsNamed self.old.places person }
+        requires room { self.old.changes + self.old.made < MOST_CHANGES }
         requires possible { has_person (release_of self.old).records person ≡ true }
         ensures { IfOk result
             (λ change. IsMade (edits.Drop person) self.old self.new change) }
     {
-        let place = self.find(person).unwrap();
-        let one = self.slots.at(place);
-        let before = one.copy()?;
-        self.slots.take_out(place);
-        self.places.insert(person, None)?;
-        self.left.insert(person, before.key)?;
-        self.living -= 1;
+        let spot = self.register.find(person);
+        let before = self
+            .register
+            .take_out(alloc, self.number + 1, person, spot)?;
+        self.made += 1;
         Ok(Change {
             person,
             before: Some(before),
@@ -232,22 +198,33 @@ impl Draft {
     // Replaces categories in a person's record.
     fn amend(&mut self, alloc: Global, person: u32, sets: &Sets) -> Result<Change, Memory>
         requires draft { IsDraft self.old }
-        requires named { IsNamed self.old.places person }
+        requires room { self.old.changes + self.old.made < MOST_CHANGES }
         requires possible { has_person (release_of self.old).records person ≡ true }
         requires can_set { ForSome (record_of (release_of self.old).records person)
             (λ r. HaveVariables sets.now r.codes) }
         ensures { IfOk result
             (λ change. IsMade (edits.Amend person sets.now) self.old self.new change) }
     {
-        let place = self.find(person).unwrap();
-        let old = self.slots.at(place);
+        let spot = self.register.find(person);
+        let old = self.register.record(person, spot);
         let kept = amended_record(alloc, old, sets)?;
         let after = kept.copy()?;
-        let before = self.slots.replace(place, kept);
+        let before = self.register.replace(alloc, self.number + 1, spot, kept)?;
+        self.made += 1;
         Ok(Change {
             person,
             before: Some(before),
             after: Some(after),
         })
+    }
+}
+
+// Whether a key that a person has is another than this.
+fn is_other(old: Option<u8>, key: u8) -> bool
+    ensures { result ≡ option_map_or (λ old. not (old == key)) old false }
+{
+    match old {
+        Some(old) => old != key,
+        None => false,
     }
 }

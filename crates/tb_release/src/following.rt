@@ -28,8 +28,8 @@ fn refused(kind: EditFaultKind) -> EditFault
 /// They are made in their order, each on what those before it left. The first refusal is returned:
 /// `Nothing` where there is no edit; `TooMany` where the old release is the last that may be, or
 /// there would be too many changes; and else that of the first edit that isn't possible, with its
-/// number. It takes memory for the next release's records with a flag each, for the changes, and
-/// for a map of the persons that the edits name.
+/// number. It takes memory for the changes, and for a copy of each page and shard that an edit
+/// touches; the other pages and shards are the old release's.
 pub fn next(
     alloc: Global,
     shape: &Shape,
@@ -56,8 +56,8 @@ pub fn next(
     if old.number() >= MOST_RELEASES || changes > MOST_CHANGES as usize {
         return Err(refused(EditFaultKind::TooMany));
     }
-    let mut draft = Draft::of(alloc, old, list)?;
+    let mut draft = Draft::of(alloc, old)?;
     let changes = draft.make_all(alloc, shape, list)?;
-    let release = draft.finish(list.len());
+    let release = draft.finish(alloc)?;
     Ok((release, Batch::of(changes)))
 }

@@ -1,7 +1,7 @@
 //! Laws of edits, batches and chains. Each function does nothing, and its contract is a law.
 ghost use Rattle.tb_release.specs.Laws.{CanFollowUnlessRefused, StaySound, KeysStay, StayFitting};
 ghost use Rattle.tb_release.specs.Laws.{BatchesLeadOn, ChainsHold, ChainsGoOn, ChainsSplit};
-ghost use Rattle.tb_release.specs.Laws.{FitIsTold};
+ghost use Rattle.tb_release.specs.Laws.{BatchesKeepPages, FitIsTold, StampsTell};
 
 /// Edits can follow a release exactly where there is no refusal.
 pub fn edits_follow_unless_refused()
@@ -47,4 +47,14 @@ pub fn chains_go_on()
 /// The first batches of a chain are a chain, and the others are one from the release after them.
 pub fn chains_split()
     ensures { ChainsSplit }
+{}
+
+/// After a batch each page has the next release's number as its stamp, or is as it was.
+pub fn batches_keep_pages()
+    ensures { BatchesKeepPages }
+{}
+
+/// A page of the release after a chain is that page of the release whose number is its stamp.
+pub fn stamps_tell()
+    ensures { StampsTell }
 {}

@@ -24,7 +24,6 @@ pub mod laws;
 mod limits;
 mod parts;
 mod release;
-mod slots;
 
 pub use batches::{Batch, Batches};
 pub use edits::{Change, Edit, Edits, Pushed, Sets};
@@ -32,4 +31,5 @@ pub use fault::{EditFault, EditFaultKind};
 pub use fits::{edit_fits, edits_fit, record_fits, records_fit, sets_fit};
 pub use following::next;
 pub use limits::{MOST_CHANGES, MOST_EDITS, MOST_RELEASES};
-pub use release::{Lent, Release};
+pub use release::Release;
+pub use tb_pages::Lent;

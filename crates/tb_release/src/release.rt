@@ -1,98 +1,66 @@
-ghost use Rattle.std.specs.Prelude.{◌≡◌, ◌+◌, ◌<◌, ◌≤◌, [], flat_map, length, slice_index_or};
-ghost use Rattle.std.specs.Prelude.{IfOk};
+ghost use Rattle.std.specs.Prelude.{◌≡◌, ◌+◌, ◌<◌, ◌≤◌, IfOk, flat_map, length, slice_index_or};
 ghost use Rattle.tb_base.specs.declared.people.TheConstants.{MOST_PERSONS};
 ghost use Rattle.tb_model.specs.Releases.{first_release};
 ghost use Rattle.tb_model.specs.Setups.{SetupValue};
-ghost use Rattle.tb_release.specs.Releases.{IsSound, release_view};
+ghost use Rattle.tb_pages.specs.Lents.{pieces_of};
+ghost use Rattle.tb_pages.specs.Pages.{no_page};
+ghost use Rattle.tb_release.specs.Releases.{IsKept, IsSound, registered};
 
 use std::alloc::Global;
-use std::collections::BTreeMap;
 use std::marker::Model;
 use std::sync::ledger::Ledger;
 use tb_base::{Memory, People, Record, Steps, charge};
+use tb_pages::{Lent, Register, filled_places};
 
 /// A release of the microdata: its records in order, no two of one person, the key book, its
 /// number, and how many changes led to it. It has at most `MOST_PERSONS` records.
 ///
-/// A map holds the keys of those alone who left, so a release takes little more room than its
-/// records.
+/// They stand in pages, and the key book in shards, which other releases may share.
 #[derive(Drop)]
 pub struct Release {
-    records: Vec<Record>,
-    left: BTreeMap<u32, u8>,
+    register: Register,
+    filled: Vec<u16>,
     number: u32,
     changes: u32,
 }
 
 impl Model for Release {
+    ghost use Rattle.std.specs.Prelude.{◌≡◌};
     ghost use Rattle.tb_model.specs.Releases.{ReleaseValue, release_code};
-    ghost use Rattle.tb_release.specs.Releases.{IsSound, release_view};
+    ghost use Rattle.tb_pages.specs.Lents.{filled_from};
+    ghost use Rattle.tb_release.specs.Releases.{IsKept, registered};
 
     ghost Value = { ReleaseValue };
 
     ghost coded = { release_code };
 
-    ghost view = { λ r. release_view r.records.items r.left.entries r.number r.changes };
+    ghost view = { λ r. registered r.register r.number r.changes };
 
-    ghost invariant = { λ r.
-        IsSound (release_view r.records.items r.left.entries r.number r.changes) };
-}
-
-/// The records of a release, in pieces. They are all the pieces' records in order.
-#[derive(Drop)]
-pub struct Lent<'a> {
-    records: &'a [Record],
-}
-
-impl<'a> Model for Lent<'a> {
-    ghost use Rattle.std.specs.Prelude.{List, [], ◌∷◌};
-    ghost use Rattle.tb_base.specs.declared.records.Record.{Record};
-
-    ghost Value = { List (List Record) };
-
-    ghost view = { λ l. l.records.now ∷ [] };
-}
-
-impl Lent<'_> {
-    /// How many pieces there are.
-    pub fn pieces(&self) -> usize
-        ensures { result ≡ length self.now }
-    {
-        let _ = &self.records;
-        1
-    }
-
-    /// The piece at place `i`, from 0.
-    pub fn piece(&self, i: usize) -> &[Record]
-        requires { i < length self.now }
-        ensures { result.now ≡ slice_index_or self.now i [] }
-    {
-        let _ = i;
-        self.records
-    }
+    ghost invariant = { λ r. IsKept r.register r.number r.changes
+        × (r.filled.items ≡ filled_from 0 r.register.pages) };
 }
 
 impl Release {
-    /// Release 0: these records, and no change so far.
+    /// Release 0: these records, each put into the pages after the other, and no change so far. The
+    /// list of records is given up page by page, so that no second list of them all stands. It
+    /// takes memory for the key book, and a little for the pages.
     pub fn first(alloc: Global, people: People) -> Result<Release, Memory>
         requires few { length people ≤ MOST_PERSONS }
         ensures { IfOk result
             (λ release. (setup : SetupValue) → release ≡ first_release setup people) }
     {
-        Ok(Release {
-            records: people.into_list(),
-            left: BTreeMap::new(alloc),
-            number: 0,
-            changes: 0,
-        })
+        let register = Register::of(alloc, people.into_list())?;
+        let first = Release::of(alloc, register, 0, 0)?;
+        Ok(first)
     }
 
-    /// What is true of every release: distinct persons, each record's key in the key book, and at
-    /// most `MOST_PERSONS` records. It does nothing, and lets a caller's proof know this.
+    /// What is true of every release: distinct persons, each record's key in the key book, at most
+    /// `MOST_PERSONS` records, and that they are those of its pages in order. It does nothing, and
+    /// lets a caller's proof know this.
     pub fn soundness(&self)
         ensures { IsSound self.now }
     {
-        let _ = &self.records;
+        let _ = &self.register;
     }
 
     /// Its number: 0 for the microdata, and 1 more with each batch.
@@ -106,7 +74,7 @@ impl Release {
     pub fn len(&self) -> usize
         ensures { result ≡ length self.now.records }
     {
-        self.records.len()
+        self.register.living
     }
 
     /// How many changes led to it.
@@ -116,48 +84,66 @@ impl Release {
         self.changes
     }
 
+    /// How many pages there are, also those that became empty.
+    pub fn pages(&self) -> usize
+        ensures { result ≡ length self.now.pages }
+    {
+        self.register.pages.len()
+    }
+
+    /// How many records page `i` has, from 0.
+    pub fn page(&self, i: usize) -> usize
+        requires { i < length self.now.pages }
+        ensures { result ≡ length (slice_index_or self.now.pages i no_page).records }
+    {
+        self.register.pages.page(i).len()
+    }
+
+    /// The stamp of page `i`, from 0: the number of the release that last changed it.
+    pub fn stamp(&self, i: usize) -> u32
+        requires { i < length self.now.pages }
+        ensures { result ≡ (slice_index_or self.now.pages i no_page).stamp }
+    {
+        self.register.pages.stamp(i)
+    }
+
     // A release of these parts.
     pub(crate) fn of(
-        records: Vec<Record>,
-        left: BTreeMap<u32, u8>,
+        alloc: Global,
+        register: Register,
         number: u32,
         changes: u32,
-    ) -> Release
-        requires { IsSound (release_view records.items left.entries number changes) }
-        ensures { result ≡ release_view records.items left.entries number changes }
+    ) -> Result<Release, Memory>
+        requires { IsKept register number changes }
+        ensures { IfOk result (λ release. release ≡ registered register number changes) }
     {
-        Release {
-            records,
-            left,
+        let filled = filled_places(alloc, &register.pages)?;
+        Ok(Release {
+            register,
+            filled,
             number,
             changes,
-        }
+        })
     }
 
-    // The records, which are lent to `next` alone without a charge.
-    pub(crate) fn records(&self) -> &[Record]
-        ensures records { result.now ≡ self.now.records }
-        ensures sound { IsSound self.now }
+    // Its pages and its key book, shared.
+    pub(crate) fn share(&self, alloc: Global) -> Result<Register, Memory>
+        ensures same { IfOk result (λ register. self.now
+            ≡ registered register self.now.number self.now.changes) }
+        ensures kept { IfOk result (λ register. IsKept register self.now.number self.now.changes) }
     {
-        self.records.as_slice()
+        let register = self.register.share(alloc)?;
+        Ok(register)
     }
 
-    // The keys of those who left.
-    pub(crate) fn copy_left(&self) -> Result<BTreeMap<u32, u8>, Memory>
-        ensures { IfOk result (λ left. self.now
-            ≡ release_view self.now.records left.entries self.now.number self.now.changes) }
-    {
-        Ok(self.left.clone()?)
-    }
-
-    /// The records, in pieces. The counter rises by how many records there are.
+    /// The records, in pieces: the pages that aren't empty. The counter rises by how many records
+    /// there are. It takes no memory.
     pub fn lend<L: Ledger>(&self, steps: &mut Steps<L>) -> Lent<'_>
         ensures records { flat_map (λ piece. piece) result ≡ self.now.records }
         ensures charge { steps.new ≡ steps.old + length self.now.records }
+        ensures pieces { result ≡ pieces_of self.now.pages }
     {
-        charge(self.records.len() as u32, steps);
-        Lent {
-            records: self.records.as_slice(),
-        }
+        charge(self.register.living as u32, steps);
+        Lent::of(&self.register.pages, &self.filled)
     }
 }

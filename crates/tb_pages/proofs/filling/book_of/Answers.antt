@@ -2,7 +2,7 @@ use Rattle.std.proofs.Common.{◌≡◌, take, List, sym, subst, arith}
 use Rattle.std.proofs.lemmas.List.{take_all}
 use Rattle.tb_base.specs.declared.records.Record.{Record}
 use Rattle.tb_pages.specs.Books.{Book}
-use Rattle.tb_pages.specs.Pages.{cut}
+use Rattle.tb_model.specs.Pages.{cut}
 use Rattle.tb_pages.specs.Fillings.{AreFilled}
 use Rattle.tb_pages.proofs.Filled.{one_filled, new_at, none_filled, none_yet}
 use Rattle.tb_pages.proofs.filling.book_of.Goals as goal

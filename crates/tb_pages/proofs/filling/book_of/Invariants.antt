@@ -1,5 +1,5 @@
 use Rattle.std.proofs.Common.{take}
-use Rattle.tb_pages.specs.Pages.{cut}
+use Rattle.tb_model.specs.Pages.{cut}
 use Rattle.tb_pages.specs.Fillings.{AreFilled}
 use Rattle.tb_pages.proofs.filling.book_of.Given as goal
 

@@ -1,6 +1,6 @@
 use Rattle.std.proofs.Common.{◌-◌, ◌*◌, ◌/◌, ap, ◌∙◌, arith}
 use Rattle.std.specs.Arc.{arc_value}
-use Rattle.tb_pages.specs.declared.page.TheConstants.{PAGE_ROOM}
+use Rattle.tb_model.specs.declared.rooms.TheConstants.{PAGE_ROOM}
 use Rattle.tb_pages.proofs.CutLemmas.{one_more_cut, all_cut}
 use Rattle.tb_pages.proofs.pages.Pages.of.Goals as goal
 

@@ -1,6 +1,6 @@
 use Rattle.std.proofs.Common.{◌≡◌, ◌++◌, map, reverse, vec_len}
 use Rattle.std.specs.Arc.{arc_value}
-use Rattle.tb_pages.specs.Pages.{cut}
+use Rattle.tb_model.specs.Pages.{cut}
 use Rattle.tb_pages.proofs.pages.Pages.of.Given as goal
 
 -- the pages that were cut off so far, in reverse, and those of the rest

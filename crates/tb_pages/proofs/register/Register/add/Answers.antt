@@ -1,7 +1,7 @@
 use Rattle.std.proofs.Common.{arith, ◌+◌, ◌<◌, ◌≤◌, length, refl, sym, subst, List}
 use Rattle.tb_pages.specs.declared.register.Register.{Register}
 use Rattle.tb_pages.specs.declared.pages.TheConstants.{PAGES}
-use Rattle.tb_pages.specs.Pages.{PageValue}
+use Rattle.tb_model.specs.Pages.{PageValue}
 use Rattle.tb_pages.proofs.PageFinds.{grown}
 use Rattle.tb_pages.proofs.RoomLemmas.{one_page_more}
 use Rattle.tb_pages.proofs.Changed.{add_made}

@@ -1,7 +1,8 @@
 use Rattle.std.proofs.Common.{sym, ap, ◌∙◌}
 use Rattle.std.specs.Prelude.{is_some}
 use Rattle.tb_base.specs.Persons.{has_person}
-use Rattle.tb_pages.specs.Pages.{PageValue, no_page}
+use Rattle.tb_model.specs.Pages.{PageValue}
+use Rattle.tb_pages.specs.Pages.{no_page}
 use Rattle.tb_pages.proofs.PageFinds.{has_page, page_at}
 use Rattle.tb_pages.proofs.register.Register.find.Goals as goal
 

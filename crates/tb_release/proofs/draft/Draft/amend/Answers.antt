@@ -1,33 +1,20 @@
-use Rattle.std.proofs.Common.{None, refl, sym, ap, ◌∙◌}
-use Rattle.std.specs.Prelude.{is_some}
+use Rattle.std.proofs.Common.{◌≡◌, ◌+◌, refl, sym, subst, ℕ}
+use Rattle.tb_pages.specs.Registers.{IsSpot}
 use Rattle.tb_release.specs.declared.draft.Draft.{Draft}
-use Rattle.tb_release.proofs.Made.{amend_made, found_there, slot_record}
-use Rattle.tb_release.proofs.SlotLemmas.{get_slot, slot_at}
+use Rattle.tb_release.proofs.Made.{amend_made, amended_own}
 use Rattle.tb_release.proofs.draft.Draft.amend.Goals as goal
 
-pub unwrap-place-requires : goal.unwrap-place-requires
-unwrap-place-requires c = found_there c.args.self.now c.args.person c.find.result c.find.ensures c.requires.possible
-
-pub at-old-requires : goal.at-old-requires
-at-old-requires c = ap is_some (get_slot (slot_at c.args.person c.args.self.now.slots c.unwrap-place.result (sym c.find.ensures ∙ c.unwrap-place.ensures)) None)
-
 pub amended_record-requires : goal.amended_record-requires
-amended_record-requires c = c.requires.can_set c.at-old.result.now
-    (slot_record c.args.self.now c.args.person c.unwrap-place.result None c.at-old.result.now c.requires.draft (sym c.find.ensures ∙ c.unwrap-place.ensures) c.at-old.ensures)
+amended_record-requires c = c.requires.can_set c.record-old.result.now c.record-old.ensures
 
-pub replace-before-requires : goal.replace-before-requires
-replace-before-requires c = ap is_some (get_slot (slot_at c.args.person c.args.self.now.slots c.unwrap-place.result (sym c.find.ensures ∙ c.unwrap-place.ensures)) None)
+pub replace-requires-clause-spot : goal.replace-requires-clause-spot
+replace-requires-clause-spot c =
+    let own : c.in_ok-kept.kept.person ≡ c.args.person =
+    amended_own c.args.self.now c.args.person c.args.sets.now c.record-old.result.now c.in_ok-kept.kept c.requires.draft c.record-old.ensures c.in_ok-kept.ensures in
+    subst (λ (q : ℕ). IsSpot c.args.self.now.register.pages q c.find-spot.result) (sym own) c.find-spot.ensures
 
 pub returns : goal.returns
 returns c =
-    let new : Draft = record {
-      slots = c.replace-before.new.self;
-      places = c.args.self.now.places;
-      left = c.args.self.now.left;
-      living = c.args.self.now.living;
-      number = c.args.self.now.number;
-      changes = c.args.self.now.changes;
-    } in
-    amend_made c.args.self.now new c.args.person c.unwrap-place.result c.args.sets.now c.at-old.result.now c.replace-before.result c.in_ok-kept.kept c.in_ok-after.after
-    c.requires.draft (sym c.find.ensures ∙ c.unwrap-place.ensures) c.requires.possible c.at-old.ensures c.replace-before.ensures.old c.in_ok-kept.ensures c.in_ok-after.ensures
-    c.replace-before.ensures.new refl refl refl refl refl
+    let new : Draft = record { register = c.replace.new.self; number = c.args.self.now.number; changes = c.args.self.now.changes; made = c.args.self.now.made + 1 } in
+    amend_made c.args.self.now new c.args.person c.args.sets.now c.record-old.result.now c.in_ok-before.before c.in_ok-kept.kept c.in_ok-after.after
+    c.requires.draft c.requires.possible c.record-old.ensures c.in_ok-kept.ensures c.in_ok-after.ensures c.in_ok-before.ensures refl refl refl

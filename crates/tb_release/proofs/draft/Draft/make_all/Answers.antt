@@ -1,4 +1,4 @@
-use Rattle.std.proofs.Common.{◌≡◌, ap, ◌∙◌, sym, drop, ◌+◌, ◌∷◌, ◌++◌, subst}
+use Rattle.std.proofs.Common.{arith, ◌≡◌, ap, ◌∙◌, sym, drop, ◌+◌, ◌∷◌, ◌++◌, subst}
 use Rattle.tb_base.specs.Records.{AllFit}
 use Rattle.tb_model.specs.Releases.{ReleaseValue}
 use Rattle.tb_release.specs.Edits.{edited_all}
@@ -6,7 +6,6 @@ use Rattle.tb_release.specs.Possible.{first_refusal}
 use Rattle.tb_release.specs.Batches.{changes_of}
 use Rattle.tb_release.specs.Drafts.{release_of}
 use Rattle.tb_release.proofs.Fitting.{fit_after}
-use Rattle.tb_release.proofs.Places.{are_named-kept}
 use Rattle.tb_release.proofs.Runs.{can_set, step_possible, step_changes, fits_at, left_at}
 use Rattle.tb_release.proofs.draft.Draft.make_all.Goals as goal
 
@@ -24,7 +23,8 @@ loop-i-preserved c =
     let now : ReleaseValue = release_of c.loop-i.self in
     let next : ReleaseValue = release_of c.make.new.self in record {
       draft = made.whole;
-      named = are_named-kept c.loop-i.self.places c.make.new.self.places c.args.edits.now made.named c.loop-i.invariant.named;
+      so_far = ap (λ (r : ReleaseValue). r.changes) made.leaves ∙ c.loop-i.invariant.so_far;
+      count = omega (arith, made.count, c.loop-i.invariant.count);
       fit =
           subst (AllFit c.args.shape.now) (sym (ap (λ (r : ReleaseValue). r.records) made.leaves))
           (fit_after c.args.shape.now now e c.loop-i.invariant.fit (fits_at c.args.shape.now c.args.edits.now c.loop-i.i e c.requires.edits_fit c.loop-i-test.true c.index-edits-i.is));

@@ -1,19 +1,10 @@
-use Rattle.std.proofs.Common.{length, refl}
+use Rattle.std.proofs.Common.{◌≡◌, ◌+◌, refl, sym, ap, ◌∙◌, subst, arith}
+use Rattle.tb_model.specs.Releases.{ReleaseValue}
 use Rattle.tb_release.specs.declared.draft.Draft.{Draft}
-use Rattle.tb_release.proofs.Places.{are_named-kept}
 use Rattle.tb_release.proofs.Runs.{draft_of}
 use Rattle.tb_release.proofs.draft.Draft.of.Goals as goal
 
 pub returns : goal.returns
 returns c =
-    let draft : Draft = record {
-      slots = c.in_ok-slots.slots;
-      places = c.in_ok-places.places;
-      left = c.in_ok-left.left;
-      living = length c.records-records.result.now;
-      number = c.number.result;
-      changes = c.changes.result;
-    } in
-    draft_of draft c.args.old.now c.args.edits.now c.records-records.result.now c.records-records.ensures.records c.in_ok-slots.ensures c.in_ok-places.ensures.placed
-    (are_named-kept c.in_ok-persons.persons c.in_ok-places.places c.args.edits.now c.in_ok-places.ensures.named c.in_ok-persons.ensures.named)
-    c.in_ok-left.ensures refl c.number.ensures c.changes.ensures c.records-records.ensures.sound
+    let draft : Draft = record { register = c.in_ok-share.field-0; number = c.number.result; changes = c.changes.result; made = 0 } in
+    draft_of draft c.args.old.now c.in_ok-share.ensures.same c.in_ok-share.ensures.kept c.number.ensures c.changes.ensures refl c.requires
