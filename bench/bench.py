@@ -318,8 +318,8 @@ def targets(first, further, shuffled):
     yield further[LARGE, LARGEST, KEPT].row(0.8)
     for batch in batches:
         yield batch.row(1.0)
-    yield ("peak memory of the process, MiB", peak, 60)
-    yield ("the same with batches, MiB", revised, 130)
+    yield ("peak memory of the process, MiB", peak, 64)
+    yield ("the same with batches, MiB", revised, 120)
     yield (f"time at {LARGE:,} beside {SMALL:,} persons", growth, 55)
     yield ("persons in another order: time beside the plain program", shuffled.ratio(), None)
     yield ("persons in another order: peak memory, MiB", shuffled.peak[PROGRAM] / MIB, None)

@@ -78,27 +78,6 @@ records-next (p ∷ ps) (suc i) h = ap (λ rs. p ++ rs) (records-next ps i (omeg
 pub records-more : (ps : List (List Record)) (i : ℕ) → i < length ps → records_in (take (i + 1) ps) ≡ records_in (take i ps) ++ get_or ps i []
 records-more ps i h = ap (λ n. records_in (take n ps)) (add-one i) ∙ records-next ps i h
 
--- the pieces up to one, that one, and the rest
-records-around : (ps : List (List Record)) (i : ℕ) → i < length ps → (rest : List Record) × (records_in ps ≡ records_in (take i ps) ++ (get_or ps i [] ++ rest))
-records-around [] i h = absurd (omega arith)
-records-around (p ∷ ps) zero h = (records_in ps, refl)
-records-around (p ∷ ps) (suc i) h =
-    let more = records-around ps i (omega arith) in
-    (more.0, ap (λ rs. p ++ rs) more.1 ∙ sym (append_assoc p (records_in (take i ps)) (get_or ps i [] ++ more.0)))
-
--- what holds of each element of two lists in a row holds of each of the second
-All-right : {X : Type 0} (P : X → Type 0) (xs ys : List X) → All P (xs ++ ys) → All P ys
-All-right {X} P xs ys h = subst (All P) (drop-append-add xs ys 0) (All-drop P (length xs + 0) (xs ++ ys) h)
-
-All-left : {X : Type 0} (P : X → Type 0) (xs ys : List X) → All P (xs ++ ys) → All P xs
-All-left {X} P xs ys h = subst (All P) (take-append-add xs ys 0 ∙ append-nil xs) (All-take P (length xs + 0) (xs ++ ys) h)
-
--- what holds of each lent record holds of each of a piece
-pub All-piece : (P : Record → Type 0) (ps : List (List Record)) (i : ℕ) → i < length ps → All P (records_in ps) → All P (get_or ps i [])
-All-piece P ps i h all =
-    let around = records-around ps i h in
-    All-left P (get_or ps i []) around.0 (All-right P (records_in (take i ps)) (get_or ps i [] ++ around.0) (subst (All P) around.1 all))
-
 -- a cube with the records of a list merged in
 merged-more : (shape vars : List ℕ) (xs ys : List Record) → merged_with (cube_over shape vars xs) (cube_of shape vars ys) ≡ cube_over shape vars (xs ++ ys)
 merged-more shape vars xs ys =

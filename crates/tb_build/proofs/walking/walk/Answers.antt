@@ -4,7 +4,8 @@ use Rattle.tb_base.specs.Records.{Fits}
 use Rattle.tb_base.specs.declared.records.Record.{Record}
 use Rattle.std.specs.Prelude.{List}
 use Rattle.tb_cube.specs.Cubes.{CubeValue}
-use Rattle.tb_build.proofs.PartLemmas.{All-between, All-piece, records-more, room-for, walked-on}
+use Rattle.tb_delta.proofs.Pieces.{All-piece}
+use Rattle.tb_build.proofs.PartLemmas.{All-between, records-more, room-for, walked-on}
 use Rattle.std.proofs.Common.{length-append, ◌∙◌}
 use Rattle.tb_build.proofs.walking.walk.Goals as goal
 
