@@ -15,6 +15,7 @@ use Rattle.tb_cube.specs.Cubes.{CubeValue, Holds, HasRoom, cube_over, merged_wit
 use Rattle.tb_cube.proofs.Holding.{room-held, room-both}
 use Rattle.tb_model.specs.Cubes.{cube_of}
 use Rattle.tb_model.proofs.CubeLemmas.{cube_of-append}
+use Rattle.tb_delta.proofs.Pieces.{pieces-fit}
 use Rattle.tb_build.specs.Parts.{between, part_of, records_in}
 
 -- what lies between two places of two lists in a row
@@ -109,9 +110,7 @@ pub room-for : (cube : CubeValue) (shape vars : List ℕ) (ps : List (List Recor
     → All (λ (c : Cell). c.count + length (between (from - before) (to - before) piece) ≤ MOST_PERSONS) cube.cells
 room-for cube shape vars ps i before from to piece below is so_far few =
     let some : List Record = records_in (take i ps) in
-    let around = records-around ps i below in
-    let all : length (records_in ps) ≡ length some + (length (get_or ps i []) + length around.0) =
-    ap (λ (rs : List Record). length rs) around.1 ∙ length-append some (get_or ps i [] ++ around.0) ∙ ap (λ n. length some + n) (length-append (get_or ps i []) around.0) in
+    let all : length some + length (get_or ps i []) ≤ length (records_in ps) = pieces-fit ps i below in
     let here : length piece ≡ length (get_or ps i []) = ap (λ (rs : List Record). length rs) is in
     room-held cube (between from to some) (length (between (from - before) (to - before) piece)) (holds-of cube shape vars (between from to some) so_far)
     (omega (arith, all, here, few, length-between from to some, length-between (from - before) (to - before) piece))

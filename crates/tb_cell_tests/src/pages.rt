@@ -13,6 +13,7 @@ use tb_schema::Schema;
 use tb_small_values::schema;
 
 // What is done with each person from one number to another.
+#[derive(Clone, Copy)]
 enum Deed {
     Add(u32, u32),
     Drop(u32, u32),
