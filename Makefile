@@ -27,11 +27,11 @@ try:
 
 # Every example of the guide by such a run.
 try-guide:
-	python3 docs/guide.py try docs/GUIDE.md examples/small crates/tablebuilder/data
+	python3 docs/guide.py try docs/GUIDE.md examples/small
 
 # Proves what the program stands on and builds it, as crates/tablebuilder/out/tablebuilder.
 build:
-	cd crates/tablebuilder && rt run -- script data/classes.csv data/recodes.csv data/ptable.csv data/people.csv 0 data/script.txt >/dev/null
+	cd crates/tablebuilder && rt run -- gen 1 1 >/dev/null
 
 # The first tables, from the files of examples/small.
 demo: build
@@ -44,10 +44,9 @@ serve: build
 		"stop the server:      Ctrl-C"
 	cd examples/small && ../../crates/tablebuilder/out/tablebuilder serve classes.csv recodes.csv ptable.csv people.csv 0 4000 2 1000
 
-# Every example of the guide by the built program, compared with what the page has; and the program's
-# own files compared with those of examples/small.
+# Every example of the guide by the built program, compared with what the page has.
 guide: build
-	python3 docs/guide.py crates/tablebuilder/out/tablebuilder docs/GUIDE.md examples/small crates/tablebuilder/data
+	python3 docs/guide.py crates/tablebuilder/out/tablebuilder docs/GUIDE.md examples/small
 
 # The tests of each client against servers over examples/small, at free ports.
 clients: build

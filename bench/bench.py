@@ -251,6 +251,36 @@ def seconds_behind(batch, program, folder):
     return statistics.median(differences)
 
 
+def summary_of(path):
+    """The line of `gen` for replies with this text."""
+    with open(path, "rb") as file:
+        text = file.read()
+    lines, total = text.count(b"\n"), sum(text) % 2**32
+    return f"gen {LARGE} {START} lines {lines} bytes {len(text)} sum {total}\n"
+
+
+def generated(program, folder):
+    """What `gen` takes beside `script` over the same files, in runs that follow each other; its line
+    must have the numbers of what `script` prints."""
+    script, gen = f"{folder}/script.out", f"{folder}/gen.out"
+    words = {
+        gen: [program, "gen", str(LARGE), str(START)],
+        script: words_of(program, folder, f"{folder}/script.txt"),
+    }
+    seconds = {path: [] for path in words}
+    for _ in range(RUNS):
+        for path in words:
+            seconds[path].append(seconds_of(words[path], path))
+    with open(gen, encoding="ascii") as file:
+        if file.read() != summary_of(script):
+            sys.exit("bench: the line of `gen` isn't that of the replies")
+    times = " beside ".join(f"{statistics.median(seconds[path]) * 1e3:.0f} ms" for path in words)
+    what = f"`gen {LARGE} {START}` beside `script` over the same files, {times}"
+    yield (what, median_ratio(seconds[gen], seconds[script]), 1.25)
+    yield ("its peak memory, MiB", peak_of(words[gen]) / MIB, None)
+    yield ("that of `script`, MiB", peak_of(words[script]) / MIB, None)
+
+
 def spread(seconds):
     return f"{statistics.median(seconds) * 1e3:.0f} ({min(seconds) * 1e3:.0f} to {max(seconds) * 1e3:.0f})"
 
@@ -379,6 +409,9 @@ def main(program, baseline):
             batch: seconds_behind(batch, programs[PROGRAM], f"{top}/wide")
             for batch in (ONE_CHANGE, HUNDRED, MANY_CHANGES)
         }
+        os.mkdir(f"{top}/generated")
+        make_input(f"{top}/generated", LARGE, ASCENDING)
+        by_gen = list(generated(programs[PROGRAM], f"{top}/generated"))
     for one, many in zip(cases[1::2], cases[2::2]):
         further[one.persons, one.queries, one.before] = Further(one, many)
     print(f"{machine()}; median (least to most); outputs equal byte by byte\n")
@@ -389,6 +422,8 @@ def main(program, baseline):
     print_rows(kept(further, behind))
     print()
     print_rows(texts(further))
+    print()
+    print_rows(by_gen)
 
 
 if __name__ == "__main__":

@@ -1,13 +1,12 @@
 """Runs each example of docs/GUIDE.md over examples/small and compares what is printed.
 
-Usage: guide.py PROGRAM GUIDE FOLDER [SAME]
+Usage: guide.py PROGRAM GUIDE FOLDER
 
 PROGRAM is the program's file; or `try`, for the one that `rt try` builds from crates/tablebuilder
-and of which nothing is proved. FOLDER has the small files; each file of SAME must be one of them.
-An example that names a file has the lines of that file of FOLDER.
+and of which nothing is proved. FOLDER has the small files. An example that names a file has the lines
+of that file.
 """
 
-import filecmp
 import os
 import re
 import subprocess
@@ -70,12 +69,8 @@ def wrong_by_try(inputs, examples):
         return 1 if subprocess.run(words, cwd=CRATE, check=False).returncode else 0
 
 
-def unlike_files(folder, examples, same):
-    """The files of `same` that aren't those of the folder, and examples that aren't their file's."""
-    for other in same:
-        for name in sorted(os.listdir(other)):
-            if name not in filecmp.cmpfiles(folder, other, [name], False)[0]:
-                yield f"{name} of {folder} and {other}"
+def unlike_files(folder, examples):
+    """The examples that aren't their file's."""
     for example in examples:
         if example.file is not None:
             with open(os.path.join(folder, example.file), encoding="utf-8") as file:
@@ -84,9 +79,9 @@ def unlike_files(folder, examples, same):
 
 
 def main():
-    program, guide, folder, *same = sys.argv[1:]
+    program, guide, folder = sys.argv[1:]
     examples = examples_of(guide)
-    unlike = list(unlike_files(folder, examples, same))
+    unlike = list(unlike_files(folder, examples))
     for what in unlike:
         print(f"differ: {what}")
     inputs = [os.path.abspath(os.path.join(folder, name)) for name in FILES]

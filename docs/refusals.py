@@ -21,6 +21,7 @@ SCRIPT = "script classes.csv recodes.csv ptable.csv people.csv 0 script.txt"
 USAGE = """\
 usage: tablebuilder script CLASSES RECODES PTABLE PEOPLE THRESHOLD SCRIPT
        tablebuilder serve CLASSES RECODES PTABLE PEOPLE THRESHOLD PORT WORKERS SESSIONS
+       tablebuilder gen N START
 """
 SPELLED = (
     "must be a letter followed by letters, digits or `_`, 1 to 32 bytes, and none of table, by, where, and, not, in,"

@@ -9,7 +9,8 @@ use thiserror::Error;
 #[derive(Debug, Drop, Error)]
 pub enum Refusal<'a> {
     #[error("usage: tablebuilder script CLASSES RECODES PTABLE PEOPLE THRESHOLD SCRIPT\n       \
-        tablebuilder serve CLASSES RECODES PTABLE PEOPLE THRESHOLD PORT WORKERS SESSIONS")]
+        tablebuilder serve CLASSES RECODES PTABLE PEOPLE THRESHOLD PORT WORKERS SESSIONS\n       \
+        tablebuilder gen N START")]
     Usage,
     #[error("{file}: the file must have at most {most} bytes")]
     TooLong { file: &'a str, most: u64 },
@@ -49,16 +50,18 @@ fn input_named(word: &str) -> Option<Input> {
     None
 }
 
-fn inputs_of<'c, 'a>(command: &'c Command<'a>) -> &'c Inputs<'a> {
+// The inputs of a command, unless it reads none.
+fn inputs_of<'c, 'a>(command: &'c Command<'a>) -> Option<&'c Inputs<'a>> {
     match command {
-        Command::Script { inputs, script: _ } => inputs,
-        Command::Serve { inputs, service: _ } => inputs,
+        Command::Script { inputs, script: _ } => Some(inputs),
+        Command::Serve { inputs, service: _ } => Some(inputs),
+        Command::Gen { .. } => None,
     }
 }
 
 // The name that the arguments give a file.
 fn name_of<'a>(command: &Command<'a>, file: Input) -> Option<&'a str> {
-    let inputs = inputs_of(command);
+    let inputs = inputs_of(command)?;
     match file {
         Input::Classes => Some(inputs.classes.as_str()),
         Input::Recodes => Some(inputs.recodes.as_ref()?.as_str()),
@@ -66,7 +69,7 @@ fn name_of<'a>(command: &Command<'a>, file: Input) -> Option<&'a str> {
         Input::People => Some(inputs.people.as_str()),
         Input::Script => match command {
             Command::Script { inputs: _, script } => Some(script.as_str()),
-            Command::Serve { .. } => None,
+            Command::Serve { .. } | Command::Gen { .. } => None,
         },
     }
 }
@@ -119,7 +122,7 @@ impl<'a> Refusal<'a> {
                     port: service.port(),
                     workers: service.workers(),
                 }),
-                Command::Script { .. } => None,
+                Command::Script { .. } | Command::Gen { .. } => None,
             },
             Status::Schema
             | Status::Perturbation

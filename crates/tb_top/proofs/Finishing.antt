@@ -1,5 +1,5 @@
 -- What a call keeps, from how the run ended and what was taken of its text.
-use Rattle.std.proofs.Common.{◌≡◌, ◌≢◌, ◌⊎◌, ◌∙◌, sym, ap, subst, refl, ℕ, List, All, ◌++◌, take, drop, Option, Some, None, Ok, Err, inl, inr}
+use Rattle.std.proofs.Common.{◌≡◌, ◌≢◌, ◌⊎◌, ◌∙◌, sym, ap, subst, refl, ℕ, ◌+◌, ◌≤◌, List, All, ◌++◌, take, drop, Option, Some, None, Ok, Err, inl, inr}
 use Rattle.std.specs.Prelude.{IfSome}
 use Rattle.std.proofs.lemmas.List.{take-append-drop}
 use Rattle.tb_base.specs.declared.status.Status.{Status}
@@ -11,19 +11,21 @@ use Rattle.tb_top.specs.declared.endings.End.TheVariants as end
 use Rattle.tb_top.specs.declared.command.Command.{Command}
 use Rattle.tb_top.specs.declared.command.Command.TheVariants as command
 use Rattle.tb_top.specs.declared.command.Inputs.{Inputs}
-use Rattle.tb_top.specs.Asking.{AskedValue, CensusValue, Script, Serve, asked_of, asked_over, contents_at, is_service}
+use Rattle.tb_top.specs.Asking.{AskedValue, CensusValue, Gen, Script, Serve, asked_of, asked_over, contents_at, is_service}
 use Rattle.tb_top.specs.Calls.{Call, HasTaken, IsReadTo, NetFailed, ReadFailed, WriteFailed}
-use Rattle.tb_top.specs.Commands.{asks_to_serve, command_of, files_of, input_files, named}
-use Rattle.tb_top.specs.Endings.{IsEnded, last_line, status_of}
+use Rattle.tb_top.specs.Commands.{asks_to_serve, command_of, command_files, input_files, named}
+use Rattle.tb_top.specs.Endings.{IsEnded, IsLineWritten, last_line, status_of}
 use Rattle.tb_top.specs.Loading.{Hold, Loads, Reading}
-use Rattle.tb_top.specs.Promises.{EndsBy, IsCaused, IsDefined, IsLastLine, IsTextOf, IsWhole, Keeps, defined_status}
-use Rattle.tb_top.specs.Outputs.{IsAnswered, IsOutput, IsScriptAnswered}
+use Rattle.tb_top.specs.Populations.{Population}
+use Rattle.tb_top.specs.Promises.{EndsBy, IsCaused, IsDefined, IsLastLine, IsPriced, IsTextOf, IsWhole, Keeps, defined_status}
+use Rattle.tb_top.specs.Outputs.{AreScriptReplies, IsAnswered, IsBegun, IsGenAnswered, IsOutput, IsScriptAnswered}
+use Rattle.tb_top.specs.Summaries.{summary_line}
 use Rattle.tb_top.proofs.PortLemmas.{all-unserved, same-idle}
 use Rattle.tb_top.proofs.Serving.{keeps_by_service}
 use Rattle.tb_top.proofs.Telling.{always_told, where_told}
 use Rattle.tb_script.specs.Scripts.{ScriptValue}
 use Rattle.tb_serve.specs.Stages.{IsFresh}
-use Rattle.tb_session.specs.Outputs.{text_of}
+use Rattle.tb_session.specs.Outputs.{ReplyValue, price_of, text_of}
 use Rattle.tb_io.proofs.TakenLemmas.{TookPart-all}
 
 -- what the sink took of the last line of an end, and the status
@@ -146,7 +148,8 @@ status-read end.Memory h = cc
 module _ (call : Call) (e : End) (s : Status) (usage : e ≡ end.Usage → command_of call.words ≡ None)
     (words : command_of call.words ≡ None → e ≡ end.Usage)
     (rose : (file : Input) → e ≡ end.Unread file → ReadFailed call) (ends : IfSome call.content (λ at. e ≢ end.Memory → EndsBy call at e))
-    (free : call.steps_after ≡ call.steps) (fresh : All IsFresh call.ports) (same : call.ports_after ≡ call.ports) where
+    (priced : IfSome call.content (λ at. (call.steps_after ≡ call.steps) ⊎ IsPriced call at)) (fresh : All IsFresh call.ports)
+    (same : call.ports_after ≡ call.ports) where
   usage_told : IsToldBy call e s → s ≡ status.Usage → (command_of call.words ≡ None) × HasTaken call (last_line end.Usage)
   usage_told (inl (is, took)) h = let u = status-usage e (sym is ∙ h) in (usage u, subst (λ x. HasTaken call (last_line x)) u took)
   usage_told (inr (is, failed, part)) h = cc
@@ -177,10 +180,14 @@ module _ (call : Call) (e : End) (s : Status) (usage : e ≡ end.Usage → comma
     write_fault = write_told told;
     net_fault = net_told told;
     exact = where_told _ _ call.content (λ at by. exact_by_end call at same e s by rose told) ends;
-    price = always_told _ call.content (λ at. inl free);
+    price = priced;
     idle = same-idle call.ports call.ports_after same fresh;
     others = λ h. same;
   }
+
+-- no line was answered
+unpriced : (call : Call) → call.steps_after ≡ call.steps → IfSome call.content (λ at. (call.steps_after ≡ call.steps) ⊎ IsPriced call at)
+unpriced call free = always_told _ call.content (λ at. inl free)
 
 -- how a script was answered, and the status
 abbrev pub IsScriptAnsweredBy : Call → CensusValue → ScriptValue → Status → Type 0
@@ -228,8 +235,79 @@ keeps_by_script call command census script s named told fresh same (inr (inl (is
       others = λ h. same;
     }
 keeps_by_script call command census script s named told fresh same (inr (inr (free, ended))) =
-    keeps_by_end call end.Memory s (λ h. cc) (λ h. cc) (λ file h. cc) (always_told _ call.content (λ at ne. absurd (ne refl))) free fresh
-    same ended
+    keeps_by_end call end.Memory s (λ h. cc) (λ h. cc) (λ file h. cc) (always_told _ call.content (λ at ne. absurd (ne refl)))
+    (unpriced call free) fresh same ended
+
+-- how a generated population was answered, and the status
+abbrev pub IsGenAnsweredBy : Call → Population → CensusValue → ScriptValue → Status → Type 0
+IsGenAnsweredBy call population census script s = IsGenAnswered population census script s call.write_faults call.write_faults_after
+    call.taken call.taken_after call.steps call.steps_after
+
+-- a run that sums up replies keeps all, whatever of its line was taken
+module _ (call : Call) (command : Command) (population : Population) (census : CensusValue) (script : ScriptValue) (s : Status)
+    (named : command_of call.words ≡ Some command) (told : IfSome call.content (λ at. asked_of at call.words ≡ Ok (Gen population census script)))
+    (fresh : All IsFresh call.ports) (same : call.ports_after ≡ call.ports) (replies : List ReplyValue)
+    (answers : AreScriptReplies census script replies) (cost : call.steps_after ≤ call.steps + price_of replies) where
+  abbrev line : List ℕ
+  line = summary_line population (text_of replies)
+
+  -- the counter rose by no more than the replies' price
+  priced_by : IsBegun (Gen population census script) replies call.taken call.taken_after
+      → IfSome call.content (λ at. (call.steps_after ≡ call.steps) ⊎ IsPriced call at)
+  priced_by begun = where_told _ _ call.content (λ at h. inr (Gen population census script, h, (replies, answers, begun, cost))) told
+
+  whole_line : (at : List ℕ → Option (List ℕ)) → asked_of at call.words ≡ Ok (Gen population census script) → IsWhole call at status.Done line
+  whole_line at h = (Gen population census script, h, (refl, (replies, answers, refl)))
+
+  keeps_by_line : IsLineWritten status.Done line s call.write_faults call.write_faults_after call.taken call.taken_after → Keeps call s
+  keeps_by_line (inl (is, took)) = record {
+    text = where_told _ _ call.content (λ at h. (line, inl (rw is (whole_line at h)), took)) told;
+    usage = λ h. cc;
+    words = λ h. cc;
+    read_fault = λ h. cc;
+    write_fault = λ h. cc;
+    net_fault = λ h. cc;
+    exact = where_told _ _ call.content (λ at h. inl (is ∙ sym (ap defined_status h))) told;
+    price = priced_by (inl (TookPart-all call.taken call.taken_after line took));
+    idle = same-idle call.ports call.ports_after same fresh;
+    others = λ h. same;
+  }
+  keeps_by_line (inr (is, failed, part)) = record {
+    text = where_told _ _ call.content (λ at h.
+        let whole : IsWhole call at status.Done (take part.0 line ++ drop part.0 line) = rw (take-append-drop part.0 line) (whole_line at h) in
+        (take part.0 line, inr (is, (status.Done, drop part.0 line, whole)), part.1)) told;
+    usage = λ h. cc;
+    words = λ h. cc;
+    read_fault = λ h. cc;
+    write_fault = λ h. failed;
+    net_fault = λ h. cc;
+    exact = where_told _ _ call.content (λ at h. inr (inr (inr (inl (is, failed))))) told;
+    price = priced_by (inl part);
+    idle = same-idle call.ports call.ports_after same fresh;
+    others = λ h. same;
+  }
+
+  -- the text of the replies was lost
+  begun_lost : IsToldBy call end.Memory s → IsBegun (Gen population census script) replies call.taken call.taken_after
+  begun_lost (inl (is, took)) = inr (TookPart-all call.taken call.taken_after (last_line end.Memory) took)
+  begun_lost (inr (is, failed, part)) = inr part
+
+  keeps_by_lost : IsToldBy call end.Memory s → Keeps call s
+  keeps_by_lost ended =
+      keeps_by_end call end.Memory s (λ h. cc) (λ h. cc) (λ file h. cc) (always_told _ call.content (λ at ne. absurd (ne refl)))
+      (priced_by (begun_lost ended)) fresh same ended
+
+-- a run that comes to a generated population keeps all
+keeps_by_gen : (call : Call) (command : Command) (population : Population) (census : CensusValue) (script : ScriptValue) (s : Status)
+    → command_of call.words ≡ Some command → IfSome call.content (λ at. asked_of at call.words ≡ Ok (Gen population census script))
+    → All IsFresh call.ports → call.ports_after ≡ call.ports → IsGenAnsweredBy call population census script s → Keeps call s
+keeps_by_gen call command population census script s named told fresh same (inl (replies, answers, cost, inl written)) =
+    keeps_by_line call command population census script s named told fresh same replies answers cost written
+keeps_by_gen call command population census script s named told fresh same (inl (replies, answers, cost, inr ended)) =
+    keeps_by_lost call command population census script s named told fresh same replies answers cost ended
+keeps_by_gen call command population census script s named told fresh same (inr (free, ended)) =
+    keeps_by_end call end.Memory s (λ h. cc) (λ h. cc) (λ file h. cc) (always_told _ call.content (λ at ne. absurd (ne refl)))
+    (unpriced call free) fresh same ended
 
 -- how what is asked for was answered, and the status
 abbrev pub IsAnsweredBy : Call → AskedValue → Status → Type 0
@@ -244,6 +322,8 @@ keeps_by_answer call command (Script census script) s named serves told fresh (s
     keeps_by_script call command census script s named told fresh same answered
 keeps_by_answer call command (Serve census service) s named serves told fresh answered =
     keeps_by_service call command census service s named (sym serves) told answered.0 fresh answered.1
+keeps_by_answer call command (Gen population census script) s named serves told fresh (same, answered) =
+    keeps_by_gen call command population census script s named told fresh same answered
 
 -- what a call saw of its files
 abbrev pub reading_of : Call → Option (List ℕ → Option (List ℕ)) → Reading
@@ -262,10 +342,10 @@ same_command words command other h k = cc
 
 caused : (call : Call) (command : Command) (e : End) → command_of call.words ≡ Some command →
     ((file : Input) → e ≡ end.Unread file → ReadFailed call)
-    → ((file : Input) → e ≡ end.Unread file → IsReadTo (files_of command) file call.readings call.readings_after) → IsCaused call e
+    → ((file : Input) → e ≡ end.Unread file → IsReadTo (command_files command) file call.readings call.readings_after) → IsCaused call e
 caused call command (end.Unread file) named rose last = (
   rose file refl,
-  λ other h. subst (λ (c : Command). IsReadTo (files_of c) file call.readings call.readings_after)
+  λ other h. subst (λ (c : Command). IsReadTo (command_files c) file call.readings call.readings_after)
       (same_command call.words command other named h) (last file refl),
 )
 caused call command end.Usage named rose last = tt
@@ -277,7 +357,7 @@ caused call command end.Memory named rose last = tt
 -- a command's contents hold its files
 holds-files : (at : List ℕ → Option (List ℕ)) (recodes : Option (List ℕ)) (classes ptable people script : List ℕ) (threshold : ℕ)
     → let inputs : Inputs = record { classes = classes; recodes = recodes; ptable = ptable; people = people; threshold = threshold } in
-    Hold at (files_of (command.Script inputs script)) (contents_at at (files_of (command.Script inputs script)))
+    Hold at (command_files (command.Script inputs script)) (contents_at at (command_files (command.Script inputs script)))
 holds-files at None classes ptable people script threshold = (refl, (refl, (refl, (refl, tt))))
 holds-files at (Some name) classes ptable people script threshold = (refl, (refl, (refl, (refl, (refl, tt)))))
 
@@ -287,14 +367,15 @@ holds-inputs : (at : List ℕ → Option (List ℕ)) (recodes : Option (List ℕ
 holds-inputs at None classes ptable people threshold = (refl, (refl, (refl, tt)))
 holds-inputs at (Some name) classes ptable people threshold = (refl, (refl, (refl, (refl, tt))))
 
-holds : (at : List ℕ → Option (List ℕ)) (c : Command) → Hold at (files_of c) (contents_at at (files_of c))
+holds : (at : List ℕ → Option (List ℕ)) (c : Command) → Hold at (command_files c) (contents_at at (command_files c))
 holds at (command.Script inputs script) = holds-files at inputs.recodes inputs.classes inputs.ptable inputs.people script inputs.threshold
 holds at (command.Serve inputs service) = holds-inputs at inputs.recodes inputs.classes inputs.ptable inputs.people inputs.threshold
+holds at (command.Gen population) = tt
 
 -- how loading ended the run
 pub keeps_by_load : {A : Type 0} (view : A → AskedValue) (call : Call) (after : Option (List ℕ → Option (List ℕ))) (command : Command)
     (e : End) (s : Status) → command_of call.words ≡ Some command
-    → Loads (reading_of call after) 0 (files_of command) view (asked_over command) (Err e) → call.steps_after ≡ call.steps
+    → Loads (reading_of call after) 0 (command_files command) view (asked_over command) (Err e) → call.steps_after ≡ call.steps
     → All IsFresh call.ports → call.ports_after ≡ call.ports → IsToldBy call e s → Keeps call s
 keeps_by_load view call after command e s named loads free fresh same told =
     let rose = λ (file : Input) (h : e ≡ end.Unread file). loads.risen file (ap (λ (x : End). Err x) h) in
@@ -303,33 +384,33 @@ keeps_by_load view call after command e s named loads free fresh same told =
     (λ h. absurd (loads.usage (ap (λ (x : End). Err x) h))) (λ h. cc) rose
     (where_told _ _ call.content (λ at g ne. (
       rw named
-          (g (contents_at at (files_of command)) (holds at command) ne),
+          (g (contents_at at (command_files command)) (holds at command) ne),
       caused call command e named rose last,
       same,
     )) loads.gives)
-    free fresh same told
+    (unpriced call free) fresh same told
 
 -- other arguments end the run at once
 pub keeps_by_usage : (call : Call) (s : Status) → command_of call.words ≡ None → call.steps_after ≡ call.steps → All IsFresh call.ports
     → call.ports_after ≡ call.ports → IsToldBy call end.Usage s → Keeps call s
 keeps_by_usage call s none free fresh same told =
     keeps_by_end call end.Usage s (λ h. none) (λ h. refl) (λ file h. cc)
-    (always_told _ call.content (λ at ne. (rw none refl, tt, same))) free fresh same told
+    (always_told _ call.content (λ at ne. (rw none refl, tt, same))) (unpriced call free) fresh same told
 
 -- files that were all read lead to the task
 pub keeps_by_task : {A : Type 0} (view : A → AskedValue) (call : Call) (after : Option (List ℕ → Option (List ℕ))) (command : Command)
     (x : A) (s : Status) → command_of call.words ≡ Some command
-    → Loads (reading_of call after) 0 (files_of command) view (asked_over command) (Ok x)
+    → Loads (reading_of call after) 0 (command_files command) view (asked_over command) (Ok x)
     → is_service (view x) ≡ asks_to_serve (Some command) → All IsFresh call.ports → IsAnsweredBy call (view x) s → Keeps call s
 keeps_by_task view call after command x s named loads serves fresh answered =
     keeps_by_answer call command (view x) s named serves
-    (where_told _ _ call.content (λ at g. rw named (g (contents_at at (files_of command)) (holds at command))) loads.gives) fresh answered
+    (where_told _ _ call.content (λ at g. rw named (g (contents_at at (command_files command)) (holds at command))) loads.gives) fresh answered
 
 -- the text of a read fault is the line that names the file of the last reading
 pub line_of_read_fault : (call : Call) (at : List ℕ → Option (List ℕ)) (s : Status) (bytes : List ℕ) → IsTextOf call at s bytes
     → s ≡ status.ReadFault
     → (file : Input) × (bytes ≡ last_line (end.Unread file)) ×
-    ((command : Command) → command_of call.words ≡ Some command → IsReadTo (files_of command) file call.readings call.readings_after)
+    ((command : Command) → command_of call.words ≡ Some command → IsReadTo (command_files command) file call.readings call.readings_after)
 line_of_read_fault call at s bytes (inl whole) h =
     let (e, (by, cause, same), is, text) = subst (λ x. IsWhole call at x bytes) h whole in
     let (file, unread) = status-read e is in
@@ -341,7 +422,7 @@ line_of_read_fault call at s bytes (inr (is, cut)) h = cc
 pub memory_read_fault : (call : Call) (at : List ℕ → Option (List ℕ)) (s : Status) (before after : List ℕ) →
     (bytes : List ℕ) × IsTextOf call at s bytes × (after ≡ before ++ bytes) → s ≡ status.ReadFault
     → (file : Input) × (after ≡ before ++ last_line (end.Unread file)) ×
-    ((command : Command) → command_of call.words ≡ Some command → IsReadTo (files_of command) file call.readings call.readings_after)
+    ((command : Command) → command_of call.words ≡ Some command → IsReadTo (command_files command) file call.readings call.readings_after)
 memory_read_fault call at s before after (bytes, text, took) h =
     let (file, line, last) = line_of_read_fault call at s bytes text h in
     (file, took ∙ ap (λ more. before ++ more) line, last)

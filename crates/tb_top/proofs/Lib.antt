@@ -1,7 +1,10 @@
 pub mod Boards
 pub mod CommandWords
 pub mod Finishing
+pub mod Generating
 pub mod LoadSteps
 pub mod PortLemmas
 pub mod Serving
+pub mod SummaryTexts
+pub mod Summing
 pub mod Telling

@@ -217,7 +217,7 @@ Loads-ends {A} {B} {C} {D} view view' defined next x y {saw} {place} {files} giv
   all = λ z k. h.all x refl;
 }
 
-contents_same : (e : End) → ((file : Input) → e ≢ end.Unread file) → (contents : Contents) → contents_for e contents ≡ contents
+pub contents_same : (e : End) → ((file : Input) → e ≢ end.Unread file) → (contents : Contents) → contents_for e contents ≡ contents
 contents_same (end.Unread file) unread contents = absurd (unread file refl)
 contents_same end.Usage unread contents = refl
 contents_same (end.TooLong file) unread contents = refl

@@ -28,7 +28,9 @@ use Rattle.tb_script.specs.declared.limits.TheConstants.{MOST_SCRIPT_BYTES}
 use Rattle.tb_top.specs.declared.command.Command.{Command}
 use Rattle.tb_top.specs.declared.command.Command.TheVariants as command
 use Rattle.tb_top.specs.declared.command.Inputs.{Inputs}
-use Rattle.tb_top.specs.Commands.{NamedFile, command_of, files_of}
+use Rattle.tb_top.specs.Commands.{NamedFile, command_of, command_files}
+use Rattle.tb_top.specs.GeneratedFiles.{generated_contents, generated_inputs}
+use Rattle.tb_top.specs.Populations.{Population}
 use Rattle.tb_top.specs.ServicePorts.{Service}
 
 -- what the files hold: the bytes of each, where it is there
@@ -120,23 +122,37 @@ census_in inputs contents =
       records = records;
     }))))
 
--- what is asked for over a census: replies to the lines of a script, or sessions
+-- what is asked for over a census: replies to the lines of a script, sessions, or, over that of a
+-- generated population, a summary of such replies
 pub data AskedValue : Type 0 where
   Script : CensusValue → ScriptValue → AskedValue
   Serve : CensusValue → Service → AskedValue
+  Gen : Population → CensusValue → ScriptValue → AskedValue
 
 -- whether it is sessions
 abbrev pub is_service : AskedValue → Bool
 is_service (Script census script) = false
 is_service (Serve census service) = true
+is_service (Gen population census script) = false
+
+-- what is asked for over the census and the script that the files hold
+abbrev pub script_over : (CensusValue → ScriptValue → AskedValue) → Inputs → Contents
+    → Result AskedValue End
+script_over task inputs contents =
+    census_in inputs contents >>= (λ census.
+    script_in contents >>= (λ script. Ok (task census script)))
+
+-- what a generated population asks for: what a script would over the generated files
+abbrev pub generated_asked : Population → Result AskedValue End
+generated_asked population =
+    script_over (Gen population) generated_inputs (generated_contents population)
 
 -- what a command asks for over what its files hold
 abbrev pub asked_over : Command → Contents → Result AskedValue End
-asked_over (command.Script inputs name) contents =
-    census_in inputs contents >>= (λ census.
-    script_in contents >>= (λ script. Ok (Script census script)))
+asked_over (command.Script inputs name) contents = script_over Script inputs contents
 asked_over (command.Serve inputs service) contents =
     census_in inputs contents >>= (λ census. Ok (Serve census service))
+asked_over (command.Gen population) contents = generated_asked population
 
 -- the place of a file in the order of reading
 abbrev pub input_place : Input → ℕ
@@ -172,4 +188,4 @@ asked_by contents words =
 
 -- what the arguments and the files ask for
 abbrev pub asked_of : (List ℕ → Option (List ℕ)) → List (List ℕ) → Result AskedValue End
-asked_of at words = asked_by (λ c. contents_at at (files_of c)) words
+asked_of at words = asked_by (λ c. contents_at at (command_files c)) words

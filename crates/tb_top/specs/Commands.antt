@@ -6,6 +6,7 @@ use Rattle.tb_top.specs.declared.command.Command.TheVariants as command
 use Rattle.tb_top.specs.declared.command.Inputs.{Inputs}
 use Rattle.tb_top.specs.declared.command.TheConstants.{MOST_THRESHOLD}
 use Rattle.tb_top.specs.Numbers.{number_within}
+use Rattle.tb_top.specs.Populations.{population_named}
 use Rattle.tb_top.specs.ServicePorts.{service_named}
 use Rattle.tb_top.specs.declared.endings.Input.{Input}
 use Rattle.tb_top.specs.declared.endings.Input.TheVariants as input
@@ -58,6 +59,10 @@ serve_named classes recodes ptable people threshold port workers sessions =
     option_map (command.Serve inputs) (service_named port workers sessions))
     (inputs_named classes recodes ptable people threshold)
 
+-- a command over a generated population
+abbrev pub gen_named : (persons start : List ℕ) → Option Command
+gen_named persons start = option_map command.Gen (population_named persons start)
+
 -- the argument at a place
 abbrev pub word_at : List (List ℕ) → ℕ → List ℕ
 word_at words i = get_or words i []
@@ -78,9 +83,16 @@ serve_words words =
     (word_at words 5) (word_at words 6) (word_at words 7) (word_at words 8)
     else None
 
+-- what `gen N START` asks for
+abbrev pub gen_words : List (List ℕ) → Option Command
+gen_words words =
+    if (length words == 3) && bytes_eq (word_at words 0) (codes "gen")
+    then gen_named (word_at words 1) (word_at words 2)
+    else None
+
 -- what the arguments ask for; others than those of a command ask for nothing
 abbrev pub command_of : List (List ℕ) → Option Command
-command_of words = option_or (script_words words) (serve_words words)
+command_of words = option_or (script_words words) (option_or (serve_words words) (gen_words words))
 
 -- an input and the name of its file
 pub record NamedFile : Type 0 where
@@ -105,14 +117,17 @@ input_files inputs =
     class_files inputs
     ++ (named input.Ptable inputs.ptable ∷ named input.People inputs.people ∷ [])
 
--- the files of a command, in the order in which they are read: those of its inputs, then its task's
-abbrev pub files_of : Command → List NamedFile
-files_of (command.Script inputs script) =
+-- the files of a command, in the order in which they are read: those of its inputs, then its
+-- task's; a generated population has none
+abbrev pub command_files : Command → List NamedFile
+command_files (command.Script inputs script) =
     input_files inputs ++ (named input.Script script ∷ [])
-files_of (command.Serve inputs service) = input_files inputs
+command_files (command.Serve inputs service) = input_files inputs
+command_files (command.Gen population) = []
 
 -- whether sessions are asked for
 abbrev pub asks_to_serve : Option Command → Bool
 asks_to_serve (Some (command.Serve inputs service)) = true
 asks_to_serve (Some (command.Script inputs script)) = false
+asks_to_serve (Some (command.Gen population)) = false
 asks_to_serve None = false

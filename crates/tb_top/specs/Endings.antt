@@ -51,8 +51,14 @@ last_line (end.Refused file name at) = refusal_line file name at
 last_line (end.BadLine at) = codes "fault script " ++ decimal at ++ codes "\n"
 last_line end.Memory = codes "fault memory\n"
 
+-- a run that ended with a status wrote this line: it was taken, with the line's own status, or, where
+-- a write failed, a beginning of it
+abbrev pub IsLineWritten : Status → List ℕ → Status → (faults faults' : ℕ)
+    → (taken taken' : Option (List ℕ)) → Type 0
+IsLineWritten own line s faults faults' taken taken' =
+    ((s ≡ own) × Took taken taken' line)
+    ⊎ ((s ≡ status.WriteFault) × HasRisen faults faults' × TookPart taken taken' line)
+
 -- a run ended so: its last line was taken, or, where a write failed, a beginning of it
 abbrev pub IsEnded : End → Status → (faults faults' : ℕ) → (taken taken' : Option (List ℕ)) → Type 0
-IsEnded e s faults faults' taken taken' =
-    ((s ≡ status_of e) × Took taken taken' (last_line e))
-    ⊎ ((s ≡ status.WriteFault) × HasRisen faults faults' × TookPart taken taken' (last_line e))
+IsEnded e = IsLineWritten (status_of e) (last_line e)

@@ -8,7 +8,7 @@ use Rattle.tb_top.specs.declared.endings.Input.{Input}
 use Rattle.tb_top.specs.declared.endings.End.TheVariants as end
 use Rattle.tb_top.specs.declared.command.Command.{Command}
 use Rattle.tb_top.specs.Calls.{Call, IsReadTo}
-use Rattle.tb_top.specs.Commands.{command_of, files_of}
+use Rattle.tb_top.specs.Commands.{command_of, command_files}
 use Rattle.tb_top.specs.Endings.{last_line}
 use Rattle.tb_top.specs.Promises.{IsTextOf}
 
@@ -44,4 +44,4 @@ abbrev pub NamesTheFailingRead : List (List ℕ) → FailingFiles → FailingFil
 NamesTheFailingRead words files files' out out' =
     (file : Input) × (out'.taken ≡ out.taken ++ last_line (end.Unread file))
     × ((command : Command) → command_of words ≡ Some command
-    → IsReadTo (files_of command) file (Some files.calls) (Some files'.calls))
+    → IsReadTo (command_files command) file (Some files.calls) (Some files'.calls))

@@ -1,7 +1,10 @@
 pub mod Numbers
 pub mod ServicePorts
+pub mod Populations
+pub mod Summaries
 pub mod Commands
 pub mod Endings
+pub mod GeneratedFiles
 pub mod Asking
 pub mod Services
 pub mod Outputs

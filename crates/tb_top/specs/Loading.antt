@@ -10,7 +10,7 @@ use Rattle.tb_top.specs.declared.endings.End.TheVariants as end
 use Rattle.tb_top.specs.declared.load.Asked.{Asked}
 use Rattle.tb_top.specs.declared.load.Asked.TheVariants as asked
 use Rattle.tb_top.specs.declared.load.Census.{Census}
-use Rattle.tb_top.specs.Asking.{AskedValue, CensusValue, Contents, Script, Serve, contents_for, input_place}
+use Rattle.tb_top.specs.Asking.{AskedValue, CensusValue, Contents, Gen, Script, Serve, contents_for, input_place}
 use Rattle.tb_top.specs.Calls.{IsReadTo, readings_more}
 use Rattle.tb_top.specs.Commands.{NamedFile}
 
@@ -66,6 +66,13 @@ pub record Loads {A B : Type 0} (saw : Reading) (place : ℕ) (files : List Name
   pub all : (x : A) → result ≡ Ok x
       → saw.readings_after ≡ readings_more (length files) saw.readings
 
+-- what a step that reads no file gives, seen by `view`, is what is defined; so is an end other than
+-- Memory
+abbrev pub Makes : {A B : Type 0} → (A → B) → Result B End → Result A End → Type 0
+Makes view defined (Ok x) = defined ≡ Ok (view x)
+Makes view defined (Err e) =
+    (e ≢ end.Usage) × ((file : Input) → e ≢ end.Unread file) × (e ≢ end.Memory → defined ≡ Err e)
+
 -- a census and what is asked for over it, as the definitions see them
 abbrev pub census_value : Census → CensusValue
 census_value c = record { setup = c.setup; records = c.release.records }
@@ -73,6 +80,7 @@ census_value c = record { setup = c.setup; records = c.release.records }
 abbrev pub asked_value : Asked → AskedValue
 asked_value (asked.Script census script) = Script (census_value census) script
 asked_value (asked.Serve census service) = Serve (census_value census) service
+asked_value (asked.Gen population census script) = Gen population (census_value census) script
 
 -- a census begins at release 0 of its records, which fit its schema
 abbrev pub IsFirst : Census → Type 0
@@ -84,3 +92,4 @@ IsFirst c =
 abbrev pub AskedIsFirst : Asked → Type 0
 AskedIsFirst (asked.Script census script) = IsFirst census
 AskedIsFirst (asked.Serve census service) = IsFirst census
+AskedIsFirst (asked.Gen population census script) = IsFirst census

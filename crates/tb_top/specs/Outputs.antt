@@ -6,23 +6,31 @@ use Rattle.tb_io.specs.Faults.{HasRisen}
 use Rattle.tb_io.specs.Taken.{Took, TookPart}
 use Rattle.tb_model.specs.Releases.{first_release}
 use Rattle.tb_script.specs.Runs.{IsLaneReply}
+use Rattle.tb_script.specs.Scripts.{ScriptValue}
 use Rattle.tb_serve.specs.Ports.{PortValue}
 use Rattle.tb_session.specs.Outputs.{AreReplies, ReplyValue, price_of, text_of}
 use Rattle.tb_top.specs.declared.endings.End.TheVariants as end
-use Rattle.tb_top.specs.Asking.{AskedValue, Script, Serve}
-use Rattle.tb_top.specs.Endings.{IsEnded}
+use Rattle.tb_top.specs.Asking.{AskedValue, CensusValue, Gen, Script, Serve}
+use Rattle.tb_top.specs.Endings.{IsEnded, IsLineWritten, last_line}
+use Rattle.tb_top.specs.Populations.{Population}
 use Rattle.tb_top.specs.Services.{IsServiceAnswered, IsServiceOutput}
+use Rattle.tb_top.specs.Summaries.{summary_line}
 
--- these are replies to the script's lines, from release 0 of the microdata on; sessions get theirs
--- elsewhere
-abbrev pub AreAnswers : AskedValue → List ReplyValue → Type 0
-AreAnswers (Script census script) replies =
+-- these are replies to the script's lines, from release 0 of the microdata on
+abbrev pub AreScriptReplies : CensusValue → ScriptValue → List ReplyValue → Type 0
+AreScriptReplies census script replies =
     AreReplies (IsLaneReply census.setup (first_release census.setup census.records))
     (record { chain = []; held = [] }) script.lines replies
-AreAnswers (Serve census service) replies = ⊥
 
--- a text is the output of a run with this status over these ports: that of such replies, or what a
--- service writes
+-- the same of what is asked for, which may be a summary of them; sessions get their replies
+-- elsewhere
+abbrev pub AreAnswers : AskedValue → List ReplyValue → Type 0
+AreAnswers (Script census script) replies = AreScriptReplies census script replies
+AreAnswers (Serve census service) replies = ⊥
+AreAnswers (Gen population census script) replies = AreScriptReplies census script replies
+
+-- a text is the output of a run with this status over these ports: that of such replies, what a
+-- service writes, or the line that sums up such replies
 abbrev pub IsOutput : AskedValue → (ports ports' : List PortValue) → Status → List ℕ → Type 0
 IsOutput (Script census script) ports ports' s text =
     (s ≡ status.Done)
@@ -30,6 +38,19 @@ IsOutput (Script census script) ports ports' s text =
     × (text ≡ text_of replies))
 IsOutput (Serve census service) ports ports' s text =
     IsServiceOutput census service ports ports' s text
+IsOutput (Gen population census script) ports ports' s text =
+    (s ≡ status.Done)
+    × ((replies : List ReplyValue) × AreAnswers (Gen population census script) replies
+    × (text ≡ summary_line population (text_of replies)))
+
+-- the sink took a beginning of what is written of these replies: of their text, or of the line that
+-- sums it up; or, where that text was lost for want of memory, of the line that says so
+abbrev pub IsBegun : AskedValue → List ReplyValue → (taken taken' : Option (List ℕ)) → Type 0
+IsBegun (Script census script) replies taken taken' = TookPart taken taken' (text_of replies)
+IsBegun (Serve census service) replies taken taken' = ⊥
+IsBegun (Gen population census script) replies taken taken' =
+    TookPart taken taken' (summary_line population (text_of replies))
+    ⊎ TookPart taken taken' (last_line end.Memory)
 
 -- A script was answered: all replies were taken, or, where a write failed, a beginning of them, and
 -- the counter of steps rose by no more than their price. Or memory ran out before the first line.
@@ -44,6 +65,19 @@ IsScriptAnswered asked s faults faults' taken taken' steps steps' =
     × TookPart taken taken' (text_of replies) × (steps' ≤ steps + price_of replies)))
     ⊎ ((steps' ≡ steps) × IsEnded end.Memory s faults faults' taken taken'))
 
+-- A generated population was answered: the line that sums up the replies was written, or, where
+-- their text was lost for want of memory, the line that says so, and the counter of steps rose by no
+-- more than their price. Or memory ran out before the first line.
+abbrev pub IsGenAnswered : Population → CensusValue → ScriptValue → Status → (faults faults' : ℕ)
+    → (taken taken' : Option (List ℕ)) → (steps steps' : ℕ) → Type 0
+IsGenAnswered population census script s faults faults' taken taken' steps steps' =
+    ((replies : List ReplyValue) × AreAnswers (Gen population census script) replies
+    × (steps' ≤ steps + price_of replies)
+    × (IsLineWritten status.Done (summary_line population (text_of replies)) s
+    faults faults' taken taken'
+    ⊎ IsEnded end.Memory s faults faults' taken taken'))
+    ⊎ ((steps' ≡ steps) × IsEnded end.Memory s faults faults' taken taken')
+
 -- What is asked for was answered, over these ports. A script touches none, and what a service costs
 -- is counted elsewhere.
 abbrev pub IsAnswered : AskedValue → (ports ports' : List PortValue) → Status
@@ -54,3 +88,6 @@ IsAnswered (Script census script) ports ports' s faults faults' taken taken' ste
 IsAnswered (Serve census service) ports ports' s faults faults' taken taken' steps steps' =
     (steps' ≡ steps)
     × IsServiceAnswered census service ports ports' s faults faults' taken taken'
+IsAnswered (Gen population census script) ports ports' s faults faults' taken taken' steps steps' =
+    (ports' ≡ ports)
+    × IsGenAnswered population census script s faults faults' taken taken' steps steps'

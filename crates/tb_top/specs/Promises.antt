@@ -2,17 +2,16 @@
 use Rattle.std.specs.Prelude.{◌≡◌, ◌⊎◌, ◌+◌, ◌≤◌, ℕ, List, ◌++◌, All, false, Option, None, Some, Result, Ok, Err, IfSome}
 use Rattle.tb_base.specs.declared.status.Status.{Status}
 use Rattle.tb_base.specs.declared.status.Status.TheVariants as status
-use Rattle.tb_io.specs.Taken.{TookPart}
-use Rattle.tb_session.specs.Outputs.{ReplyValue, price_of, text_of}
+use Rattle.tb_session.specs.Outputs.{ReplyValue, price_of}
 use Rattle.tb_top.specs.declared.endings.Input.{Input}
 use Rattle.tb_top.specs.declared.endings.End.{End}
 use Rattle.tb_top.specs.declared.endings.End.TheVariants as end
 use Rattle.tb_top.specs.Asking.{AskedValue, asked_by, asked_of, contents_at, contents_for}
 use Rattle.tb_top.specs.Calls.{Call, HasTaken, IsReadTo, NetFailed, ReadFailed, WriteFailed}
-use Rattle.tb_top.specs.Commands.{asks_to_serve, command_of, files_of}
+use Rattle.tb_top.specs.Commands.{asks_to_serve, command_of, command_files}
 use Rattle.tb_top.specs.declared.command.Command.{Command}
 use Rattle.tb_top.specs.Endings.{last_line, status_of}
-use Rattle.tb_top.specs.Outputs.{AreAnswers, IsOutput}
+use Rattle.tb_top.specs.Outputs.{AreAnswers, IsBegun, IsOutput}
 use Rattle.tb_top.specs.Services.{IsIdle, IsUnserved}
 use Rattle.tb_serve.specs.Each.{Each}
 
@@ -21,7 +20,7 @@ abbrev pub IsReadingAt : Call → Input → Type 0
 IsReadingAt call file =
     ReadFailed call
     × ((command : Command) → command_of call.words ≡ Some command
-    → IsReadTo (files_of command) file call.readings call.readings_after)
+    → IsReadTo (command_files command) file call.readings call.readings_after)
 
 abbrev pub IsCaused : Call → End → Type 0
 IsCaused call (end.Unread file) = IsReadingAt call file
@@ -35,7 +34,7 @@ IsCaused call end.Memory = Unit {0}
 -- couldn't be read, where each earlier file is there, not too long and accepted; no port changed
 abbrev pub EndsBy : Call → (List ℕ → Option (List ℕ)) → End → Type 0
 EndsBy call at e =
-    (asked_by (λ command. contents_for e (contents_at at (files_of command))) call.words ≡ Err e)
+    (asked_by (λ command. contents_for e (contents_at at (command_files command))) call.words ≡ Err e)
     × IsCaused call e × (call.ports_after ≡ call.ports)
 
 -- a text is the last line of a run that ends so with this status, and nothing else
@@ -89,13 +88,13 @@ IsDefined call at s =
     ⊎ (((s ≡ status.WriteFault) × WriteFailed call)
     ⊎ ((s ≡ status.NetFault) × NetFailed call))))
 
--- the counter rose by no more than the price of some replies to a script, of whose text the sink
--- took a beginning
+-- the counter rose by no more than the price of some replies to a script, of which a beginning of
+-- what is written was taken
 abbrev pub IsPriced : Call → (List ℕ → Option (List ℕ)) → Type 0
 IsPriced call at =
     (asked : AskedValue) × (asked_of at call.words ≡ Ok asked)
     × ((replies : List ReplyValue) × AreAnswers asked replies
-    × TookPart call.taken call.taken_after (text_of replies)
+    × IsBegun asked replies call.taken call.taken_after
     × (call.steps_after ≤ call.steps + price_of replies))
 
 -- what a call keeps, whatever its status

@@ -1,17 +1,24 @@
 // The arguments of the command line.
 
 ghost use Rattle.std.specs.Prelude.{◌≡◌, None, Some, if◌then◌else◌, map, string_bytes};
-ghost use Rattle.tb_top.specs.Commands.{command_of, inputs_named, is_file_name as names_a_file};
+ghost use Rattle.tb_top.specs.Commands.{command_of, gen_named, gen_words, inputs_named};
+ghost use Rattle.tb_top.specs.Commands.{is_file_name as names_a_file};
 ghost use Rattle.tb_top.specs.Commands.{may_name_recodes};
 ghost use Rattle.tb_top.specs.Commands.{recodes_name as name_of_recodes, script_named};
 ghost use Rattle.tb_top.specs.Commands.{script_words, serve_named, serve_words};
+ghost use Rattle.tb_top.specs.GeneratedFiles.{generated_inputs as inputs_of_generated};
 
+use crate::endings::Input;
 use crate::numbers::read_within;
+use crate::population::{Population, read_population};
 use crate::service::{Service, read_service};
 use std::marker::Model;
 
 /// The greatest threshold.
 pub const MOST_THRESHOLD: u32 = 1_000_000;
+
+/// The threshold over generated files.
+pub const GENERATED_THRESHOLD: u32 = 10;
 
 /// The name of a file.
 #[derive(Drop)]
@@ -39,7 +46,8 @@ pub struct Inputs<'a> {
 }
 
 /// A command: one of several, each with its inputs and its task. `Script` answers the lines of the
-/// script of that name; `Serve` serves sessions.
+/// script of that name; `Serve` serves sessions; `Gen` reads no files, and sums up what `Script`
+/// would write over those of a generated population.
 #[derive(Drop)]
 pub enum Command<'a> {
     Script {
@@ -50,11 +58,14 @@ pub enum Command<'a> {
         inputs: Inputs<'a>,
         service: Service,
     },
+    Gen {
+        population: Population,
+    },
 }
 
 impl<'a> FileName<'a> {
     // The file of that name.
-    fn of(text: &'a str) -> FileName<'a>
+    pub(crate) fn of(text: &'a str) -> FileName<'a>
         ensures { result ≡ text.now }
     {
         FileName { text }
@@ -171,6 +182,16 @@ fn read_serve<'a>(
     }
 }
 
+// The command that the arguments `N START` name.
+fn read_gen<'a>(persons: &str, start: &str) -> Option<Command<'a>>
+    ensures { result ≡ gen_named persons.now start.now }
+{
+    match read_population(persons, start) {
+        Some(population) => Some(Command::Gen { population }),
+        None => None,
+    }
+}
+
 // What the arguments `script CLASSES RECODES PTABLE PEOPLE THRESHOLD SCRIPT` ask for.
 fn read_script_words(words: &[String]) -> Option<Command<'_>>
     ensures { result ≡ script_words (map string_bytes words.now) }
@@ -224,14 +245,43 @@ fn read_serve_words(words: &[String]) -> Option<Command<'_>>
     )
 }
 
-/// What the arguments ask for: `script CLASSES RECODES PTABLE PEOPLE THRESHOLD SCRIPT`, or `serve
+// What the arguments `gen N START` ask for.
+fn read_gen_words(words: &[String]) -> Option<Command<'_>>
+    ensures { result ≡ gen_words (map string_bytes words.now) }
+{
+    let [command, persons, start] = words else {
+        return None;
+    };
+    if command.as_str() != "gen" {
+        return None;
+    }
+    read_gen(persons.as_str(), start.as_str())
+}
+
+/// The inputs of generated files, each under the name that it has in a last line.
+pub fn generated_inputs<'a>() -> Inputs<'a>
+    ensures { result ≡ inputs_of_generated }
+{
+    Inputs {
+        classes: FileName::of(Input::Classes.name()),
+        recodes: Some(FileName::of(Input::Recodes.name())),
+        ptable: FileName::of(Input::Ptable.name()),
+        people: FileName::of(Input::People.name()),
+        threshold: GENERATED_THRESHOLD,
+    }
+}
+
+/// What the arguments ask for: `script CLASSES RECODES PTABLE PEOPLE THRESHOLD SCRIPT`, `serve
 /// CLASSES RECODES PTABLE PEOPLE THRESHOLD PORT WORKERS SESSIONS`, RECODES being a file's name or
-/// `-`. None at all other arguments.
+/// `-`, or `gen N START`. None at all other arguments.
 pub fn read_command(words: &[String]) -> Option<Command<'_>>
     ensures { result ≡ command_of (map string_bytes words.now) }
 {
     match read_script_words(words) {
         Some(command) => Some(command),
-        None => read_serve_words(words),
+        None => match read_serve_words(words) {
+            Some(command) => Some(command),
+            None => read_gen_words(words),
+        },
     }
 }

@@ -16,14 +16,18 @@
 
 mod command;
 mod endings;
+mod generated;
 pub mod laws;
 mod load;
 mod numbers;
+mod population;
 mod service;
+mod summary;
 mod top;
 
-pub use command::{Command, FileName, Inputs, MOST_THRESHOLD, read_command};
+pub use command::{Command, FileName, GENERATED_THRESHOLD, Inputs, MOST_THRESHOLD, read_command};
 pub use endings::{End, Input};
 pub use load::{Asked, Census, MOST_BYTES, most_bytes_of};
+pub use population::Population;
 pub use service::{MOST_PORT, MOST_SESSIONS, MOST_WORKERS, Service};
 pub use top::{end_by, tablebuilder};

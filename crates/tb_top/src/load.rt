@@ -11,12 +11,14 @@ ghost use Rattle.tb_top.specs.declared.endings.Input.TheVariants as input;
 ghost use Rattle.tb_top.specs.Asking.{asked_over, bytes_in, census_in, input_place, is_service};
 ghost use Rattle.tb_top.specs.Asking.{most_bytes, people_in, perturbation_in, recodes_in};
 ghost use Rattle.tb_top.specs.Asking.{schema_in, script_in};
-ghost use Rattle.tb_top.specs.Commands.{asks_to_serve, class_files, files_of, input_files};
+ghost use Rattle.tb_top.specs.Commands.{asks_to_serve, class_files, command_files, input_files};
 ghost use Rattle.tb_top.specs.Commands.{named, recodes_files};
 ghost use Rattle.tb_top.specs.Loading.{AskedIsFirst, IsFirst, Loads, asked_value, census_value, reading};
 
 use crate::command::{Command, FileName, Inputs};
 use crate::endings::{End, Input};
+use crate::generated::load_generated;
+use crate::population::Population;
 use crate::service::Service;
 use std::alloc::Global;
 use tb_base::People;
@@ -38,11 +40,23 @@ pub struct Census {
     pub release: Release,
 }
 
-/// What a run is asked for over a census: to answer the lines of a script, or to serve sessions.
+/// What a run is asked for over a census: to answer the lines of a script, to serve sessions, or to
+/// sum up the replies to a generated script.
 #[derive(Drop)]
 pub enum Asked {
-    Script { census: Census, script: Script },
-    Serve { census: Census, service: Service },
+    Script {
+        census: Census,
+        script: Script,
+    },
+    Serve {
+        census: Census,
+        service: Service,
+    },
+    Gen {
+        population: Population,
+        census: Census,
+        script: Script,
+    },
 }
 
 /// The most bytes that a file may have.
@@ -159,7 +173,11 @@ fn load_people<F: Files>(
 }
 
 // The setup and release 0, which is made when no file's bytes are held any more.
-fn load_census<F: Files>(alloc: Global, files: &mut F, inputs: &Inputs<'_>) -> Result<Census, End>
+pub(crate) fn load_census<F: Files>(
+    alloc: Global,
+    files: &mut F,
+    inputs: &Inputs<'_>,
+) -> Result<Census, End>
     ensures first { IfOk result IsFirst }
     ensures loads { Loads
         (reading F.content F.faults F.readings files.old files.new)
@@ -181,7 +199,11 @@ fn load_census<F: Files>(alloc: Global, files: &mut F, inputs: &Inputs<'_>) -> R
     Ok(Census { setup, release })
 }
 
-fn load_script<F: Files>(alloc: Global, files: &mut F, name: &FileName<'_>) -> Result<Script, End>
+pub(crate) fn load_script<F: Files>(
+    alloc: Global,
+    files: &mut F,
+    name: &FileName<'_>,
+) -> Result<Script, End>
     ensures loads { Loads
         (reading F.content F.faults F.readings files.old files.new)
         4
@@ -209,7 +231,7 @@ fn load_for_script<F: Files>(
     ensures loads { Loads
         (reading F.content F.faults F.readings files.old files.new)
         0
-        (files_of (command.Script inputs.now script.now))
+        (command_files (command.Script inputs.now script.now))
         asked_value
         (asked_over (command.Script inputs.now script.now)) result }
 {
@@ -230,7 +252,7 @@ fn load_for_service<F: Files>(
     ensures loads { Loads
         (reading F.content F.faults F.readings files.old files.new)
         0
-        (files_of (command.Serve inputs.now service.now))
+        (command_files (command.Serve inputs.now service.now))
         asked_value
         (asked_over (command.Serve inputs.now service.now)) result }
 {
@@ -240,8 +262,9 @@ fn load_for_service<F: Files>(
 }
 
 /// Reads the files of a command: CLASSES and RECODES, both before either is checked, then PTABLE,
-/// PEOPLE and the task's, if it has one, each checked before the next is read. It takes memory for
-/// each file while it is read, and for what it says.
+/// PEOPLE and the task's, if it has one, each checked before the next is read. For a generated
+/// population it reads none, and makes them. It takes memory for each file while it is read, and for
+/// what it says.
 pub fn load<F: Files>(alloc: Global, files: &mut F, command: &Command<'_>) -> Result<Asked, End>
     ensures first { IfOk result AskedIsFirst }
     ensures kind { IfOk result (λ asked. is_service (asked_value asked)
@@ -249,12 +272,13 @@ pub fn load<F: Files>(alloc: Global, files: &mut F, command: &Command<'_>) -> Re
     ensures loads { Loads
         (reading F.content F.faults F.readings files.old files.new)
         0
-        (files_of command.now)
+        (command_files command.now)
         asked_value
         (asked_over command.now) result }
 {
     match command {
         Command::Script { inputs, script } => load_for_script(alloc, files, inputs, script),
         Command::Serve { inputs, service } => load_for_service(alloc, files, inputs, service),
+        Command::Gen { population } => load_generated(alloc, population),
     }
 }

@@ -1,21 +1,26 @@
 // The top call.
 
-ghost use Rattle.std.specs.Prelude.{◌≡◌, ◌≤◌, ◌+◌, All, map, string_bytes, vec_len};
+ghost use Rattle.std.specs.Prelude.{◌≡◌, ◌≤◌, ◌+◌, All, IfSome, None, map, string_bytes, vec_len};
+ghost use Rattle.tb_base.specs.declared.status.Status.TheVariants as status;
 ghost use Rattle.tb_model.specs.Releases.{first_release};
 ghost use Rattle.tb_model.specs.Schemas.{shape_of};
 ghost use Rattle.tb_serve.specs.Stages.{IsFresh};
 ghost use Rattle.tb_top.specs.declared.service.TheConstants.{MOST_WORKERS};
 ghost use Rattle.tb_top.specs.Asking.{Script as AskedScript};
-ghost use Rattle.tb_top.specs.Endings.{IsEnded};
+ghost use Rattle.tb_top.specs.declared.endings.End.TheVariants as end;
 ghost use Rattle.tb_top.specs.Loading.{AskedIsFirst, IsFirst, asked_value, census_value};
-ghost use Rattle.tb_top.specs.Outputs.{IsAnswered, IsScriptAnswered};
+ghost use Rattle.tb_top.specs.Endings.{IsEnded, IsLineWritten};
+ghost use Rattle.tb_top.specs.Outputs.{IsAnswered, IsGenAnswered, IsScriptAnswered};
 ghost use Rattle.tb_top.specs.Services.{IsServiceAnswered};
 ghost use Rattle.tb_top.specs.Promises.{Keeps};
+ghost use Rattle.tb_top.specs.Summaries.{summary_line};
 
 use crate::command::read_command;
 use crate::endings::End;
 use crate::load::{Asked, Census, load};
+use crate::population::Population;
 use crate::service::Service;
+use crate::summary::write_summary;
 use std::alloc::Global;
 use std::marker::Brand;
 use std::sync::Wait;
@@ -23,7 +28,7 @@ use std::sync::ledger::Ledger;
 use std::thread::Threads;
 use tb_base::{Memory, Status, Steps};
 use tb_board::{Board, Named, Opening};
-use tb_io::{Files, Listen, Sink, Wrote};
+use tb_io::{Files, Listen, Sink, SureSink, Wrote};
 use tb_script::{RunEnd, Script, run_script};
 use tb_serve::{Port, serve};
 use tb_session::FIRST_CAPACITY;
@@ -91,6 +96,47 @@ fn answer_script<R: Threads + Wait + Sync, O: Sink, L: Ledger>(
     }
 }
 
+// Writes what the replies come to that a sink took, or, where it lost their text, that memory ran
+// out.
+fn end_summed<O: Sink>(population: &Population, replies: &SureSink, out: &mut O) -> Status
+    ensures told { IfSome replies.now (λ text. IsLineWritten status.Done
+        (summary_line population.now text) result (O.faults out.old) (O.faults out.new)
+        (O.taken out.old) (O.taken out.new)) }
+    ensures lost { replies.now ≡ None → IsEnded end.Memory result
+        (O.faults out.old) (O.faults out.new) (O.taken out.old) (O.taken out.new) }
+{
+    match replies.text() {
+        Ok(text) => match write_summary(population, text, out) {
+            Wrote::All => Status::Done,
+            Wrote::Failed => Status::WriteFault,
+        },
+        Err(Memory) => end_by(&End::Memory, out),
+    }
+}
+
+// Answers the lines of the script of a generated population into a sink of its own, and writes what
+// the replies come to.
+fn sum_up<R: Threads + Wait + Sync, O: Sink, L: Ledger>(
+    rt: &R,
+    alloc: Global,
+    population: &Population,
+    census: Census,
+    script: &Script,
+    out: &mut O,
+    steps: &mut Steps<L>,
+) -> Status
+    requires { IsFirst census }
+    ensures { IsGenAnswered population.now (census_value census) script.now result
+        (O.faults out.old) (O.faults out.new) (O.taken out.old) (O.taken out.new)
+        steps.old steps.new }
+{
+    let mut replies = SureSink::new(alloc);
+    match answer_script(rt, alloc, census, script, &mut replies, steps) {
+        Status::Done => end_summed(population, &replies, out),
+        _ => end_by(&End::Memory, out),
+    }
+}
+
 // Serves sessions over a census.
 fn serve_census<R: Threads + Wait + Sync, O: Sink, N: Listen + Send>(
     rt: &R,
@@ -142,6 +188,11 @@ fn answer<R: Threads + Wait + Sync, O: Sink, N: Listen + Send, L: Ledger>(
             answer_script(rt, alloc, census, &script, out, steps)
         }
         Asked::Serve { census, service } => serve_census(rt, alloc, census, &service, out, net),
+        Asked::Gen {
+            population,
+            census,
+            script,
+        } => sum_up(rt, alloc, &population, census, &script, out, steps),
     }
 }
 
@@ -152,15 +203,19 @@ fn answer<R: Threads + Wait + Sync, O: Sink, N: Listen + Send, L: Ledger>(
 /// script is written into `out`. With `serve CLASSES RECODES PTABLE PEOPLE THRESHOLD PORT WORKERS
 /// SESSIONS` the listeners are bound, the first to PORT for the custodian and one for each worker
 /// to the ports after it, and each worker serves sessions in a thread of its own, one after
-/// another; in the end `out` takes how many each had. Other arguments are refused. A printed table
-/// is the perturbed table counted from scratch over the release of its number, to which the
-/// custodian's lines before it led, and a query is refused for the first fault of its text,
-/// whatever cubes are kept. A line that finds no memory gets the reply `memory`, and the next line
-/// is answered. The counter rises by how many records and changes are lent: for a table the
-/// release's records at most once, or, where a cube is kept, the changes that it is behind. It
-/// takes memory for the files, for what they say, for one table at a time, for at most 64 cubes or
-/// as many as `cache K` says, for the edits that are held, and for the next release while it is
-/// made.
+/// another; in the end `out` takes how many each had. With `gen N START` no file is read: the
+/// replies are those that `script` would write over the generated files of N persons, and `out`
+/// takes how many lines and bytes they have, and the sum of their byte values. Other arguments are
+/// refused.
+///
+/// A printed table is the perturbed table counted from scratch over the release of its number, to
+/// which the custodian's lines before it led, and a query is refused for the first fault of its
+/// text, whatever cubes are kept. A line that finds no memory gets the reply `memory`, and the next
+/// line is answered. The counter rises by how many records and changes are lent: for a table the
+/// release's records at most once, or, where a cube is kept, the changes that it is behind. It takes
+/// memory for the files, for what they say, for one table at a time, for at most 64 cubes or as many
+/// as `cache K` says, for the edits that are held, for the next release while it is made, and with
+/// `gen` for the replies.
 pub fn tablebuilder<F: Files, O: Sink, N: Listen + Send, L: Ledger>(
     rt: &(impl Threads + Wait + Sync),
     alloc: Global,

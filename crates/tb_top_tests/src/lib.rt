@@ -1,9 +1,14 @@
-//! Tests of the top call over files and a sink in memory: worked runs and scripts, readings and
-//! sinks that fail, tables of many places, and calls with ample memory.
+//! Tests of the top call over files and a sink in memory: worked runs and scripts, generated
+//! populations, readings and sinks that fail, tables of many places, arguments at each edge, and
+//! calls with ample memory.
 #![tactic(auto)]
 
 #[cfg(test)]
+mod arguments;
+#[cfg(test)]
 mod faults;
+#[cfg(test)]
+mod generated;
 #[cfg(test)]
 mod large;
 #[cfg(test)]

@@ -2,6 +2,7 @@
 
 use super::running::{Run, WITH_RECODES, WITHOUT_RECODES, is_so};
 use std::test::Fail;
+use tb_small::{CLASSES, PEOPLE, PTABLE};
 
 const SEX: &[u8] = b"release 0\nSEX,count\n1,1\n2,2\n.\n";
 
@@ -23,7 +24,7 @@ type Over = (
     &'static [u8],
 );
 
-static RUNS: [Over; 39] = [
+static RUNS: [Over; 27] = [
     ("one_variable", WITHOUT_RECODES, &[], 0, SEX),
     ("one_variable", WITH_RECODES, &[], 0, SEX),
     (
@@ -165,116 +166,37 @@ static RUNS: [Over; 39] = [
         b"fault script 3\n",
     ),
     (
-        "arguments",
-        "script classes - ptable people 1000001 script",
-        &[],
-        2,
-        USAGE,
-    ),
-    (
-        "arguments",
+        "a_threshold_above_all_counts",
         "script classes - ptable people 1000000 script",
         &[],
         0,
         b"release 0\nSEX,count\n1,c\n2,c\n.\n",
     ),
     (
-        "arguments",
+        "a_threshold_with_a_zero_in_front",
         "script classes - ptable people 01 script",
         &[],
         0,
         SEX,
     ),
     (
-        "arguments",
-        "script classes  ptable people 0 script",
-        &[],
-        2,
-        USAGE,
+        "files_named_as_commands",
+        "script help - gen script 0 serve",
+        &[
+            ("help", CLASSES),
+            ("gen", PTABLE),
+            ("script", PEOPLE),
+            ("serve", b"a table SEX\n"),
+        ],
+        0,
+        SEX,
     ),
     (
-        "arguments",
-        "script classes -recodes ptable people 0 script",
-        &[],
-        2,
-        USAGE,
-    ),
-    (
-        "arguments",
-        "script classes - ptable people 0 -script",
-        &[],
-        2,
-        USAGE,
-    ),
-    (
-        "arguments",
-        "script classes - ptable people 0 script script",
-        &[],
-        2,
-        USAGE,
-    ),
-    (
-        "arguments",
-        "Script classes - ptable people 0 script",
-        &[],
-        2,
-        USAGE,
-    ),
-    (
-        "arguments_of_a_service",
-        "serve classes - ptable people 0 5000 1",
-        &[],
-        2,
-        USAGE,
-    ),
-    (
-        "arguments_of_a_service",
-        "serve classes - ptable people 0 5000 1 1 1",
-        &[],
-        2,
-        USAGE,
-    ),
-    (
-        "arguments_of_a_service",
-        "serve classes - ptable people 0 0 1 1",
-        &[],
-        2,
-        USAGE,
-    ),
-    (
-        "arguments_of_a_service",
-        "serve classes - ptable people 0 65520 1 1",
-        &[],
-        2,
-        USAGE,
-    ),
-    (
-        "arguments_of_a_service",
-        "serve classes - ptable people 0 5000 0 1",
-        &[],
-        2,
-        USAGE,
-    ),
-    (
-        "arguments_of_a_service",
-        "serve classes - ptable people 0 5000 17 1",
-        &[],
-        2,
-        USAGE,
-    ),
-    (
-        "arguments_of_a_service",
-        "serve classes - ptable people 0 5000 1 0",
-        &[],
-        2,
-        USAGE,
-    ),
-    (
-        "arguments_of_a_service",
-        "serve classes - ptable people 0 5000 1 1000001",
-        &[],
-        2,
-        USAGE,
+        "recodes_named_none",
+        "script classes none ptable people 0 script",
+        &[("none", b"")],
+        3,
+        b"fault recodes 1 BadHeader 0\n",
     ),
     (
         "a_service_without_sessions",

@@ -1,0 +1,118 @@
+-- What a generated population asks for, by steps over its files in memory.
+use Rattle.std.proofs.Common.{◌≡◌, ◌≢◌, ◌∙◌, ap, sym, subst, refl, ℕ, List, [], Option, Some, None, Result, Ok, Err, false, true≢false, arith}
+use Rattle.std.specs.Prelude.{IfSome, bytes_eq, codes, unwrap_or}
+use Rattle.std.proofs.lemmas.Slice.Eq.{bytes_eq-Decides}
+use Rattle.tb_gen.specs.Generated.{generated_classes, generated_people, generated_ptable, generated_recodes, generated_script}
+use Rattle.tb_io.specs.Faults.{HasRisen}
+use Rattle.tb_io.specs.HeldFiles.{HasHeld, HeldFiles, bytes_or_none}
+use Rattle.tb_top.specs.declared.command.Command.TheVariants as command
+use Rattle.tb_top.specs.declared.command.Inputs.{Inputs}
+use Rattle.tb_top.specs.declared.load.Asked.{Asked}
+use Rattle.tb_top.specs.declared.endings.Input.{Input}
+use Rattle.tb_top.specs.declared.endings.Input.TheVariants as input
+use Rattle.tb_top.specs.declared.endings.End.{End}
+use Rattle.tb_top.specs.declared.endings.End.TheVariants as end
+use Rattle.tb_top.specs.Asking.{Contents, Gen, script_over}
+use Rattle.tb_top.specs.Commands.{NamedFile, command_files}
+use Rattle.tb_top.specs.Endings.{input_name}
+use Rattle.tb_top.specs.GeneratedFiles.{HoldGenerated, generated_contents, generated_inputs}
+use Rattle.tb_top.specs.Loading.{Hold, Loads, Makes, Reading, asked_value}
+use Rattle.tb_top.specs.Populations.{Population}
+use Rattle.tb_top.proofs.LoadSteps.{contents_same}
+use Rattle.tb_top.proofs.Telling.{always_told}
+
+-- texts that the test tells apart
+differ : (a b : List ℕ) → bytes_eq a b ≡ false → a ≢ b
+differ a b apart same = true≢false (sym ((bytes_eq-Decides a b).1 same) ∙ apart)
+
+-- bytes are held under a name, by other names of both
+pub held-as : (before after : HeldFiles) (name bytes name' bytes' : List ℕ) → name ≡ name' → bytes ≡ bytes' → HasHeld before after name bytes
+    → HasHeld before after name' bytes'
+held-as before after name bytes name' bytes' n b h = rw (← n, ← b) h
+
+-- what is held for each file, one after another, stands under its own name
+pub hold-all : (a b c d e f : HeldFiles) (p : Population) → HasHeld a b (input_name input.Classes) generated_classes
+    → HasHeld b c (input_name input.Recodes) generated_recodes → HasHeld c d (input_name input.Ptable) (generated_ptable p.start)
+    → HasHeld d e (input_name input.People) (generated_people p.persons p.start)
+    → HasHeld e f (input_name input.Script) (generated_script p.persons p.start) → HoldGenerated p f
+hold-all a b c d e f p one two three four five input.Classes =
+    five.others (input_name input.Classes) (differ (codes "classes") (codes "script") refl)
+    ∙ four.others (input_name input.Classes) (differ (codes "classes") (codes "people") refl)
+    ∙ three.others (input_name input.Classes) (differ (codes "classes") (codes "ptable") refl)
+    ∙ two.others (input_name input.Classes) (differ (codes "classes") (codes "recodes") refl)
+    ∙ one.here
+hold-all a b c d e f p one two three four five input.Recodes =
+    five.others (input_name input.Recodes) (differ (codes "recodes") (codes "script") refl)
+    ∙ four.others (input_name input.Recodes) (differ (codes "recodes") (codes "people") refl)
+    ∙ three.others (input_name input.Recodes) (differ (codes "recodes") (codes "ptable") refl)
+    ∙ two.here
+hold-all a b c d e f p one two three four five input.Ptable =
+    five.others (input_name input.Ptable) (differ (codes "ptable") (codes "script") refl)
+    ∙ four.others (input_name input.Ptable) (differ (codes "ptable") (codes "people") refl)
+    ∙ three.here
+hold-all a b c d e f p one two three four five input.People =
+    five.others (input_name input.People) (differ (codes "people") (codes "script") refl)
+    ∙ four.here
+hold-all a b c d e f p one two three four five input.Script =
+    five.here
+
+-- so they are the contents of the script that runs over them
+pub holds-generated : (p : Population) (files : HeldFiles) → HoldGenerated p files
+    → Hold (λ name. Some (bytes_or_none files name)) (command_files (command.Script generated_inputs (input_name input.Script)))
+    (generated_contents p)
+holds-generated p files held =
+    let at : (file : Input) → Some (unwrap_or (generated_contents p file) []) ≡ Some (bytes_or_none files (input_name file)) =
+    λ file. ap (λ (o : Option (List ℕ)). Some (unwrap_or o [])) (sym (held file)) in
+    (at input.Classes, (at input.Recodes, (at input.Ptable, (at input.People, (at input.Script, tt)))))
+
+-- what is true of told contents
+told : {A : Type 0} (P : A → Type 0) (o : Option A) (x : A) → o ≡ Some x → IfSome o P → P x
+told P o x same h = rw same at h
+
+-- a step over files that never fail makes what is defined over what they hold
+pub makes-of : {A B : Type 0} (view : A → B) (defined : Contents → Result B End) (contents : Contents)
+    (at : List ℕ → Option (List ℕ)) (files : List NamedFile) (place : ℕ) (result : Result A End) {saw : Reading} → saw.content ≡ Some at
+    → (HasRisen saw.faults saw.faults_after → ⊥) → Hold at files contents → Loads saw place files view defined result
+    → Makes view (defined contents) result
+makes-of view defined contents at files place (Ok x) {saw} content sure held h = told _ saw.content at content h.gives contents held
+makes-of view defined contents at files place (Err e) {saw} content sure held h =
+    let unread = λ (file : Input) (u : e ≡ end.Unread file). sure (h.risen file (ap (λ (x : End). Err x) u)) in (
+      λ u. h.usage (ap (λ (x : End). Err x) u),
+      unread,
+      λ ne. ap defined (sym (contents_same e unread contents)) ∙ told _ saw.content at content h.gives contents held ne,
+    )
+
+-- a step that reads no file
+pub loads-none : {A B : Type 0} (view : A → B) (defined : Result B End) (result : Result A End) (saw : Reading)
+    → saw.content_after ≡ saw.content → saw.faults_after ≡ saw.faults → saw.readings_after ≡ saw.readings → Makes view defined result
+    → Loads saw 0 [] view (λ _. defined) result
+loads-none view defined (Ok x) saw content faults readings makes = record {
+  usage = λ k. cc;
+  count = omega (arith, faults);
+  same = content;
+  gives = always_told _ saw.content (λ at contents held. makes);
+  risen = λ file k. cc;
+  within = λ file k. cc;
+  last = λ file k. cc;
+  all = λ y k. readings;
+}
+loads-none view defined (Err e) saw content faults readings (usage, unread, gives) = record {
+  usage = λ k. usage cc;
+  count = omega (arith, faults);
+  same = content;
+  gives = always_told _ saw.content (λ at contents held. gives);
+  risen = λ file k. absurd (unread file cc);
+  within = λ file k. absurd (unread file cc);
+  last = λ file k. absurd (unread file cc);
+  all = λ y k. cc;
+}
+
+-- files under the same names
+pub loads-as : (p : Population) (inputs inputs' : Inputs) (name name' : List ℕ) (result : Result Asked End) {saw : Reading}
+    → inputs ≡ inputs' → name ≡ name'
+    → Loads saw 0 (command_files (command.Script inputs name)) asked_value (script_over (Gen p) inputs) result
+    → Loads saw 0 (command_files (command.Script inputs' name')) asked_value (script_over (Gen p) inputs') result
+loads-as p inputs inputs' name name' result {saw} one two h =
+    let P : Inputs → Type 0 = λ i. Loads saw 0 (command_files (command.Script i name)) asked_value (script_over (Gen p) i) result in
+    let Q : List ℕ → Type 0 = λ n. Loads saw 0 (command_files (command.Script inputs' n)) asked_value (script_over (Gen p) inputs') result in
+    subst Q two (subst P one h)

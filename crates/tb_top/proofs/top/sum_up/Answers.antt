@@ -1,0 +1,13 @@
+use Rattle.tb_top.specs.Loading.{census_value}
+use Rattle.tb_top.proofs.Summing.{summed, unsummed}
+use Rattle.tb_top.proofs.top.sum_up.Goals as goal
+
+pub returns-in-Done : goal.returns-in-Done
+returns-in-Done g c =
+    summed c.args.population.now (census_value c.args.census) c.args.script.now _ _ _ _ _ _ _ c.answer_script.result _ c.in-Done.is
+    (rw c.new-replies.ensures at c.answer_script.ensures) c.end_summed.ensures.told c.end_summed.ensures.lost
+
+pub returns : goal.returns
+returns g c =
+    unsummed c.args.population.now (census_value c.args.census) c.args.script.now _ _ _ _ _ _ _ c.answer_script.result _ c.in_default.not-Done
+    (rw c.new-replies.ensures at c.answer_script.ensures) c.end_by.ensures.ended

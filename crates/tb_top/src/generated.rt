@@ -1,0 +1,72 @@
+// What a run over a generated population is asked for: what `script` would be asked for over the
+// generated files, which stand in memory and are read like any others.
+
+ghost use Rattle.std.specs.Prelude.{◌≡◌, IfOk, false};
+ghost use Rattle.tb_top.specs.declared.command.Command.TheVariants as command;
+ghost use Rattle.tb_top.specs.Asking.{Gen, generated_asked, is_service, script_over};
+ghost use Rattle.tb_top.specs.Commands.{command_files};
+ghost use Rattle.tb_top.specs.GeneratedFiles.{HoldGenerated};
+ghost use Rattle.tb_top.specs.Loading.{AskedIsFirst, Loads, Makes, asked_value, reading};
+
+use crate::command::{FileName, Inputs, generated_inputs};
+use crate::endings::{End, Input};
+use crate::load::{Asked, load_census, load_script};
+use crate::population::Population;
+use std::alloc::Global;
+use tb_base::Memory;
+use tb_gen::files_of;
+use tb_io::{Files, SureFiles};
+
+// The generated files in memory, each under the name that it has in a last line.
+fn hold_generated(alloc: Global, population: &Population) -> Result<SureFiles, Memory>
+    ensures { IfOk result (λ files. HoldGenerated population.now files) }
+{
+    let generated = files_of(alloc, population.persons(), population.start())?;
+    let mut files = SureFiles::new(alloc);
+    files.hold(Input::Classes.name(), &generated.classes)?;
+    files.hold(Input::Recodes.name(), &generated.recodes)?;
+    files.hold(Input::Ptable.name(), &generated.ptable)?;
+    files.hold(Input::People.name(), &generated.people)?;
+    files.hold(Input::Script.name(), &generated.script)?;
+    Ok(files)
+}
+
+// What files under these names ask for, as those of a population.
+fn load_from<F: Files>(
+    alloc: Global,
+    files: &mut F,
+    inputs: &Inputs<'_>,
+    script: &FileName<'_>,
+    population: &Population,
+) -> Result<Asked, End>
+    ensures first { IfOk result AskedIsFirst }
+    ensures kind { IfOk result (λ asked. is_service (asked_value asked) ≡ false) }
+    ensures loads { Loads
+        (reading F.content F.faults F.readings files.old files.new)
+        0
+        (command_files (command.Script inputs.now script.now))
+        asked_value
+        (script_over (Gen population.now) inputs.now) result }
+{
+    let census = load_census(alloc, files, inputs)?;
+    let script = load_script(alloc, files, script)?;
+    let population = population.copy();
+    Ok(Asked::Gen {
+        population,
+        census,
+        script,
+    })
+}
+
+/// What is asked for over the generated files of a population. It takes memory for the files, for
+/// each while it is read, and for what it says.
+pub fn load_generated(alloc: Global, population: &Population) -> Result<Asked, End>
+    ensures first { IfOk result AskedIsFirst }
+    ensures kind { IfOk result (λ asked. is_service (asked_value asked) ≡ false) }
+    ensures makes { Makes asked_value (generated_asked population.now) result }
+{
+    let mut files = hold_generated(alloc, population)?;
+    let inputs = generated_inputs();
+    let script = FileName::of(Input::Script.name());
+    load_from(alloc, &mut files, &inputs, &script, population)
+}

@@ -1,0 +1,109 @@
+// Lists of arguments at each edge of what is a command.
+
+use super::running::words_of;
+use std::alloc::Global;
+use std::test::Fail;
+use tb_base::Memory;
+use tb_top::read_command;
+
+// Arguments, which one blank parts, and whether they are a command's.
+type Row = (&'static str, bool);
+
+static ROWS: [Row; 78] = [
+    ("", false),
+    ("help", false),
+    ("help script", false),
+    ("--help", false),
+    ("Script classes - ptable people 0 script", false),
+    ("script", false),
+    ("script classes - ptable people 0", false),
+    ("script classes - ptable people 0 script", true),
+    ("script classes - ptable people 0 script script", false),
+    (" classes - ptable people 0 script", false),
+    ("script  - ptable people 0 script", false),
+    ("script classes  ptable people 0 script", false),
+    ("script classes -  people 0 script", false),
+    ("script classes - ptable  0 script", false),
+    ("script classes - ptable people  script", false),
+    ("script classes - ptable people 0 ", false),
+    ("script -x - ptable people 0 script", false),
+    ("script classes -x ptable people 0 script", false),
+    ("script classes - -x people 0 script", false),
+    ("script classes - ptable -x 0 script", false),
+    ("script classes - ptable people -1 script", false),
+    ("script classes - ptable people 0 -x", false),
+    ("script -- - ptable people 0 script", false),
+    ("script classes -- ptable people 0 script", false),
+    ("script - - ptable people 0 script", false),
+    ("script classes - - people 0 script", false),
+    ("script classes - ptable - 0 script", false),
+    ("script classes - ptable people - script", false),
+    ("script classes - ptable people 0 -", false),
+    ("script -- classes - ptable people 0 script", false),
+    ("-- script classes - ptable people 0 script", false),
+    ("script classes - ptable people 1000000 script", true),
+    ("script classes - ptable people 1000001 script", false),
+    ("script classes - ptable people 0001000000 script", true),
+    ("script classes - ptable people 00001000000 script", false),
+    ("script classes - ptable people +1 script", false),
+    ("script classes - ptable people 1x script", false),
+    ("script classes none ptable people 0 script", true),
+    ("script help script gen serve 0 help", true),
+    ("script a- b- c- d- 0 e-", true),
+    ("serve classes - ptable people 0 5000 1", false),
+    ("serve classes - ptable people 0 5000 1 1", true),
+    ("serve classes - ptable people 0 5000 1 1 1", false),
+    ("serve classes - ptable people 0  1 1", false),
+    ("serve classes - ptable people 0 5000  1", false),
+    ("serve classes - ptable people 0 5000 1 ", false),
+    ("serve classes - ptable people 0 -x 1 1", false),
+    ("serve classes - ptable people 0 5000 -- 1", false),
+    ("serve classes - ptable people 0 0 1 1", false),
+    ("serve classes - ptable people 0 1 1 1", true),
+    ("serve classes - ptable people 0 65519 1 1", true),
+    ("serve classes - ptable people 0 65520 1 1", false),
+    ("serve classes - ptable people 0 5000 0 1", false),
+    ("serve classes - ptable people 0 5000 16 1", true),
+    ("serve classes - ptable people 0 5000 17 1", false),
+    ("serve classes - ptable people 0 5000 1 0", false),
+    ("serve classes - ptable people 0 5000 1 1000000", true),
+    ("serve classes - ptable people 0 5000 1 1000001", false),
+    ("serve classes - ptable people 0 0000005000 1 1", true),
+    ("serve classes - ptable people 0 00000005000 1 1", false),
+    ("gen", false),
+    ("gen 1", false),
+    ("gen 1 1", true),
+    ("gen 1 1 1", false),
+    ("gen  1", false),
+    ("gen 1 ", false),
+    ("gen -1 1", false),
+    ("gen 1 -1", false),
+    ("gen 1 --", false),
+    ("gen 0 1", false),
+    ("gen 1000000 1", true),
+    ("gen 1000001 1", false),
+    ("gen 1 0", true),
+    ("gen 1 4294967295", true),
+    ("gen 1 4294967296", false),
+    ("gen 0000000001 0000000001", true),
+    ("gen 00000000001 1", false),
+    ("gen 1 00000000001", false),
+];
+
+fn rows() -> &'static [Row] {
+    &ROWS
+}
+
+fn are_commands(alloc: Global, arguments: &str) -> Result<bool, Memory> {
+    let words = words_of(alloc, arguments)?;
+    Ok(read_command(&words).is_some())
+}
+
+#[test]
+fn arguments_at_each_edge(rt: HostRuntime) -> Result<(), Fail> {
+    for (arguments, wanted) in rows() {
+        let are = are_commands(rt.alloc(), arguments)?;
+        assert_eq!(rt; are, *wanted, "{arguments}");
+    }
+    Ok(())
+}
