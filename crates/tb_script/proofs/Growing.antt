@@ -1,5 +1,5 @@
 -- What one more line makes of a script's parts.
-use Rattle.std.proofs.Common.{◌≡◌, ◌∙◌, ap, sym, subst, refl, ℕ, ◌≤◌, ◌+◌, List, [], ◌∷◌, ◌++◌, String, Global, string_bytes, length, map, take, drop, Some, arith, inl, inr, append-nil}
+use Rattle.std.proofs.Common.{◌≡◌, ◌∙◌, ap, sym, subst, refl, ℕ, ◌<◌, ◌≤◌, get_or, ◌+◌, ◌-◌, List, [], ◌∷◌, ◌++◌, String, Global, string_bytes, length, map, take, drop, Some, arith, inl, inr, append-nil}
 use Rattle.std.specs.Prelude.{All, bytes_eq, slice_get, fold}
 use Rattle.std.specs.List.{list_any}
 use Rattle.std.proofs.lemmas.Bool.{cases_Bool}
@@ -7,7 +7,9 @@ use Rattle.std.proofs.lemmas.List.{length-map, map-append, length-append, length
 use Rattle.std.proofs.lemmas.List.Elements.{All-head, All-push, All-tail, All-weaker}
 use Rattle.std.proofs.lemmas.List.Sums.{fold-append}
 use Rattle.std.proofs.lemmas.Option.{get_or_from_slice_get, slice_get_within}
+use Rattle.std.proofs.lemmas.List.Sorted.{IsNonDecreasingBy-push}
 use Rattle.std.proofs.Math.Seq.{drop-append_seam, take-length}
+use Rattle.std.specs.List.Sorted.{IsNonDecreasingBy}
 use Rattle.indexmap.specs.IndexSet.{insert_key}
 use Rattle.tb_script.specs.Parts.{AreKept, IsWithin, lane_names, line_at, parts_value}
 use Rattle.tb_script.specs.Scripts.{ScriptLine, ScriptValue, lanes_of}
@@ -113,9 +115,23 @@ module _ (old new : Parts) (name text : List ℕ) (n : ℕ) (kept : AreKept old)
       let last : P one = (omega (arith, new-names, slice_get_within (lane_names new) n name at), omega (arith, all_bytes), short) in
       subst (All P) (sym places) (All-push P old.places.items one before last)
 
-  pub kept-more : AreKept new
-  kept-more = record {
+  new-order : IsNonDecreasingBy (λ (p : Place). p.phase) new.places.items
+  new-order =
+      let last : (d : Place) → 0 < length old.places.items → (get_or old.places.items (length old.places.items - 1) d).phase ≤ old.phases = λ d some. kept.latest (length old.places.items - 1) d (omega (arith, some)) in
+      subst (IsNonDecreasingBy (λ (p : Place). p.phase)) (sym places) (IsNonDecreasingBy-push (λ (p : Place). p.phase) old.places.items one kept.order last)
+
+  new-latest : new.phases ≡ old.phases → All (λ (p : Place). p.phase ≤ new.phases) new.places.items
+  new-latest phases =
+      let P : Place → Type 0 = λ p. p.phase ≤ new.phases in
+      let before : All P old.places.items = subst (λ n. All (λ (p : Place). p.phase ≤ n) old.places.items) (sym phases) kept.latest in
+      let last : P one = omega (arith, phases) in
+      subst (All P) (sym places) (All-push P old.places.items one before last)
+
+  pub kept-more : new.phases ≡ old.phases → AreKept new
+  kept-more phases = record {
     lanes = names ∙ ap (λ ns. insert_key bytes_eq ns name) kept.lanes ∙ sym (lanes-added (parts_value old).lines line) ∙ ap lanes_of (sym lines-more);
     few = few;
     within = new-within;
+    order = new-order;
+    latest = new-latest phases;
   }

@@ -1,6 +1,7 @@
 -- A script's parts as the definitions see them.
 use Rattle.std.specs.Prelude.{◌≡◌, ◌+◌, ◌<◌, ◌≤◌, ℕ, List, [], map, drop, take, length, All}
 use Rattle.std.specs.Prelude.{slice_index_or, string_bytes}
+use Rattle.std.specs.List.Sorted.{IsNonDecreasingBy}
 use Rattle.tb_script.specs.Scripts.{ScriptLine, ScriptValue, lanes_of}
 use Rattle.tb_script.specs.declared.limits.TheConstants.{MOST_LANES}
 use Rattle.tb_io.specs.declared.limits.TheConstants.{MOST_LINE_BYTES}
@@ -32,9 +33,11 @@ IsWithin lanes bytes place =
     (place.lane < lanes) × (place.start + place.len ≤ bytes) × (place.len ≤ MOST_LINE_BYTES)
 
 -- What is true of the parts of every script: their names are the lines' lanes, there are not too
--- many, and each place lies within.
+-- many, each place lies within, and phase comes after phase.
 pub record AreKept (parts : Parts) : Type 0 where
   pub lanes : lane_names parts ≡ lanes_of (parts_value parts).lines
   pub few : length parts.lanes.keys ≤ MOST_LANES
   pub within :
       All (IsWithin (length parts.lanes.keys) (length parts.texts.items)) parts.places.items
+  pub order : IsNonDecreasingBy (λ (p : Place). p.phase) parts.places.items
+  pub latest : All (λ p. p.phase ≤ parts.phases) parts.places.items

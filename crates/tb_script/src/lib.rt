@@ -6,7 +6,7 @@
 //! (what a file says, or its first bad line), `Parts` (how a script is kept), `WholeFiles` (what
 //! `laws` says of a whole file) and `Runs` (the replies to a script's lines). Of the proofs,
 //! `Ascii`, `Words` and `Names` serve one line, `Growing` and `Reading` the reading of a file,
-//! `WholeFiles` the laws and `Running` the run.
+//! `Phases` the lines up to a phase, `WholeFiles` the laws and `Running` the run.
 #![tactic(auto)]
 
 mod fault;
@@ -19,5 +19,5 @@ mod script;
 
 pub use fault::ScriptFault;
 pub use limits::{MOST_LANE_BYTES, MOST_LANES, MOST_SCRIPT_BYTES};
-pub use run::{RunEnd, run_script};
+pub use run::{RunEnd, analysts, confirm, run_script, tell};
 pub use script::Script;

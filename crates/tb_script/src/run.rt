@@ -27,8 +27,7 @@ use tb_release::Edits;
 use tb_session::{Party, Role, answer};
 use tb_text::Setup;
 
-/// How a script ends: each line was answered, a write failed, or the run is out of memory before
-/// the first line.
+/// How the run of a script ends: each line was answered, a write failed, or it is out of memory.
 #[derive(Clone, Copy, Debug, PartialEq, Eq)]
 pub enum RunEnd {
     Done,
@@ -36,8 +35,8 @@ pub enum RunEnd {
     Memory,
 }
 
-// An analyst's pass learns what the custodian's has seen.
-fn tell<B: Named>(board: &Board<B>, custodian: &mut Custodian, party: &mut Party)
+/// An analyst's pass learns what the custodian's has seen.
+pub fn tell<B: Named>(board: &Board<B>, custodian: &mut Custodian, party: &mut Party)
     requires front { custodian.old.pass.name ≡ B.name }
     requires analyst { IsAnalystOf B.name custodian.old.writer.start.shape party.old }
     ensures same { custodian.new ≡ custodian.old }
@@ -52,8 +51,9 @@ fn tell<B: Named>(board: &Board<B>, custodian: &mut Custodian, party: &mut Party
     }
 }
 
-// The custodian confirms an analyst's pass.
-fn confirm<B: Named>(board: &Board<B>, custodian: &mut Custodian, party: &mut Party)
+/// The custodian confirms an analyst's pass, which tells that it has seen a beginning of what the
+/// custodian wrote.
+pub fn confirm<B: Named>(board: &Board<B>, custodian: &mut Custodian, party: &mut Party)
     requires front { custodian.old.writer.name ≡ B.name }
     requires analyst { IsAnalystOf B.name custodian.old.writer.start.shape party.old }
     ensures same { custodian.new ≡ custodian.old }
@@ -127,8 +127,9 @@ fn answer_lane<B: Named, R: Threads + Wait + Sync, K: Sink, L: Ledger>(
     }
 }
 
-// A party for each lane, of which none has seen more than the custodian.
-fn analysts<B: Named>(
+/// An analyst for each lane, of which none has seen more than the custodian. It takes memory for the
+/// list.
+pub fn analysts<B: Named>(
     rt: &impl Wait,
     alloc: Global,
     board: &Board<B>,

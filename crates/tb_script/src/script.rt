@@ -1,7 +1,7 @@
 // A script, read whole.
 
 ghost use Rattle.std.specs.Prelude.{◌≡◌, ◌≢◌, ◌<◌, ◌≤◌, ℕ, Ok, Err, true, false};
-ghost use Rattle.std.specs.Prelude.{length, IfOk, IfErr, OnOk};
+ghost use Rattle.std.specs.Prelude.{[], length, slice_index_or, IfOk, IfErr, OnOk};
 ghost use Rattle.tb_script.specs.Parts.{AreKept, parts_value};
 ghost use Rattle.tb_script.specs.Scripts.{is_bad, lanes_of, nth_line, role_of_lane};
 ghost use Rattle.tb_script.specs.Scripts.{script_of, with_line};
@@ -147,9 +147,36 @@ impl Script {
     /// The number of the lane of line `i`, from 0, in the order of first appearance.
     pub fn lane_number(&self, i: usize) -> usize
         requires { i < length self.now.lines }
-        ensures { result < length (lanes_of self.now.lines) }
+        ensures few { result < length (lanes_of self.now.lines) }
+        ensures name { slice_index_or (lanes_of self.now.lines) result []
+            ≡ (nth_line self.now i).lane }
     {
         self.parts.places[i].lane as usize
+    }
+
+    /// The name of lane `n`, from 0, in the order of first appearance.
+    pub fn lane_name(&self, n: usize) -> &str
+        requires { n < length (lanes_of self.now.lines) }
+        ensures { result.now ≡ slice_index_or (lanes_of self.now.lines) n [] }
+    {
+        match self.parts.lanes.get_index(n) {
+            Some(name) => name.as_str(),
+            None => unreachable!(),
+        }
+    }
+
+    /// How many lines stand in the phases up to one of this number, from 1. They are the first lines,
+    /// since phase comes after phase.
+    pub fn lines_up_to(&self, phase: u32) -> usize
+        ensures within { (i : ℕ) → i < result → (nth_line self.now i).phase ≤ phase }
+        ensures rest { (i : ℕ) → result ≤ i → i < length self.now.lines
+            → phase < (nth_line self.now i).phase }
+        ensures few { result ≤ length self.now.lines }
+    {
+        let _ = &self.parts.lanes;
+        self.parts
+            .places
+            .partition_point(|place| place.phase <= phase)
     }
 
     /// The bytes of line `i`, from 0: what follows the blanks after its lane's name.
