@@ -1,6 +1,6 @@
 //! Tests of the sessions of several ports over one board. By the top call: clients that wait for
-//! each other's replies. By `tb_serve` alone: many sessions beside publications, listeners that
-//! fail, and sessions over loopback whose clients go away.
+//! each other's replies, and listeners that fail. By `tb_serve` alone: many sessions beside
+//! publications, and sessions over loopback whose clients go away.
 #![tactic(auto)]
 
 #[cfg(test)]
