@@ -2,20 +2,22 @@
 //! with nothing but std, and no proofs.
 //!
 //!     baseline script CLASSES RECODES PTABLE PEOPLE THRESHOLD SCRIPT
+//!     baseline threads CLASSES RECODES PTABLE PEOPLE THRESHOLD SCRIPT
 //!
 //! It reads whole files, CSV with quotes, finds codes in hash maps, keeps the persons in a set and
 //! the records in a list, and counts the table of any query by one scan of the list into a dense
 //! array: a record is put into its own place and, with totals, into each margin where it lies. It
 //! keeps the array of each query until a batch is published or the custodian clears them. For edits
 //! it keeps a hash map from persons to places and one of all keys; a batch is made on a copy of the
-//! list and of the places, which then stand in place of the old ones. It prints what the product
-//! prints. A file, a query or an edit at fault ends it with a message and status 1.
+//! list and of the places, which then stand in place of the old ones. With `threads` each processor
+//! counts a part of the list, and the arrays are added up. It prints what the product prints. A
+//! file, a query or an edit at fault ends it with a message and status 1.
 
 use std::borrow::Cow;
 use std::collections::{HashMap, HashSet};
 use std::error::Error;
 use std::io::{self, BufWriter, Write};
-use std::{env, fs};
+use std::{env, fs, thread};
 
 type Outcome<T> = Result<T, Box<dyn Error>>;
 
@@ -434,6 +436,25 @@ fn count(query: &Query, records: &[Record]) -> Vec<Cell> {
     cells
 }
 
+/// The same, of which each processor counts a part of the records in a thread of its own.
+fn count_by_threads(query: &Query, records: &[Record]) -> Vec<Cell> {
+    let processors = thread::available_parallelism().map_or(1, usize::from);
+    let size = records.len().div_ceil(processors).max(1);
+    let mut cells = vec![Cell::default(); query.sizes().iter().product()];
+    thread::scope(|scope| {
+        let spawn = |part| scope.spawn(move || count(query, part));
+        let parts: Vec<_> = records.chunks(size).map(spawn).collect();
+        for part in parts {
+            let counted = part.join().expect("no thread panics");
+            for (cell, more) in cells.iter_mut().zip(counted) {
+                cell.count += more.count;
+                cell.key = cell.key.wrapping_add(more.key);
+            }
+        }
+    });
+    cells
+}
+
 fn print_field(out: &mut impl Write, text: &str) -> io::Result<()> {
     if text.contains(['"', ',', '\r', '\n']) {
         write!(out, "\"{}\",", text.replace('"', "\"\""))
@@ -572,14 +593,16 @@ fn print_table(
 }
 
 fn main() -> Outcome<()> {
-    let usage = "usage: baseline script CLASSES RECODES PTABLE PEOPLE THRESHOLD SCRIPT";
+    let usage = "usage: baseline script|threads CLASSES RECODES PTABLE PEOPLE THRESHOLD SCRIPT";
     let words: Vec<String> = env::args().skip(1).collect();
     let [command, classes, recodes, ptable, people, threshold, script] = words.as_slice() else {
         return Err(usage.into());
     };
-    if command != "script" {
-        return Err(usage.into());
-    }
+    let count_all = match command.as_str() {
+        "script" => count,
+        "threads" => count_by_threads,
+        _ => return Err(usage.into()),
+    };
     let threshold = number_up_to(threshold.as_bytes(), 1_000_000)?;
     let schema = read_classes(&fs::read(classes)?)?;
     let recodes = match recodes.as_str() {
@@ -610,7 +633,7 @@ fn main() -> Outcome<()> {
             (_, line) => {
                 let query = Query::read(line, &groupings)?;
                 if !kept.contains_key(line) {
-                    kept.insert(line.to_string(), count(&query, &release.records));
+                    kept.insert(line.to_string(), count_all(&query, &release.records));
                 }
                 print_table(&mut out, &query, release.number, &kept[line], &pvalues, threshold)?;
             }

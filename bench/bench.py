@@ -1,14 +1,17 @@
 #!/usr/bin/env python3
 """Measures the program beside the plain one and prints tables of medians, spreads and ratios.
 
-    bench.py PROGRAM BASELINE
+    bench.py PROGRAM BASELINE [EARLIER]
 
-Both run over the same generated input, in turn, and their outputs must be equal byte by byte. A
-ratio is the median of the ratios of runs that followed each other, so that what slows the machine
-for a while slows both sides of it. What a further table takes is what a script of many tables takes
+Both run over the same generated input, in turn, and their outputs must be equal byte by byte. Where
+the program counts by threads it also runs on one processor alone, and the plain one also with
+threads of its own; with EARLIER, an earlier program runs on one processor beside this one. A ratio
+is the median of the ratios of runs that followed each other, so that what slows the machine for a
+while slows both sides of it. What a further table takes is what a script of many tables takes
 beyond a script of one. A table is cold where the custodian clears what is kept before it; else the
-program may find its cube, and the plain one its array, at hand. Nothing here fails because of a
-time: a target that is missed is printed.
+program may find its cube, and the plain one its array, at hand. Lanes in threads are measured where
+the program has them, beside the same lines in a script. Nothing here fails because of a time: a
+target that is missed is printed.
 """
 import filecmp
 import itertools
@@ -91,7 +94,18 @@ RUNS, LOADING_RUNS, LONG_RUNS = 5, 15, 3
 TURNS = 31
 FIVES = ("TENURE", "SECOND", "THIRD", "FOURTH")
 PROGRAM, PLAIN = "program", "baseline"
+# The program, and an earlier one, on one processor; and the plain one with threads.
+ALONE, EARLIER, THREADS = "program-alone", "earlier-alone", "baseline-threads"
+# The queries whose cold tables are counted by threads, with the most that they may take of one
+# processor's time, and the most that one processor may take beside the earlier program.
+BY_THREADS = {MARGINS: 0.5, LARGEST: 0.6}
+BESIDE_EARLIER = 1.03
+FEWEST_PROCESSORS = 4
+# Lanes, the tables of each, and the most of a script's time that they may take.
+LANES, TABLES_A_LANE, LANES_BESIDE_SCRIPT = 4, 10_000, 0.45
 MIB = 1024 * 1024
+# The status of arguments that are none of the program's.
+USAGE = 2
 
 
 class Case:
@@ -103,6 +117,8 @@ class Case:
         self.before, self.count = before, count
         # The plain program refuses no query.
         self.whos = [PROGRAM] if queries == REFUSED else [PROGRAM, PLAIN]
+        if persons == LARGE and before == COLD and queries in BY_THREADS:
+            self.whos += [ALONE, EARLIER, THREADS]
         is_loading = count == ONE and persons == LARGE and queries == ONE_DIMENSION
         is_long = queries == LARGEST and before == KEPT and persons == LARGE and count > ONE
         self.runs = LOADING_RUNS if is_loading else LONG_RUNS if is_long else RUNS
@@ -112,8 +128,8 @@ class Case:
     def median(self, who):
         return statistics.median(self.seconds[who])
 
-    def ratio(self):
-        return median_ratio(self.seconds[PROGRAM], self.seconds[PLAIN])
+    def ratio(self, ours=PROGRAM, other=PLAIN):
+        return median_ratio(self.seconds[ours], self.seconds[other])
 
     def name(self):
         groups = {ONE_DIMENSION: "one dimension", TWO_DIMENSIONS: "two dimensions"}
@@ -174,8 +190,18 @@ def input_words(folder):
     return [*files, str(THRESHOLD)]
 
 
-def words_of(program, folder, script):
-    return [program, "script", *input_words(folder), script]
+def words_of(program, folder, script, command="script"):
+    return [program, command, *input_words(folder), script]
+
+
+def words_by(programs, who, folder, script):
+    """How a program runs over a script, as one of those that are compared."""
+    if who == THREADS:
+        return words_of(programs[PLAIN], folder, script, "threads")
+    if who in (ALONE, EARLIER):
+        program = programs[PROGRAM if who == ALONE else EARLIER]
+        return ["taskset", "-c", "0", *words_of(program, folder, script)]
+    return words_of(programs[who], folder, script)
 
 
 def seconds_of(words, path):
@@ -205,7 +231,8 @@ def peak_of(words):
 def measure(case, programs, folder):
     script = f"{folder}/script.txt"
     make_script(script, case)
-    words = {who: words_of(programs[who], folder, script) for who in case.whos}
+    case.whos = [who for who in case.whos if who != EARLIER or EARLIER in programs]
+    words = {who: words_by(programs, who, folder, script) for who in case.whos}
     for _ in range(case.runs):
         for who in case.whos:
             case.seconds[who].append(seconds_of(words[who], f"{folder}/{who}.out"))
@@ -281,6 +308,51 @@ def generated(program, folder):
     yield ("that of `script`, MiB", peak_of(words[script]) / MIB, None)
 
 
+def prefixed(lane, line):
+    return f"{lane} {line}\n"
+
+
+def measure_lanes(program, folder):
+    """What many tables in some lanes take beside the same lines of a script, each without what one
+    table takes, run by run; none where the program has no lanes."""
+    query = f"table {MARGINS[0]}"
+    names = [f"lane{number}" for number in range(LANES)]
+    lines = [prefixed(name, query) for name in names for _ in range(TABLES_A_LANE)]
+    words = {}
+    for command, count in itertools.product(("script", "lanes"), (ONE, len(lines))):
+        path = f"{folder}/lanes-{count}.txt"
+        with open(path, "w", encoding="ascii") as out:
+            out.writelines(lines[:count])
+        words[command, count] = words_of(program, folder, path, command)
+    path = f"{folder}/lanes.out"
+    with open(path, "wb") as out:
+        told = subprocess.run(words["lanes", ONE], stdout=out, check=False)
+    if told.returncode == USAGE:
+        return []
+    table = reply_of(words["script", ONE], path)
+    whole = b"phase 1\n" + b"".join(
+        b"lane %s\n" % name.encode() + table * TABLES_A_LANE for name in names
+    )
+    ratios = []
+    for _ in range(RUNS):
+        took = {}
+        for command in ("script", "lanes"):
+            one, many = (seconds_of(words[command, n], path) for n in (ONE, len(lines)))
+            took[command] = many - one
+        with open(path, "rb") as out:
+            if out.read() != whole:
+                sys.exit("bench: lanes print other tables than a script")
+        ratios.append(took["lanes"] / took["script"])
+    return ratios
+
+
+def reply_of(words, path):
+    """What a run prints."""
+    seconds_of(words, path)
+    with open(path, "rb") as out:
+        return out.read()
+
+
 def spread(seconds):
     return f"{statistics.median(seconds) * 1e3:.0f} ({min(seconds) * 1e3:.0f} to {max(seconds) * 1e3:.0f})"
 
@@ -310,8 +382,8 @@ class Further:
     def median(self, who):
         return statistics.median(self.each[who])
 
-    def ratio(self):
-        return median_ratio(self.each[PROGRAM], self.each[PLAIN])
+    def ratio(self, ours=PROGRAM, other=PLAIN):
+        return median_ratio(self.each[ours], self.each[other])
 
     def row(self, most):
         times = [f"{self.median(who) * 1e3:.3f} ms" for who in (PROGRAM, PLAIN)]
@@ -344,7 +416,7 @@ def targets(first, further, shuffled):
     yield further[LARGE, RECODED, COLD].row(0.35)
     yield further[LARGE, FILTERED, COLD].row(0.55)
     yield further[LARGE, LARGEST, COLD].row(0.55)
-    yield further[LARGE, MARGINS, KEPT].row(0.8)
+    yield further[LARGE, MARGINS, KEPT].row(0.46)
     yield further[LARGE, LARGEST, KEPT].row(0.8)
     for batch in batches:
         yield batch.row(1.0)
@@ -370,6 +442,27 @@ def kept(further, behind):
     yield ("the cubes of all 15 sets of variables, MiB above one cube of 200 cells", (sets - loaded) / MIB, 4)
 
 
+def threads(further, lanes):
+    """What threads gain: cold tables beside those of one processor, of the plain program with
+    threads and of an earlier program, and lanes beside a script. The targets are for four
+    processors; on fewer there is none."""
+    processors = os.cpu_count() or 1
+    is_enough = processors >= FEWEST_PROCESSORS
+    on = f"on {processors} processors"
+    for queries, most in BY_THREADS.items():
+        cold = further[LARGE, queries, COLD]
+        name = f"{queries[0]}, cold, {on}"
+        yield (f"{name}: beside one processor", cold.ratio(PROGRAM, ALONE), most if is_enough else None)
+        yield (f"{name}: beside the plain program with threads", cold.ratio(PROGRAM, THREADS), None)
+        if EARLIER in cold.each:
+            what = f"{queries[0]}, cold, on one processor: beside the earlier program"
+            yield (what, cold.ratio(ALONE, EARLIER), BESIDE_EARLIER)
+    if lanes:
+        what = f"{LANES} lanes of {TABLES_A_LANE:,} kept tables each, {on}: beside a script"
+        most = LANES_BESIDE_SCRIPT if is_enough else None
+        yield (what, statistics.median(lanes), most)
+
+
 def texts(further):
     """What a line of text takes where there are no records, so all but the loop over them."""
     csv, fields = further[NONE, ("AGE",), KEPT], further[NONE, LARGEST, KEPT]
@@ -388,8 +481,10 @@ def machine():
     return f"{time.strftime('%Y-%m-%d')}, {os.cpu_count()} cores, {name}"
 
 
-def main(program, baseline):
+def main(program, baseline, earlier=None):
     programs = {PROGRAM: os.path.abspath(program), PLAIN: os.path.abspath(baseline)}
+    if earlier is not None:
+        programs[EARLIER] = os.path.abspath(earlier)
     first, further = {}, {}
     shuffled = Case(LARGE, SHUFFLED, ONE_DIMENSION, COLD, ONE)
     cases = [shuffled]
@@ -404,6 +499,7 @@ def main(program, baseline):
                 os.mkdir(folder)
                 make_input(folder, case.persons, case.order)
             measure(case, programs, folder)
+        lanes = measure_lanes(programs[PROGRAM], f"{top}/{LARGE}-{ASCENDING}")
         widen(f"{top}/{SMALL}-{ASCENDING}", f"{top}/wide")
         behind = {
             batch: seconds_behind(batch, programs[PROGRAM], f"{top}/wide")
@@ -420,6 +516,8 @@ def main(program, baseline):
     print_rows(targets(first, further, shuffled))
     print()
     print_rows(kept(further, behind))
+    print()
+    print_rows(threads(further, lanes))
     print()
     print_rows(texts(further))
     print()

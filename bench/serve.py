@@ -23,6 +23,8 @@ with its report once each port had its sessions. Nothing here fails because of a
 is missed is printed.
 """
 import contextlib
+import fcntl
+import functools
 import os
 import socket
 import statistics
@@ -49,7 +51,9 @@ SECONDS, MANY_SECONDS = 1, 3
 NO_LIMIT = 990_000
 # The sessions at one port in a run: one connection, one of four, tables and refused lines at once.
 SESSIONS_A_RUN = 4
-FIRST_PORT, LAST_PORT = 20_000, 32_000
+# Runs at the same time take blocks of so many ports each, whose files stay locked while they last.
+FIRST_PORT, LAST_PORT, BLOCK = 20_000, 32_000, 500
+LOCKS = []
 # A session asks for so many seconds at most, and what doesn't end within PATIENCE is killed.
 MOST_SECONDS, PATIENCE = 60, 120
 SMALL_INPUT = f"{HERE}/../examples/small"
@@ -71,12 +75,29 @@ def are_free(ports):
         return False
 
 
+@functools.cache
+def own_block():
+    """The first port of a block that no other run has: a lock on a file, which ends with the run,
+    says whose it is."""
+    for first in range(FIRST_PORT, LAST_PORT, BLOCK):
+        path = f"{tempfile.gettempdir()}/tablebuilder-ports-{first}"
+        try:
+            lock = open(path, "w", encoding="ascii")
+            fcntl.flock(lock, fcntl.LOCK_EX | fcntl.LOCK_NB)
+        except OSError:
+            continue
+        LOCKS.append(lock)
+        return first
+    sys.exit("bench: other runs have all ports")
+
+
 def free_ports(count):
-    """The first of so many free ports in a row."""
-    for first in range(FIRST_PORT, LAST_PORT, count):
+    """The first of so many free ports in a row, of this run's own."""
+    block = own_block()
+    for first in range(block, block + BLOCK - count + 1):
         if are_free(range(first, first + count)):
             return first
-    sys.exit(f"bench: no {count} ports in a row are free")
+    sys.exit(f"bench: no {count} ports in a row are free from {block} on")
 
 
 class Server:

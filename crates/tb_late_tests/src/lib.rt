@@ -1,10 +1,12 @@
-//! Tests of the sessions of several ports over one board: clients that wait for each other's
-//! replies, many sessions beside publications, listeners that fail, and sessions over loopback
-//! whose clients go away.
+//! Tests of the sessions of several ports over one board. By the top call: clients that wait for
+//! each other's replies, and listeners that fail. By `tb_serve` alone: many sessions beside
+//! publications, and sessions over loopback whose clients go away.
 #![tactic(auto)]
 
 #[cfg(test)]
 mod clients;
+#[cfg(test)]
+mod command;
 #[cfg(test)]
 mod failing;
 #[cfg(test)]
@@ -16,6 +18,6 @@ mod many;
 #[cfg(test)]
 mod running;
 #[cfg(test)]
-mod serving;
-#[cfg(test)]
 mod talks;
+#[cfg(test)]
+mod waiting;

@@ -1,9 +1,10 @@
-// Sessions over the small setup, whose clients wait for each other.
+// Sessions of the command `serve` whose clients wait for each other.
 
-ghost use Rattle.std.specs.Prelude.{◌≡◌, ◌<◌, None, false, All, IfOk, vec_len};
+ghost use Rattle.std.specs.Prelude.{◌≡◌, ◌+◌, None, false, All, IfOk, vec_len};
 ghost use Rattle.tb_serve.specs.Stages.{IsFresh};
+ghost use Rattle.tb_top.specs.declared.service.TheConstants.{MOST_WORKERS};
 
-use super::making::{first, setup};
+use super::command::run_command;
 use super::talks::{Part, Talk};
 use std::alloc::Global;
 use std::process::Abort;
@@ -12,30 +13,15 @@ use std::sync::{Arc, Wait};
 use std::test::Fail;
 use std::thread::Threads;
 use tb_base::{Memory, Status};
-use tb_io::{Listen, MemSink};
-use tb_serve::{Port, serve};
+use tb_io::MemSink;
+use tb_serve::Port;
+use tb_top::MOST_WORKERS;
 
-/// Serves up to so many sessions at each port, and returns how the call ended and what it wrote.
-pub fn serve_over<N: Listen + Send>(
-    rt: &(impl Threads + Wait + Sync),
-    alloc: Global,
-    workers: u32,
-    sessions: u32,
-    net: &mut Vec<Port<N>>,
-) -> Result<(Status, MemSink), Memory>
-    requires few { workers < 10 }
-    requires ports { workers < vec_len net.old }
-    requires fresh { All IsFresh net.old.items }
-{
-    let setup = setup(alloc)?;
-    let base = first(alloc, &setup)?;
-    let mut out = MemSink::new(alloc, 200)?;
-    let ports = net.as_mut_slice();
-    let status = serve(
-        rt, alloc, &setup, base, 5000, workers, sessions, &mut out, ports,
-    );
-    Ok((status, out))
-}
+// One worker, and one session at each port.
+const LATE: &str = "serve classes recodes ptable people 0 5000 1 1";
+
+// Two workers, and one session at each port.
+const CROSSED: &str = "serve classes recodes ptable people 0 5000 2 1";
 
 // A counter of replies.
 fn counter(alloc: Global) -> Result<Arc<AtomicU32>, Memory> {
@@ -89,21 +75,8 @@ fn talk_at(
     Ok(port_of(Talk::of(parts, other, sink, replies)))
 }
 
-// Two ports.
-fn two(alloc: Global, own: Port<Talk>, first: Port<Talk>) -> Result<Vec<Port<Talk>>, Memory>
-    requires own { IsFresh own }
-    requires first { IsFresh first }
-    ensures ports { IfOk result (λ net. vec_len net ≡ 2) }
-    ensures fresh { IfOk result (λ net. All IsFresh net.items) }
-{
-    let mut net = Vec::new(alloc);
-    net.push(own)?;
-    net.push(first)?;
-    Ok(net)
-}
-
-// Three ports.
-fn three(
+// These ports, and after them as many as a run has, where no session is to come.
+fn with_others(
     alloc: Global,
     own: Port<Talk>,
     first: Port<Talk>,
@@ -112,11 +85,16 @@ fn three(
     requires own { IsFresh own }
     requires first { IsFresh first }
     requires second { IsFresh second }
-    ensures ports { IfOk result (λ net. vec_len net ≡ 3) }
+    ensures ports { IfOk result (λ net. vec_len net ≡ MOST_WORKERS + 1) }
     ensures fresh { IfOk result (λ net. All IsFresh net.items) }
 {
-    let mut net = two(alloc, own, first)?;
+    let mut net = Vec::new(alloc);
+    net.push(own)?;
+    net.push(first)?;
     net.push(second)?;
+    for _ in 2..MOST_WORKERS {
+        net.push(port_of(Talk::none()))?;
+    }
     Ok(net)
 }
 
@@ -131,7 +109,7 @@ fn has_got(net: &[Port<Talk>], place: usize, bytes: &[u8]) -> bool {
 // The custodian and an analyst. The custodian waits for the analyst's first table, and then for the
 // second; the analyst waits for the reply to `publish`.
 fn late_ports(alloc: Global) -> Result<Vec<Port<Talk>>, Memory>
-    ensures ports { IfOk result (λ net. vec_len net ≡ 2) }
+    ensures ports { IfOk result (λ net. vec_len net ≡ MOST_WORKERS + 1) }
     ensures fresh { IfOk result (λ net. All IsFresh net.items) }
 {
     let own = counter(alloc)?;
@@ -140,12 +118,12 @@ fn late_ports(alloc: Global) -> Result<Vec<Port<Talk>>, Memory>
     let queries = parts_of(alloc, 0, b"table SEX\n", 2, b"table SEX\n")?;
     let custodian = talk_at(alloc, edits, &analyst, &own)?;
     let first = talk_at(alloc, queries, &own, &analyst)?;
-    two(alloc, custodian, first)
+    with_others(alloc, custodian, first, port_of(Talk::none()))
 }
 
 // Two analysts, each of whom waits for the other's first table.
 fn crossed_ports(alloc: Global) -> Result<Vec<Port<Talk>>, Memory>
-    ensures ports { IfOk result (λ net. vec_len net ≡ 3) }
+    ensures ports { IfOk result (λ net. vec_len net ≡ MOST_WORKERS + 1) }
     ensures fresh { IfOk result (λ net. All IsFresh net.items) }
 {
     let one = counter(alloc)?;
@@ -154,12 +132,12 @@ fn crossed_ports(alloc: Global) -> Result<Vec<Port<Talk>>, Memory>
     let first = talk_at(alloc, queries, &other, &one)?;
     let queries = parts_of(alloc, 0, b"table SEX\n", 1, b"table SEX\n")?;
     let second = talk_at(alloc, queries, &one, &other)?;
-    three(alloc, port_of(Talk::none()), first, second)
+    with_others(alloc, port_of(Talk::none()), first, second)
 }
 
 fn late_publication(rt: &(impl Threads + Wait + Abort + Sync), alloc: Global) -> Result<(), Fail> {
     let mut net = late_ports(alloc)?;
-    let (status, out) = serve_over(rt, alloc, 1, 1, &mut net)?;
+    let (status, out) = run_command(rt, alloc, LATE, &mut net)?;
     assert_eq!(rt; status, Status::Done);
     let own = b"held 1\npublished 1\nstats release 1 looks 2 hits 1 entries 1 capacity 64\n";
     assert!(rt; has_got(&net, 0, own));
@@ -177,7 +155,7 @@ fn sessions_share_cubes(rt: HostRuntime) -> Result<(), Fail> {
 
 fn crossed_sessions(rt: &(impl Threads + Wait + Abort + Sync), alloc: Global) -> Result<(), Fail> {
     let mut net = crossed_ports(alloc)?;
-    let (status, out) = serve_over(rt, alloc, 2, 1, &mut net)?;
+    let (status, out) = run_command(rt, alloc, CROSSED, &mut net)?;
     assert_eq!(rt; status, Status::Done);
     let twice = b"release 0\nSEX,count\n1,1\n2,2\n.\nrelease 0\nSEX,count\n1,1\n2,2\n.\n";
     assert!(rt; has_got(&net, 1, twice));
