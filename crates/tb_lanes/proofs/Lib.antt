@@ -1,0 +1,10 @@
+mod LineLemmas
+mod Names
+mod Lanes
+mod Answering
+mod Swapping
+mod Phasing
+mod Going
+mod Continuing
+mod SinkTexts
+mod Texts
