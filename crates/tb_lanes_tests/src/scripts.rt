@@ -1,0 +1,122 @@
+// Worked scripts, and a sink that fails.
+
+use super::making::{run, setup};
+use std::alloc::Global;
+use std::sync::Wait;
+use std::test::Fail;
+use std::thread::Threads;
+use tb_base::Memory;
+use tb_io::{MemSink, SureSink};
+use tb_script::RunEnd;
+use tb_text::Setup;
+
+// What a script shows, the script, and what is written.
+struct Row {
+    name: &'static str,
+    script: &'static [u8],
+    text: &'static [u8],
+}
+
+static ROWS: [Row; 6] = [
+    Row {
+        name: "no_line_at_all",
+        script: b"",
+        text: b"phase 1\n",
+    },
+    Row {
+        name: "phases_without_a_custodian",
+        script: b"a table SEX\nb table AREA\n--\nb table SEX\n",
+        text: b"phase 1\nlane a\nrelease 0\nSEX,count\n1,1\n2,2\n.\nlane b\nrelease 0\n\
+            AREA,count\nE1,2\nE2,1\n.\nphase 2\nlane b\nrelease 0\nSEX,count\n1,1\n2,2\n.\n",
+    },
+    // The edit is held from one phase to the next, and a lane without a line there learns of the
+    // publication too.
+    Row {
+        name: "held_edits_go_on",
+        script: b"custodian drop 104\n--\ncustodian publish\n--\na table SEX\n",
+        text: b"phase 1\nlane custodian\nheld 1\nphase 2\nlane custodian\npublished 1\nphase 3\n\
+            lane a\nrelease 1\nSEX,count\n1,1\n2,0\n.\n",
+    },
+    Row {
+        name: "empty_phases",
+        script: b"--\na table SEX\n--\n",
+        text: b"phase 1\nphase 2\nlane a\nrelease 0\nSEX,count\n1,1\n2,2\n.\nphase 3\n",
+    },
+    Row {
+        name: "comments_alone",
+        script: b"a # nothing is asked\nb publish\n",
+        text: b"phase 1\nlane a\nlane b\nrefused 2 Syntax 1\n",
+    },
+    Row {
+        name: "order_of_first_appearance",
+        script: b"b publish\n--\na publish\nb publish\n",
+        text: b"phase 1\nlane b\nrefused 2 Syntax 1\nphase 2\nlane b\nrefused 2 Syntax 1\n\
+            lane a\nrefused 2 Syntax 1\n",
+    },
+];
+
+fn rows() -> &'static [Row] {
+    &ROWS
+}
+
+// Whether a script's run writes one of two texts.
+fn writes<R: Threads + Wait + Sync>(
+    rt: &R,
+    alloc: Global,
+    setup: &Setup,
+    script: &[u8],
+    one: &[u8],
+    other: &[u8],
+) -> Result<bool, Memory> {
+    let mut sink = SureSink::new(alloc);
+    let end = run(rt, alloc, setup, script, &mut sink)?;
+    let text = sink.text()?;
+    Ok(end == RunEnd::Done && (text == one || text == other))
+}
+
+#[test]
+fn worked_scripts(rt: HostRuntime) -> Result<(), Fail> {
+    let setup = setup(rt.alloc())?;
+    for row in rows() {
+        assert!(&rt;
+            writes(&rt, rt.alloc(), &setup, row.script, row.text, row.text)?,
+            "{}",
+            row.name
+        );
+    }
+    Ok(())
+}
+
+// Who asks beside a publication sees the release before it or after it; who asks in the next phase
+// sees the one after it.
+#[test]
+fn ample_memory_is_enough(rt: HostRuntime) -> Result<(), Fail> {
+    let setup = setup(rt.alloc())?;
+    let script = b"custodian drop 104\ncustodian publish\nana table SEX\n--\nana table SEX\n";
+    let before = b"phase 1\nlane custodian\nheld 1\npublished 1\nlane ana\nrelease 0\nSEX,count\n\
+        1,1\n2,2\n.\nphase 2\nlane ana\nrelease 1\nSEX,count\n1,1\n2,0\n.\n";
+    let after = b"phase 1\nlane custodian\nheld 1\npublished 1\nlane ana\nrelease 1\nSEX,count\n\
+        1,1\n2,0\n.\nphase 2\nlane ana\nrelease 1\nSEX,count\n1,1\n2,0\n.\n";
+    assert!(&rt; writes(&rt, rt.alloc(), &setup, script, before, after)?);
+    Ok(())
+}
+
+// How a script's run ends in a sink of ten bytes, and whether it took these.
+fn is_cut<R: Threads + Wait + Sync>(
+    rt: &R,
+    alloc: Global,
+    setup: &Setup,
+    script: &[u8],
+    want: &[u8],
+) -> Result<bool, Memory> {
+    let mut sink = MemSink::new(alloc, 10)?;
+    let end = run(rt, alloc, setup, script, &mut sink)?;
+    Ok(end == RunEnd::WriteFault && sink.taken() == want)
+}
+
+#[test]
+fn a_sink_fails(rt: HostRuntime) -> Result<(), Fail> {
+    let setup = setup(rt.alloc())?;
+    assert!(&rt; is_cut(&rt, rt.alloc(), &setup, b"a publish\n", b"phase 1\nla")?);
+    Ok(())
+}
