@@ -54,6 +54,7 @@ fn input_named(word: &str) -> Option<Input> {
 fn inputs_of<'c, 'a>(command: &'c Command<'a>) -> Option<&'c Inputs<'a>> {
     match command {
         Command::Script { inputs, script: _ } => Some(inputs),
+        Command::Lanes { inputs, script: _ } => Some(inputs),
         Command::Serve { inputs, service: _ } => Some(inputs),
         Command::Gen { .. } => None,
     }
@@ -69,6 +70,7 @@ fn name_of<'a>(command: &Command<'a>, file: Input) -> Option<&'a str> {
         Input::People => Some(inputs.people.as_str()),
         Input::Script => match command {
             Command::Script { inputs: _, script } => Some(script.as_str()),
+            Command::Lanes { inputs: _, script } => Some(script.as_str()),
             Command::Serve { .. } | Command::Gen { .. } => None,
         },
     }
@@ -122,7 +124,7 @@ impl<'a> Refusal<'a> {
                     port: service.port(),
                     workers: service.workers(),
                 }),
-                Command::Script { .. } | Command::Gen { .. } => None,
+                Command::Script { .. } | Command::Lanes { .. } | Command::Gen { .. } => None,
             },
             Status::Schema
             | Status::Perturbation

@@ -11,7 +11,7 @@ use Rattle.tb_top.specs.declared.endings.End.TheVariants as end
 use Rattle.tb_top.specs.declared.command.Command.{Command}
 use Rattle.tb_top.specs.declared.command.Command.TheVariants as command
 use Rattle.tb_top.specs.declared.command.Inputs.{Inputs}
-use Rattle.tb_top.specs.Asking.{AskedValue, CensusValue, Gen, Script, Serve, asked_of, asked_over, contents_at, is_service}
+use Rattle.tb_top.specs.Asking.{AskedValue, CensusValue, Gen, Lanes, Script, Serve, asked_of, asked_over, contents_at, is_service}
 use Rattle.tb_top.specs.Calls.{Call, HasTaken, IsReadTo, NetFailed, ReadFailed, WriteFailed}
 use Rattle.tb_top.specs.Commands.{asks_to_serve, command_of, command_files, input_files, named}
 use Rattle.tb_top.specs.Endings.{IsEnded, IsLineWritten, last_line, status_of}
@@ -21,6 +21,7 @@ use Rattle.tb_top.specs.Promises.{EndsBy, IsCaused, IsDefined, IsLastLine, IsPri
 use Rattle.tb_top.specs.Outputs.{AreScriptReplies, IsAnswered, IsBegun, IsGenAnswered, IsOutput, IsScriptAnswered}
 use Rattle.tb_top.specs.Summaries.{summary_line}
 use Rattle.tb_top.proofs.PortLemmas.{all-unserved, same-idle}
+use Rattle.tb_top.proofs.LanesRun.{keeps_by_lanes}
 use Rattle.tb_top.proofs.Serving.{keeps_by_service}
 use Rattle.tb_top.proofs.Telling.{always_told, where_told}
 use Rattle.tb_script.specs.Scripts.{ScriptValue}
@@ -83,7 +84,7 @@ module _ (call : Call) (at : List ℕ → Option (List ℕ)) (same : call.ports_
 
   whole_by_end : (e : End) → (e ≢ end.Memory → EndsBy call at e) → IsWhole call at (status_of e) (last_line e)
   whole_by_end e ends = elim (memory_or_not e) [
-    | inl memory ↦ rw memory (refl, all-unserved call.ports call.ports_after same)
+    | inl memory ↦ rw memory (inl refl, all-unserved call.ports call.ports_after same)
     | inr (other, other_status) ↦
         let (net, write, done) = not_of_ends e in
         whole_by_status (status_of e) (last_line e) done write net other_status (e, ends other, refl, refl)
@@ -320,6 +321,8 @@ keeps_by_answer : (call : Call) (command : Command) (asked : AskedValue) (s : St
     → IfSome call.content (λ at. asked_of at call.words ≡ Ok asked) → All IsFresh call.ports → IsAnsweredBy call asked s → Keeps call s
 keeps_by_answer call command (Script census script) s named serves told fresh (same, answered) =
     keeps_by_script call command census script s named told fresh same answered
+keeps_by_answer call command (Lanes census script) s named serves told fresh (same, free, answered) =
+    keeps_by_lanes call command census script s named told free fresh same answered
 keeps_by_answer call command (Serve census service) s named serves told fresh answered =
     keeps_by_service call command census service s named (sym serves) told answered.0 fresh answered.1
 keeps_by_answer call command (Gen population census script) s named serves told fresh (same, answered) =
@@ -369,6 +372,7 @@ holds-inputs at (Some name) classes ptable people threshold = (refl, (refl, (ref
 
 holds : (at : List ℕ → Option (List ℕ)) (c : Command) → Hold at (command_files c) (contents_at at (command_files c))
 holds at (command.Script inputs script) = holds-files at inputs.recodes inputs.classes inputs.ptable inputs.people script inputs.threshold
+holds at (command.Lanes inputs script) = holds-files at inputs.recodes inputs.classes inputs.ptable inputs.people script inputs.threshold
 holds at (command.Serve inputs service) = holds-inputs at inputs.recodes inputs.classes inputs.ptable inputs.people inputs.threshold
 holds at (command.Gen population) = tt
 

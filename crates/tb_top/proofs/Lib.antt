@@ -2,6 +2,7 @@ pub mod Boards
 pub mod CommandWords
 pub mod Finishing
 pub mod Generating
+pub mod LanesRun
 pub mod LoadSteps
 pub mod PortLemmas
 pub mod Serving

@@ -12,7 +12,7 @@ use Rattle.tb_serve.specs.Ports.{PortValue}
 use Rattle.tb_serve.specs.Reports.{memory_line, net_line, report, some_failed}
 use Rattle.tb_serve.specs.Serves.{IsEnded, IsPortServed, Output, final_status, output}
 use Rattle.tb_serve.specs.Stages.{HasRisenSome, IsFresh, IsUntouched}
-use Rattle.tb_top.specs.Asking.{CensusValue, Serve, asked_of}
+use Rattle.tb_top.specs.Asking.{AskedValue, CensusValue, Serve, asked_of}
 use Rattle.tb_top.specs.Calls.{Call, HasTaken, NetFailed}
 use Rattle.tb_top.specs.Commands.{asks_to_serve, command_of}
 use Rattle.tb_top.specs.ServicePorts.{Service}
@@ -23,7 +23,7 @@ use Rattle.tb_top.proofs.PortLemmas.{each-idle, each-unserved, each-whole, idle-
 use Rattle.tb_top.proofs.Telling.{always_told, where_told}
 
 -- the statuses of a service whose last line was written
-abbrev IsFinal : Status → Type 0
+abbrev pub IsFinal : Status → Type 0
 IsFinal status.Done = Unit {0}
 IsFinal status.Memory = Unit {0}
 IsFinal status.NetFault = Unit {0}
@@ -36,23 +36,24 @@ IsFinal status.ReadFault = ⊥
 IsFinal status.WriteFault = ⊥
 
 -- what a call saw of its sink
-abbrev output_of : Call → Output
+abbrev pub output_of : Call → Output
 output_of call = output call.taken call.taken_after call.write_faults call.write_faults_after
 
--- a call that came to its service, whose last line is that of a final status
-module _ (call : Call) (command : Command) (census : CensusValue) (service : Service) (s final : Status) (text : List ℕ)
-    (named : command_of call.words ≡ Some command) (serves : asks_to_serve (Some command) ≡ true)
-    (told : IfSome call.content (λ at. asked_of at call.words ≡ Ok (Serve census service))) (free : call.steps_after ≡ call.steps)
+-- a call that came to its task, and whose text is one of a final status
+module _ (call : Call) (command : Command) (task : AskedValue) (s final : Status) (text : List ℕ)
+    (named : command_of call.words ≡ Some command)
+    (told : IfSome call.content (λ at. asked_of at call.words ≡ Ok task)) (free : call.steps_after ≡ call.steps)
     (is_final : IsFinal final) (failed : final ≡ status.NetFault → NetFailed call) (idle : All IsIdle call.ports_after)
-    (whole : (at : List ℕ → Option (List ℕ)) → asked_of at call.words ≡ Ok (Serve census service) → IsWhole call at final text) where
-  text_told : (at : List ℕ → Option (List ℕ)) → asked_of at call.words ≡ Ok (Serve census service)
+    (others : asks_to_serve (Some command) ≡ false → call.ports_after ≡ call.ports)
+    (whole : (at : List ℕ → Option (List ℕ)) → asked_of at call.words ≡ Ok task → IsWhole call at final text) where
+  text_told : (at : List ℕ → Option (List ℕ)) → asked_of at call.words ≡ Ok task
       → IsEnded text final (output_of call) s → (bytes : List ℕ) × IsTextOf call at s bytes × HasTaken call bytes
   text_told at asked (inl (is, took)) = (text, inl (rw is (whole at asked)), took)
   text_told at asked (inr (is, part, rose)) =
       let all : IsWhole call at final (take part.0 text ++ drop part.0 text) = rw (take-append-drop part.0 text) (whole at asked) in
       (take part.0 text, inr (is, (final, drop part.0 text, all)), part.1)
 
-  defined_told : (at : List ℕ → Option (List ℕ)) → asked_of at call.words ≡ Ok (Serve census service) → (f : Status) → IsFinal f
+  defined_told : (at : List ℕ → Option (List ℕ)) → asked_of at call.words ≡ Ok task → (f : Status) → IsFinal f
       → (f ≡ status.NetFault → NetFailed call) → s ≡ f → IsDefined call at s
   defined_told at asked status.Done final net is = inl (is ∙ sym (ap defined_status asked))
   defined_told at asked status.Memory final net is = inr (inl is)
@@ -71,7 +72,7 @@ module _ (call : Call) (command : Command) (census : CensusValue) (service : Ser
   never other (inr (is, part, rose)) write none h = write (sym h ∙ is)
 
   exact_told : (at : List ℕ → Option (List ℕ)) → IsEnded text final (output_of call) s
-      → asked_of at call.words ≡ Ok (Serve census service) → IsDefined call at s
+      → asked_of at call.words ≡ Ok task → IsDefined call at s
   exact_told at (inl (is, took)) asked = defined_told at asked final is_final failed is
   exact_told at (inr (is, part, rose)) asked = inr (inr (inr (inl (is, rose))))
 
@@ -83,7 +84,7 @@ module _ (call : Call) (command : Command) (census : CensusValue) (service : Ser
   net_told (inl (is, took)) h = failed (sym is ∙ h)
   net_told (inr (is, part, rose)) h = cc
 
-  keeps_by_final : IsEnded text final (output_of call) s → Keeps call s
+  pub keeps_by_final : IsEnded text final (output_of call) s → Keeps call s
   keeps_by_final ended = record {
     text = where_told _ _ call.content (λ at asked. text_told at asked ended) told;
     usage = λ h. absurd (never status.Usage ended (λ k. cc) (λ x. x) h);
@@ -94,7 +95,7 @@ module _ (call : Call) (command : Command) (census : CensusValue) (service : Ser
     exact = where_told _ _ call.content (λ at asked. exact_told at ended asked) told;
     price = always_told _ call.content (λ at. inl free);
     idle = idle;
-    others = λ h. let no : asks_to_serve (Some command) ≡ false = ap asks_to_serve (sym named) ∙ h in cc;
+    others = λ h. others (ap asks_to_serve (sym named) ∙ h);
   }
 
 -- an output of a final status
@@ -160,6 +161,10 @@ module _ (call : Call) (command : Command) (census : CensusValue) (service : Ser
   ours : All IsFresh (take n call.ports)
   ours = take-fresh n call.ports long fresh
 
+  -- sessions are asked for
+  no_others : asks_to_serve (Some command) ≡ false → call.ports_after ≡ call.ports
+  no_others h = cc
+
   -- nothing was accepted
   by_untouched : (text : List ℕ) (final : Status) → IsFinal final → Each (IsUntouched service.port) (take n call.ports) (take n call.ports_after)
       → (final ≡ status.NetFault → NetFailed call)
@@ -167,13 +172,13 @@ module _ (call : Call) (command : Command) (census : CensusValue) (service : Ser
       → IsEnded text final (output_of call) s → Keeps call s
   by_untouched text final is each net whole ended =
       let idle = idle-whole n call.ports call.ports_after long each.same_length rest fresh (each-idle service.port _ _ each ours) in
-      keeps_by_final call command census service s final text named serves told free is net idle whole ended
+      keeps_by_final call command (Serve census service) s final text named told free is net idle no_others whole ended
 
   by_memory : Each (IsUntouched service.port) (take n call.ports) (take n call.ports_after)
       → IsEnded memory_line status.Memory (output_of call) s → Keeps call s
   by_memory each ended =
       let none = each-whole n call.ports call.ports_after long each.same_length rest _ unserved (each-unserved service.port _ _ each) in
-      by_untouched memory_line status.Memory tt each (λ h. cc) (λ at asked. (refl, none)) ended
+      by_untouched memory_line status.Memory tt each (λ h. cc) (λ at asked. (inl refl, none)) ended
 
   by_unbound : Each (IsUntouched service.port) (take n call.ports) (take n call.ports_after)
       → HasRisenSome (take n call.ports) (take n call.ports_after) → IsEnded net_line status.NetFault (output_of call) s → Keeps call s
@@ -192,10 +197,10 @@ module _ (call : Call) (command : Command) (census : CensusValue) (service : Ser
       let whole = λ (at : List ℕ → Option (List ℕ)) (asked : asked_of at call.words ≡ Ok (Serve census service)).
       whole_by_output call at (final_status ports) text (done_or_net ports ending)
       (Serve census service, asked, inl (chain, (each, rest), refl, refl)) in
-      keeps_by_final call command census service s (final_status ports) text named serves told free
+      keeps_by_final call command (Serve census service) s (final_status ports) text named told free
       (final_is (final_status ports) (done_or_net ports ending))
       (λ h. risen-whole n call.ports call.ports_after long each.same_length rest
-      (failed-risen call census service chain _ _ each (some_by ports ending h))) idle whole ended
+      (failed-risen call census service chain _ _ each (some_by ports ending h))) idle no_others whole ended
 
 -- a run that served sessions keeps all
 pub keeps_by_service : (call : Call) (command : Command) (census : CensusValue) (service : Service) (s : Status)

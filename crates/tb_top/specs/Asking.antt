@@ -122,16 +122,18 @@ census_in inputs contents =
       records = records;
     }))))
 
--- what is asked for over a census: replies to the lines of a script, sessions, or, over that of a
--- generated population, a summary of such replies
+-- what is asked for over a census: replies to the lines of a script, one after another or its lanes
+-- at the same time, sessions, or, over that of a generated population, a summary of such replies
 pub data AskedValue : Type 0 where
   Script : CensusValue → ScriptValue → AskedValue
+  Lanes : CensusValue → ScriptValue → AskedValue
   Serve : CensusValue → Service → AskedValue
   Gen : Population → CensusValue → ScriptValue → AskedValue
 
 -- whether it is sessions
 abbrev pub is_service : AskedValue → Bool
 is_service (Script census script) = false
+is_service (Lanes census script) = false
 is_service (Serve census service) = true
 is_service (Gen population census script) = false
 
@@ -150,6 +152,7 @@ generated_asked population =
 -- what a command asks for over what its files hold
 abbrev pub asked_over : Command → Contents → Result AskedValue End
 asked_over (command.Script inputs name) contents = script_over Script inputs contents
+asked_over (command.Lanes inputs name) contents = script_over Lanes inputs contents
 asked_over (command.Serve inputs service) contents =
     census_in inputs contents >>= (λ census. Ok (Serve census service))
 asked_over (command.Gen population) contents = generated_asked population

@@ -51,6 +51,14 @@ script_named classes recodes ptable people threshold script =
     (inputs_named classes recodes ptable people threshold)
     else None
 
+-- the same for a script whose lanes are answered at the same time
+abbrev pub lanes_named : (classes recodes ptable people threshold script : List ℕ) → Option Command
+lanes_named classes recodes ptable people threshold script =
+    if is_file_name script
+    then option_map (λ inputs. command.Lanes inputs script)
+    (inputs_named classes recodes ptable people threshold)
+    else None
+
 -- a command of the inputs and the service
 abbrev pub serve_named : (classes recodes ptable people threshold port workers sessions : List ℕ)
     → Option Command
@@ -75,6 +83,14 @@ script_words words =
     (word_at words 5) (word_at words 6)
     else None
 
+-- what `lanes CLASSES RECODES PTABLE PEOPLE THRESHOLD SCRIPT` asks for
+abbrev pub lanes_words : List (List ℕ) → Option Command
+lanes_words words =
+    if (length words == 7) && bytes_eq (word_at words 0) (codes "lanes")
+    then lanes_named (word_at words 1) (word_at words 2) (word_at words 3) (word_at words 4)
+    (word_at words 5) (word_at words 6)
+    else None
+
 -- what `serve CLASSES RECODES PTABLE PEOPLE THRESHOLD PORT WORKERS SESSIONS` asks for
 abbrev pub serve_words : List (List ℕ) → Option Command
 serve_words words =
@@ -92,7 +108,9 @@ gen_words words =
 
 -- what the arguments ask for; others than those of a command ask for nothing
 abbrev pub command_of : List (List ℕ) → Option Command
-command_of words = option_or (script_words words) (option_or (serve_words words) (gen_words words))
+command_of words =
+    option_or (script_words words)
+    (option_or (lanes_words words) (option_or (serve_words words) (gen_words words)))
 
 -- an input and the name of its file
 pub record NamedFile : Type 0 where
@@ -122,6 +140,8 @@ input_files inputs =
 abbrev pub command_files : Command → List NamedFile
 command_files (command.Script inputs script) =
     input_files inputs ++ (named input.Script script ∷ [])
+command_files (command.Lanes inputs script) =
+    input_files inputs ++ (named input.Script script ∷ [])
 command_files (command.Serve inputs service) = input_files inputs
 command_files (command.Gen population) = []
 
@@ -129,5 +149,6 @@ command_files (command.Gen population) = []
 abbrev pub asks_to_serve : Option Command → Bool
 asks_to_serve (Some (command.Serve inputs service)) = true
 asks_to_serve (Some (command.Script inputs script)) = false
+asks_to_serve (Some (command.Lanes inputs script)) = false
 asks_to_serve (Some (command.Gen population)) = false
 asks_to_serve None = false

@@ -7,6 +7,7 @@ pub mod Endings
 pub mod GeneratedFiles
 pub mod Asking
 pub mod Services
+pub mod LaneOutputs
 pub mod Outputs
 pub mod Calls
 pub mod Promises

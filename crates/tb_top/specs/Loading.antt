@@ -10,7 +10,7 @@ use Rattle.tb_top.specs.declared.endings.End.TheVariants as end
 use Rattle.tb_top.specs.declared.load.Asked.{Asked}
 use Rattle.tb_top.specs.declared.load.Asked.TheVariants as asked
 use Rattle.tb_top.specs.declared.load.Census.{Census}
-use Rattle.tb_top.specs.Asking.{AskedValue, CensusValue, Contents, Gen, Script, Serve, contents_for, input_place}
+use Rattle.tb_top.specs.Asking.{AskedValue, CensusValue, Contents, Gen, Lanes, Script, Serve, contents_for, input_place}
 use Rattle.tb_top.specs.Calls.{IsReadTo, readings_more}
 use Rattle.tb_top.specs.Commands.{NamedFile}
 
@@ -79,6 +79,7 @@ census_value c = record { setup = c.setup; records = c.release.records }
 
 abbrev pub asked_value : Asked → AskedValue
 asked_value (asked.Script census script) = Script (census_value census) script
+asked_value (asked.Lanes census script) = Lanes (census_value census) script
 asked_value (asked.Serve census service) = Serve (census_value census) service
 asked_value (asked.Gen population census script) = Gen population (census_value census) script
 
@@ -91,5 +92,6 @@ IsFirst c =
 -- so does what is asked for
 abbrev pub AskedIsFirst : Asked → Type 0
 AskedIsFirst (asked.Script census script) = IsFirst census
+AskedIsFirst (asked.Lanes census script) = IsFirst census
 AskedIsFirst (asked.Serve census service) = IsFirst census
 AskedIsFirst (asked.Gen population census script) = IsFirst census

@@ -10,32 +10,36 @@ use Rattle.tb_script.specs.Scripts.{ScriptValue}
 use Rattle.tb_serve.specs.Ports.{PortValue}
 use Rattle.tb_session.specs.Outputs.{AreReplies, ReplyValue, price_of, text_of}
 use Rattle.tb_top.specs.declared.endings.End.TheVariants as end
-use Rattle.tb_top.specs.Asking.{AskedValue, CensusValue, Gen, Script, Serve}
+use Rattle.tb_top.specs.Asking.{AskedValue, CensusValue, Gen, Lanes, Script, Serve}
 use Rattle.tb_top.specs.Endings.{IsEnded, IsLineWritten, last_line}
+use Rattle.tb_top.specs.LaneOutputs.{AreLanesAnswered, IsTextOfPhases, IsTextToMemory}
 use Rattle.tb_top.specs.Populations.{Population}
 use Rattle.tb_top.specs.Services.{IsServiceAnswered, IsServiceOutput}
 use Rattle.tb_top.specs.Summaries.{summary_line}
 
--- these are replies to the script's lines, from release 0 of the microdata on
+-- these are replies to the script's lines, one after another, from release 0 of the microdata on
 abbrev pub AreScriptReplies : CensusValue → ScriptValue → List ReplyValue → Type 0
 AreScriptReplies census script replies =
     AreReplies (IsLaneReply census.setup (first_release census.setup census.records))
     (record { chain = []; held = [] }) script.lines replies
 
--- the same of what is asked for, which may be a summary of them; sessions get their replies
--- elsewhere
+-- the same of what is asked for, which may be a summary of them; lanes that are answered at the same
+-- time and sessions get their replies elsewhere
 abbrev pub AreAnswers : AskedValue → List ReplyValue → Type 0
 AreAnswers (Script census script) replies = AreScriptReplies census script replies
+AreAnswers (Lanes census script) replies = ⊥
 AreAnswers (Serve census service) replies = ⊥
 AreAnswers (Gen population census script) replies = AreScriptReplies census script replies
 
--- a text is the output of a run with this status over these ports: that of such replies, what a
--- service writes, or the line that sums up such replies
+-- a text is the output of a run with this status over these ports: that of such replies, that of all
+-- phases, what a service writes, or the line that sums up such replies
 abbrev pub IsOutput : AskedValue → (ports ports' : List PortValue) → Status → List ℕ → Type 0
 IsOutput (Script census script) ports ports' s text =
     (s ≡ status.Done)
     × ((replies : List ReplyValue) × AreAnswers (Script census script) replies
     × (text ≡ text_of replies))
+IsOutput (Lanes census script) ports ports' s text =
+    (s ≡ status.Done) × IsTextOfPhases census script script.phases text
 IsOutput (Serve census service) ports ports' s text =
     IsServiceOutput census service ports ports' s text
 IsOutput (Gen population census script) ports ports' s text =
@@ -47,10 +51,18 @@ IsOutput (Gen population census script) ports ports' s text =
 -- sums it up; or, where that text was lost for want of memory, of the line that says so
 abbrev pub IsBegun : AskedValue → List ReplyValue → (taken taken' : Option (List ℕ)) → Type 0
 IsBegun (Script census script) replies taken taken' = TookPart taken taken' (text_of replies)
+IsBegun (Lanes census script) replies taken taken' = ⊥
 IsBegun (Serve census service) replies taken taken' = ⊥
 IsBegun (Gen population census script) replies taken taken' =
     TookPart taken taken' (summary_line population (text_of replies))
     ⊎ TookPart taken taken' (last_line end.Memory)
+
+-- a text is what is asked for as far as it came, and then the line that tells that memory ran out
+abbrev pub IsOutputToMemory : AskedValue → List ℕ → Type 0
+IsOutputToMemory (Script census script) text = ⊥
+IsOutputToMemory (Lanes census script) text = IsTextToMemory census script text
+IsOutputToMemory (Serve census service) text = ⊥
+IsOutputToMemory (Gen population census script) text = ⊥
 
 -- A script was answered: all replies were taken, or, where a write failed, a beginning of them, and
 -- the counter of steps rose by no more than their price. Or memory ran out before the first line.
@@ -78,13 +90,16 @@ IsGenAnswered population census script s faults faults' taken taken' steps steps
     ⊎ IsEnded end.Memory s faults faults' taken taken'))
     ⊎ ((steps' ≡ steps) × IsEnded end.Memory s faults faults' taken taken')
 
--- What is asked for was answered, over these ports. A script touches none, and what a service costs
--- is counted elsewhere.
+-- What is asked for was answered, over these ports. A script touches none, and what lanes at the
+-- same time and a service cost is counted elsewhere.
 abbrev pub IsAnswered : AskedValue → (ports ports' : List PortValue) → Status
     → (faults faults' : ℕ) → (taken taken' : Option (List ℕ)) → (steps steps' : ℕ) → Type 0
 IsAnswered (Script census script) ports ports' s faults faults' taken taken' steps steps' =
     (ports' ≡ ports)
     × IsScriptAnswered (Script census script) s faults faults' taken taken' steps steps'
+IsAnswered (Lanes census script) ports ports' s faults faults' taken taken' steps steps' =
+    (ports' ≡ ports) × (steps' ≡ steps)
+    × AreLanesAnswered census script s faults faults' taken taken'
 IsAnswered (Serve census service) ports ports' s faults faults' taken taken' steps steps' =
     (steps' ≡ steps)
     × IsServiceAnswered census service ports ports' s faults faults' taken taken'

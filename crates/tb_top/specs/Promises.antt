@@ -11,7 +11,7 @@ use Rattle.tb_top.specs.Calls.{Call, HasTaken, IsReadTo, NetFailed, ReadFailed, 
 use Rattle.tb_top.specs.Commands.{asks_to_serve, command_of, command_files}
 use Rattle.tb_top.specs.declared.command.Command.{Command}
 use Rattle.tb_top.specs.Endings.{last_line, status_of}
-use Rattle.tb_top.specs.Outputs.{AreAnswers, IsBegun, IsOutput}
+use Rattle.tb_top.specs.Outputs.{AreAnswers, IsBegun, IsOutput, IsOutputToMemory}
 use Rattle.tb_top.specs.Services.{IsIdle, IsUnserved}
 use Rattle.tb_serve.specs.Each.{Each}
 
@@ -47,9 +47,15 @@ IsAskedOutput call at s text =
     (asked : AskedValue) × (asked_of at call.words ≡ Ok asked)
     × IsOutput asked call.ports call.ports_after s text
 
+-- a text is what a run that is out of memory writes: its last line, after what was written before
+abbrev pub IsMemoryText : Call → (List ℕ → Option (List ℕ)) → List ℕ → Type 0
+IsMemoryText call at text =
+    (text ≡ last_line end.Memory)
+    ⊎ ((asked : AskedValue) × (asked_of at call.words ≡ Ok asked) × IsOutputToMemory asked text)
+
 -- a text is what a run with this status writes where no write fails: with Done and NetFault an
--- output, with another status its last line; with Memory no session
--- came or went
+-- output, with another status its last line; with Memory no session came or went, and only the texts
+-- of phases that had ended stand before the last line
 abbrev pub IsWhole : Call → (List ℕ → Option (List ℕ)) → Status → List ℕ → Type 0
 IsWhole call at status.Done text = IsAskedOutput call at status.Done text
 IsWhole call at status.Usage text = IsLastLine call at status.Usage text
@@ -60,7 +66,7 @@ IsWhole call at status.Script text = IsLastLine call at status.Script text
 IsWhole call at status.ReadFault text = IsLastLine call at status.ReadFault text
 IsWhole call at status.WriteFault text = ⊥
 IsWhole call at status.Memory text =
-    (text ≡ last_line end.Memory) × Each (λ _. IsUnserved) call.ports call.ports_after
+    IsMemoryText call at text × Each (λ _. IsUnserved) call.ports call.ports_after
 IsWhole call at status.NetFault text = IsAskedOutput call at status.NetFault text
 
 -- the same, or, where a write failed, a beginning of such a text

@@ -9,6 +9,7 @@ ghost use Rattle.tb_top.specs.Commands.{script_words, serve_named, serve_words};
 ghost use Rattle.tb_top.specs.GeneratedFiles.{generated_inputs as inputs_of_generated};
 
 use crate::endings::Input;
+use crate::lanes_words::read_lanes_words;
 use crate::numbers::read_within;
 use crate::population::{Population, read_population};
 use crate::service::{Service, read_service};
@@ -46,11 +47,15 @@ pub struct Inputs<'a> {
 }
 
 /// A command: one of several, each with its inputs and its task. `Script` answers the lines of the
-/// script of that name; `Serve` serves sessions; `Gen` reads no files, and sums up what `Script`
-/// would write over those of a generated population.
+/// script of that name, `Lanes` its lanes at the same time; `Serve` serves sessions; `Gen` reads no
+/// files, and sums up what `Script` would write over those of a generated population.
 #[derive(Drop)]
 pub enum Command<'a> {
     Script {
+        inputs: Inputs<'a>,
+        script: FileName<'a>,
+    },
+    Lanes {
         inputs: Inputs<'a>,
         script: FileName<'a>,
     },
@@ -80,7 +85,7 @@ impl<'a> FileName<'a> {
 }
 
 // Whether an argument may be a file's name.
-fn is_file_name(word: &str) -> bool
+pub(crate) fn is_file_name(word: &str) -> bool
     ensures { result ≡ names_a_file word.now }
 {
     match word.as_bytes() {
@@ -109,7 +114,7 @@ fn recodes_name(word: &str) -> Option<FileName<'_>>
 
 // The inputs that the arguments `CLASSES RECODES PTABLE PEOPLE THRESHOLD` name, RECODES being a
 // file's name or `-`.
-fn read_inputs<'a>(
+pub(crate) fn read_inputs<'a>(
     classes: &'a str,
     recodes: &'a str,
     ptable: &'a str,
@@ -271,17 +276,20 @@ pub fn generated_inputs<'a>() -> Inputs<'a>
     }
 }
 
-/// What the arguments ask for: `script CLASSES RECODES PTABLE PEOPLE THRESHOLD SCRIPT`, `serve
-/// CLASSES RECODES PTABLE PEOPLE THRESHOLD PORT WORKERS SESSIONS`, RECODES being a file's name or
-/// `-`, or `gen N START`. None at all other arguments.
+/// What the arguments ask for: `script CLASSES RECODES PTABLE PEOPLE THRESHOLD SCRIPT`, `lanes` with
+/// the same after it, `serve CLASSES RECODES PTABLE PEOPLE THRESHOLD PORT WORKERS SESSIONS`, RECODES
+/// being a file's name or `-`, or `gen N START`. None at all other arguments.
 pub fn read_command(words: &[String]) -> Option<Command<'_>>
     ensures { result ≡ command_of (map string_bytes words.now) }
 {
     match read_script_words(words) {
         Some(command) => Some(command),
-        None => match read_serve_words(words) {
+        None => match read_lanes_words(words) {
             Some(command) => Some(command),
-            None => read_gen_words(words),
+            None => match read_serve_words(words) {
+                Some(command) => Some(command),
+                None => read_gen_words(words),
+            },
         },
     }
 }

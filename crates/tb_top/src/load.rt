@@ -40,11 +40,15 @@ pub struct Census {
     pub release: Release,
 }
 
-/// What a run is asked for over a census: to answer the lines of a script, to serve sessions, or to
-/// sum up the replies to a generated script.
+/// What a run is asked for over a census: to answer the lines of a script, or its lanes at the same
+/// time, to serve sessions, or to sum up the replies to a generated script.
 #[derive(Drop)]
 pub enum Asked {
     Script {
+        census: Census,
+        script: Script,
+    },
+    Lanes {
         census: Census,
         script: Script,
     },
@@ -240,6 +244,27 @@ fn load_for_script<F: Files>(
     Ok(Asked::Script { census, script })
 }
 
+// The same for a script whose lanes are answered at the same time.
+fn load_for_lanes<F: Files>(
+    alloc: Global,
+    files: &mut F,
+    inputs: &Inputs<'_>,
+    script: &FileName<'_>,
+) -> Result<Asked, End>
+    ensures first { IfOk result AskedIsFirst }
+    ensures kind { IfOk result (λ asked. is_service (asked_value asked) ≡ false) }
+    ensures loads { Loads
+        (reading F.content F.faults F.readings files.old files.new)
+        0
+        (command_files (command.Lanes inputs.now script.now))
+        asked_value
+        (asked_over (command.Lanes inputs.now script.now)) result }
+{
+    let census = load_census(alloc, files, inputs)?;
+    let script = load_script(alloc, files, script)?;
+    Ok(Asked::Lanes { census, script })
+}
+
 // The census alone, over which sessions are served.
 fn load_for_service<F: Files>(
     alloc: Global,
@@ -278,6 +303,7 @@ pub fn load<F: Files>(alloc: Global, files: &mut F, command: &Command<'_>) -> Re
 {
     match command {
         Command::Script { inputs, script } => load_for_script(alloc, files, inputs, script),
+        Command::Lanes { inputs, script } => load_for_lanes(alloc, files, inputs, script),
         Command::Serve { inputs, service } => load_for_service(alloc, files, inputs, service),
         Command::Gen { population } => load_generated(alloc, population),
     }

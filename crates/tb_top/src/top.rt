@@ -17,6 +17,7 @@ ghost use Rattle.tb_top.specs.Summaries.{summary_line};
 
 use crate::command::read_command;
 use crate::endings::End;
+use crate::lanes::answer_lanes;
 use crate::load::{Asked, Census, load};
 use crate::population::Population;
 use crate::service::Service;
@@ -187,6 +188,7 @@ fn answer<R: Threads + Wait + Sync, O: Sink, N: Listen + Send, L: Ledger>(
         Asked::Script { census, script } => {
             answer_script(rt, alloc, census, &script, out, steps)
         }
+        Asked::Lanes { census, script } => answer_lanes(rt, alloc, census, &script, out),
         Asked::Serve { census, service } => serve_census(rt, alloc, census, &service, out, net),
         Asked::Gen {
             population,
@@ -200,7 +202,9 @@ fn answer<R: Threads + Wait + Sync, O: Sink, N: Listen + Send, L: Ledger>(
 /// Where it ends before its task, the last line that `out` takes tells why.
 ///
 /// With `script CLASSES RECODES PTABLE PEOPLE THRESHOLD SCRIPT` the reply to each line of the
-/// script is written into `out`. With `serve CLASSES RECODES PTABLE PEOPLE THRESHOLD PORT WORKERS
+/// script is written into `out`. With `lanes` and the same arguments its lanes are answered at the
+/// same time, phase by phase, and `out` takes the text of each phase once all its lanes have ended;
+/// what these lend isn't counted. With `serve CLASSES RECODES PTABLE PEOPLE THRESHOLD PORT WORKERS
 /// SESSIONS` the listeners are bound, the first to PORT for the custodian and one for each worker
 /// to the ports after it, and each worker serves sessions in a thread of its own, one after
 /// another; in the end `out` takes how many each had. With `gen N START` no file is read: the

@@ -1,0 +1,72 @@
+-- What a call keeps that answered the lanes of a script at the same time.
+use Rattle.std.proofs.Common.{◌≡◌, ◌⊎◌, refl, sym, subst, ℕ, ◌≤◌, List, [], ◌++◌, All, Option, Some, Ok, inl, inr}
+use Rattle.std.specs.Prelude.{IfSome}
+use Rattle.tb_base.specs.declared.status.Status.{Status}
+use Rattle.tb_base.specs.declared.status.Status.TheVariants as status
+use Rattle.tb_board.specs.Custodians.{CustodianValue, OpeningValue, first_custodian}
+use Rattle.tb_io.proofs.FaultLemmas.{HasRisen-earlier}
+use Rattle.tb_io.proofs.TakenLemmas.{Took-append, TookPart-append}
+use Rattle.tb_io.specs.Taken.{Took}
+use Rattle.tb_lanes.specs.Phases.{PhasesGo, Standing, at_first}
+use Rattle.tb_model.specs.Releases.{ReleaseValue, first_release}
+use Rattle.tb_model.specs.Setups.{SetupValue}
+use Rattle.tb_script.specs.Scripts.{ScriptValue}
+use Rattle.tb_serve.specs.Serves.{output}
+use Rattle.tb_serve.specs.Serves as serves
+use Rattle.tb_serve.specs.Stages.{IsFresh}
+use Rattle.tb_top.specs.Asking.{CensusValue, Lanes, asked_of}
+use Rattle.tb_top.specs.Calls.{Call}
+use Rattle.tb_top.specs.Commands.{command_of}
+use Rattle.tb_top.specs.Endings.{IsEnded, last_line}
+use Rattle.tb_top.specs.LaneOutputs.{AreLanesAnswered, IsLanesText, IsTextOfPhases}
+use Rattle.tb_top.specs.Promises.{IsWhole, Keeps}
+use Rattle.tb_top.specs.declared.command.Command.{Command}
+use Rattle.tb_top.specs.declared.endings.End.TheVariants as end
+use Rattle.tb_top.proofs.PortLemmas.{all-unserved, same-idle}
+use Rattle.tb_top.proofs.Serving.{IsFinal, keeps_by_final}
+
+-- such a text has a final status
+lanes_final : (census : CensusValue) (script : ScriptValue) (s : Status) (text : List ℕ) → IsLanesText census script s text → IsFinal s
+lanes_final census script s text (inl (done, phases)) = rw done tt
+lanes_final census script s text (inr (memory, cut)) = rw memory tt
+
+never_net : (census : CensusValue) (script : ScriptValue) (s : Status) (text : List ℕ) → IsLanesText census script s text → s ≡ status.NetFault → ⊥
+never_net census script s text (inl (done, phases)) net = let wrong = sym done ∙ net in cc
+never_net census script s text (inr (memory, cut)) net = let wrong = sym memory ∙ net in cc
+
+-- and is what a run with it writes
+lanes_whole : (call : Call) (at : List ℕ → Option (List ℕ)) (census : CensusValue) (script : ScriptValue) (s : Status) (text : List ℕ)
+    → asked_of at call.words ≡ Ok (Lanes census script) → call.ports_after ≡ call.ports → IsLanesText census script s text
+    → IsWhole call at s text
+lanes_whole call at census script s text asked same (inl (done, phases)) = rw done (Lanes census script, asked, (refl, phases))
+lanes_whole call at census script s text asked same (inr (memory, cut)) =
+    rw memory (inr (Lanes census script, asked, cut), all-unserved call.ports call.ports_after same)
+
+-- a run that came to its lanes keeps all
+pub keeps_by_lanes : (call : Call) (command : Command) (census : CensusValue) (script : ScriptValue) (s : Status)
+    → command_of call.words ≡ Some command → IfSome call.content (λ at. asked_of at call.words ≡ Ok (Lanes census script))
+    → call.steps_after ≡ call.steps → All IsFresh call.ports → call.ports_after ≡ call.ports
+    → AreLanesAnswered census script s call.write_faults call.write_faults_after call.taken call.taken_after → Keeps call s
+keeps_by_lanes call command census script s named told free fresh same (final, text, is, ended) =
+    keeps_by_final call command (Lanes census script) s final text named told free (lanes_final census script final text is)
+    (λ net. absurd (never_net census script final text is net)) (same-idle call.ports call.ports_after same fresh) (λ h. same)
+    (λ at asked. lanes_whole call at census script final text asked same is) ended
+
+-- ---- over a new board
+
+-- phases from what its custodian had seen are those of the census
+pub phases-on-board : (setup : SetupValue) (opening : OpeningValue) (custodian : CustodianValue) (script : ScriptValue) (n : ℕ) (text : List ℕ)
+    (last : Standing) → custodian ≡ first_custodian opening → opening.start.base ≡ first_release setup opening.start.base.records
+    → PhasesGo setup custodian.writer.start.base script n (at_first custodian.writer.list) text last
+    → IsTextOfPhases (record { setup = setup; records = opening.start.base.records }) script n text
+phases-on-board setup opening custodian script n text last made first go =
+    let P : CustodianValue → Type 0 = λ c. PhasesGo setup c.writer.start.base script n (at_first c.writer.list) text last in
+    let Q : ReleaseValue → Type 0 = λ base. PhasesGo setup base script n (at_first []) text last in
+    (last, subst Q first (subst P made go))
+
+-- the line that tells that memory ran out, after a text
+pub ended-after : (s : Status) (f between f' : ℕ) (t mid t' : Option (List ℕ)) (before : List ℕ) → f ≤ between → between ≤ f' → Took t mid before
+    → IsEnded end.Memory s between f' mid t' → serves.IsEnded (before ++ last_line end.Memory) status.Memory (output t t' f f') s
+ended-after s f between f' t mid t' before le up took (inl (is, line)) = inl (is, Took-append t mid t' before (last_line end.Memory) took line)
+ended-after s f between f' t mid t' before le up took (inr (is, rose, part)) =
+    inr (is, TookPart-append t mid t' before (last_line end.Memory) took part, HasRisen-earlier f between f' le rose up)

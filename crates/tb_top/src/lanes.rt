@@ -1,0 +1,70 @@
+// The lanes of a script, answered at the same time over a census.
+
+ghost use Rattle.std.specs.Prelude.{◌≡◌};
+ghost use Rattle.tb_model.specs.Releases.{first_release};
+ghost use Rattle.tb_model.specs.Schemas.{shape_of};
+ghost use Rattle.tb_top.specs.LaneOutputs.{AreLanesAnswered};
+ghost use Rattle.tb_top.specs.Loading.{IsFirst, census_value};
+
+use crate::endings::End;
+use crate::load::Census;
+use crate::top::end_by;
+use std::alloc::Global;
+use std::marker::Brand;
+use std::sync::Wait;
+use std::thread::Threads;
+use tb_base::{Memory, Status};
+use tb_board::{Board, Named, Opening};
+use tb_io::Sink;
+use tb_lanes::{open_gates, run_lanes};
+use tb_script::{RunEnd, Script};
+use tb_session::FIRST_CAPACITY;
+use tb_text::Setup;
+
+// Answers the lanes of a script over a board.
+fn answer_on_board<B: Named + Send + Sync, R: Threads + Wait + Sync, O: Sink>(
+    rt: &R,
+    alloc: Global,
+    setup: &Setup,
+    opening: Opening,
+    script: &Script,
+    out: &mut O,
+) -> Status
+    requires name { opening.name ≡ B.name }
+    requires shape { opening.start.shape ≡ shape_of setup.now.schema }
+    requires first { opening.start.base
+        ≡ first_release setup.now opening.start.base.records }
+    ensures { AreLanesAnswered
+        (record { setup = setup.now; records = opening.start.base.records }) script.now result
+        (O.faults out.old) (O.faults out.new) (O.taken out.old) (O.taken out.new) }
+{
+    let Ok(mut gates) = open_gates(alloc, script) else {
+        return end_by(&End::Memory, out);
+    };
+    let (board, custodian) = Board::<B>::new(opening);
+    match run_lanes(setup, &board, rt, alloc, script, custodian, out, &mut gates) {
+        RunEnd::Done => Status::Done,
+        RunEnd::WriteFault => Status::WriteFault,
+        RunEnd::Memory => end_by(&End::Memory, out),
+    }
+}
+
+/// Answers the lanes of a script over a census, phase by phase. It takes memory for a board, for the
+/// lanes and their answers.
+pub fn answer_lanes<R: Threads + Wait + Sync, O: Sink>(
+    rt: &R,
+    alloc: Global,
+    census: Census,
+    script: &Script,
+    out: &mut O,
+) -> Status
+    requires { IsFirst census }
+    ensures { AreLanesAnswered (census_value census) script.now result
+        (O.faults out.old) (O.faults out.new) (O.taken out.old) (O.taken out.new) }
+{
+    let Census { setup, release } = census;
+    match Opening::new(alloc, setup.schema.shape(), release, FIRST_CAPACITY) {
+        Ok(opening) => answer_on_board::<Brand, R, O>(rt, alloc, &setup, opening, script, out),
+        Err(Memory) => end_by(&End::Memory, out),
+    }
+}
