@@ -1,5 +1,5 @@
 -- What a call keeps that answered the lanes of a script at the same time.
-use Rattle.std.proofs.Common.{◌≡◌, ◌⊎◌, refl, sym, subst, ℕ, ◌≤◌, List, [], ◌++◌, All, Option, Some, Ok, inl, inr}
+use Rattle.std.proofs.Common.{◌≡◌, ◌⊎◌, ◌∙◌, refl, sym, subst, ℕ, ◌≤◌, List, [], ◌++◌, All, Option, Some, Ok, inl, inr}
 use Rattle.std.specs.Prelude.{IfSome}
 use Rattle.tb_base.specs.declared.status.Status.{Status}
 use Rattle.tb_base.specs.declared.status.Status.TheVariants as status

@@ -7,8 +7,8 @@ use Rattle.tb_top.specs.declared.endings.End.TheVariants as end
 use Rattle.tb_top.proofs.LanesRun.{ended-after, phases-on-board}
 use Rattle.tb_top.proofs.lanes.answer_on_board.Goals as goal
 
-pub returns-in-Err : goal.returns-in-Err
-returns-in-Err g c = (
+pub returns-in_default : goal.returns-in_default
+returns-in_default g c = (
   status.Memory,
   [] ++ last_line end.Memory,
   inr (refl, (0, [], omega arith, (at_first [], (refl, refl)), refl)),
@@ -39,5 +39,5 @@ returns g c =
       status.Memory,
       text ++ last_line end.Memory,
       inr (refl, (n, text, few, phases-on-board _ c.args.opening _ c.args.script.now n text last c.new-board.ensures.custodian c.requires.first go, refl)),
-      ended-after _ _ _ _ _ _ _ text c.in-Memory.ensures.count c.end_by.ensures.count took c.end_by.ensures.ended,
+      ended-after _ _ _ _ _ _ _ text c.in-Memory.ensures.count c.end_by-in-Memory.ensures.count took c.end_by-in-Memory.ensures.ended,
     )
