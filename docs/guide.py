@@ -17,13 +17,14 @@ import typing
 CRATE = os.path.join(os.path.dirname(os.path.abspath(__file__)), "../crates/tablebuilder")
 FILES = ("classes.csv", "recodes.csv", "ptable.csv", "people.csv")
 EXAMPLE = re.compile(
-    r"^```script(?: threshold=(?P<threshold>\d+))?(?: file=(?P<file>\S+))?\n"
+    r"^```(?P<command>script|lanes)(?: threshold=(?P<threshold>\d+))?(?: file=(?P<file>\S+))?\n"
     r"(?P<script>.*?)^```\n```output\n(?P<output>.*?)^```$",
     re.S | re.M,
 )
 
 
 class Example(typing.NamedTuple):
+    command: str
     threshold: str
     file: typing.Optional[str]
     script: str
@@ -33,7 +34,10 @@ class Example(typing.NamedTuple):
 def examples_of(guide):
     with open(guide, encoding="utf-8") as file:
         found = EXAMPLE.finditer(file.read())
-    return [Example(it["threshold"] or "0", *it.group("file", "script", "output")) for it in found]
+    return [
+        Example(it["command"], it["threshold"] or "0", *it.group("file", "script", "output"))
+        for it in found
+    ]
 
 
 def write(folder, name, text):
@@ -49,7 +53,7 @@ def wrong_by_program(program, inputs, examples):
     with tempfile.TemporaryDirectory() as folder:
         for example in examples:
             script = write(folder, "script.txt", example.script)
-            words = [program, "script", *inputs, example.threshold, script]
+            words = [program, example.command, *inputs, example.threshold, script]
             done = subprocess.run(words, capture_output=True, check=False)
             if done.stdout.decode() != example.output or done.returncode != 0:
                 wrong += 1
@@ -59,14 +63,18 @@ def wrong_by_program(program, inputs, examples):
 
 
 def wrong_by_try(inputs, examples):
-    """How many examples the program of `rt try` doesn't print so; it says which."""
-    with tempfile.TemporaryDirectory() as folder:
-        for number, example in enumerate(examples):
-            write(folder, f"{number:02}", example.script)
-            write(folder, f"{number:02}.args", f"{example.threshold}\n{{}}\n")
-            write(folder, f"{number:02}.stdout", example.output)
-        words = ["rt", "try", "--cases", folder, "--", "script", *inputs]
-        return 1 if subprocess.run(words, cwd=CRATE, check=False).returncode else 0
+    """How many commands have examples that the program of `rt try` doesn't print so; it says which."""
+    wrong = 0
+    for command in sorted({example.command for example in examples}):
+        with tempfile.TemporaryDirectory() as folder:
+            for number, example in enumerate(examples):
+                if example.command == command:
+                    write(folder, f"{number:02}", example.script)
+                    write(folder, f"{number:02}.args", f"{example.threshold}\n{{}}\n")
+                    write(folder, f"{number:02}.stdout", example.output)
+            words = ["rt", "try", "--cases", folder, "--", command, *inputs]
+            wrong += 1 if subprocess.run(words, cwd=CRATE, check=False).returncode else 0
+    return wrong
 
 
 def unlike_files(folder, examples):

@@ -20,6 +20,7 @@ NAMES = ("classes.csv", "recodes.csv", "ptable.csv", "people.csv", "script.txt")
 SCRIPT = "script classes.csv recodes.csv ptable.csv people.csv 0 script.txt"
 USAGE = """\
 usage: tablebuilder script CLASSES RECODES PTABLE PEOPLE THRESHOLD SCRIPT
+       tablebuilder lanes CLASSES RECODES PTABLE PEOPLE THRESHOLD SCRIPT
        tablebuilder serve CLASSES RECODES PTABLE PEOPLE THRESHOLD PORT WORKERS SESSIONS
        tablebuilder gen N START
 """

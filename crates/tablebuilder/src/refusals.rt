@@ -9,6 +9,7 @@ use thiserror::Error;
 #[derive(Debug, Drop, Error)]
 pub enum Refusal<'a> {
     #[error("usage: tablebuilder script CLASSES RECODES PTABLE PEOPLE THRESHOLD SCRIPT\n       \
+        tablebuilder lanes CLASSES RECODES PTABLE PEOPLE THRESHOLD SCRIPT\n       \
         tablebuilder serve CLASSES RECODES PTABLE PEOPLE THRESHOLD PORT WORKERS SESSIONS\n       \
         tablebuilder gen N START")]
     Usage,

@@ -9,7 +9,7 @@ use tb_top::read_command;
 // Arguments, which one blank parts, and whether they are a command's.
 type Row = (&'static str, bool);
 
-static ROWS: [Row; 78] = [
+static ROWS: [Row; 83] = [
     ("", false),
     ("help", false),
     ("help script", false),
@@ -50,6 +50,11 @@ static ROWS: [Row; 78] = [
     ("script classes none ptable people 0 script", true),
     ("script help script gen serve 0 help", true),
     ("script a- b- c- d- 0 e-", true),
+    ("lanes classes - ptable people 0", false),
+    ("lanes classes - ptable people 0 script", true),
+    ("lanes classes - ptable people 0 script script", false),
+    ("lanes classes - ptable people 1000001 script", false),
+    ("lanes classes - ptable people 0 -x", false),
     ("serve classes - ptable people 0 5000 1", false),
     ("serve classes - ptable people 0 5000 1 1", true),
     ("serve classes - ptable people 0 5000 1 1 1", false),

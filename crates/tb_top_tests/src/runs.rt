@@ -24,9 +24,34 @@ type Over = (
     &'static [u8],
 );
 
-static RUNS: [Over; 27] = [
+static RUNS: [Over; 30] = [
     ("one_variable", WITHOUT_RECODES, &[], 0, SEX),
     ("one_variable", WITH_RECODES, &[], 0, SEX),
+    (
+        "lanes_in_phases",
+        "lanes classes recodes ptable people 0 script",
+        &[(
+            "script",
+            b"custodian drop 104\ncustodian publish\n--\nana table SEX\nana stats\n--\n",
+        )],
+        0,
+        b"phase 1\nlane custodian\nheld 1\npublished 1\nphase 2\nlane ana\nrelease 1\nSEX,count\n\
+        1,1\n2,0\n.\nrefused 2 Syntax 1\nphase 3\n",
+    ),
+    (
+        "lanes_in_phases",
+        "lanes classes - ptable people 0 script",
+        &[("script", b"")],
+        0,
+        b"phase 1\n",
+    ),
+    (
+        "lanes_in_phases",
+        "lanes classes - ptable people 0 script",
+        &[("script", b"a table SEX\n!x\n")],
+        6,
+        b"fault script 2\n",
+    ),
     (
         "threshold_on_shown_count",
         "script classes - ptable people 2 script",
