@@ -16,7 +16,7 @@ test:
 whole = '$(if $(filter - /%,$(1)),$(1),$(CURDIR)/$(1))'
 
 # A first look: the tables of SCRIPT, by a run that checks as it goes and proves nothing. It takes
-# some two and a half minutes of processor time, nearly all of them to build the program.
+# some 75 seconds, nearly all of them to build the program.
 try:
 	@for file in $(foreach name,CLASSES RECODES PTABLE PEOPLE SCRIPT,$(call whole,$($(name)))); do \
 		test "$$file" = - || test -r "$$file" || { echo "$$file can't be read"; exit 1; }; \
