@@ -1,18 +1,16 @@
 // Two lanes of a phase, each of which waits for the other while its cube is built.
 
 ghost use Rattle.std.specs.Prelude.{◌≡◌, length, vec_len};
-ghost use Rattle.tb_model.specs.Schemas.{shape_of};
 ghost use Rattle.tb_script.specs.Scripts.{lanes_of};
 
 use super::making::{opening, read, run_past, setup};
 use std::alloc::Global;
 use std::marker::Brand;
-use std::process::Abort;
 use std::sync::Wait;
 use std::sync::atomic::{AtomicBool, Ordering};
 use std::test::Fail;
 use std::thread::Threads;
-use tb_board::{Named, Opening};
+use tb_base::Memory;
 use tb_build::Gate;
 use tb_io::SureSink;
 use tb_script::{RunEnd, Script};
@@ -39,45 +37,79 @@ impl Gate for Crossed<'_> {
     }
 }
 
-// Both gates were reached, each met the other, and each stands at its lane's place afterwards.
-fn run_crossed<B: Named + Send + Sync, R: Threads + Wait + Abort + Sync>(
-    rt: &R,
+// The gates of two lanes, the first of which has this flag.
+fn two_gates<'a>(
     alloc: Global,
-    setup: &Setup,
-    opening: Opening,
-    script: &Script,
-) -> Result<(), Fail>
-    requires name { opening.name ≡ B.name }
-    requires shape { opening.start.shape ≡ shape_of setup.now.schema }
-{
-    let (one, two) = (AtomicBool::new(false), AtomicBool::new(false));
+    one: &'a AtomicBool,
+    two: &'a AtomicBool,
+) -> Result<Vec<Crossed<'a>>, Memory> {
     let mut gates = Vec::new(alloc);
     gates.push(Crossed {
-        own: &one,
-        other: &two,
+        own: one,
+        other: two,
         lane: 0,
         met: false,
     })?;
     gates.push(Crossed {
-        own: &two,
-        other: &one,
+        own: two,
+        other: one,
         lane: 1,
         met: false,
     })?;
-    assert_eq!(rt; gates.len(), script.lanes());
+    Ok(gates)
+}
+
+// Whether there are two gates, each met the other, and each stands at its lane's place.
+fn have_met(gates: &[Crossed<'_>]) -> bool {
+    match gates {
+        [first, second] => first.met && second.met && first.lane == 0 && second.lane == 1,
+        _ => false,
+    }
+}
+
+// How a run past these gates ends, over a new board.
+fn run_crossed<R: Threads + Wait + Sync>(
+    rt: &R,
+    alloc: Global,
+    setup: &Setup,
+    script: &Script,
+    gates: &mut Vec<Crossed<'_>>,
+) -> Result<RunEnd, Memory>
+    requires { vec_len gates.old ≡ length (lanes_of script.now.lines) }
+{
+    let opening = opening(alloc, setup)?;
     let mut sink = SureSink::new(alloc);
-    let end = run_past::<B, R, _, _>(rt, alloc, setup, opening, script, &mut sink, &mut gates);
-    assert_eq!(rt; end, RunEnd::Done);
-    assert_eq!(rt; gates.len(), 2);
-    assert!(rt; gates.iter().all(|gate| gate.met));
-    assert!(rt; gates.iter().map(|gate| gate.lane).eq([0, 1]));
-    Ok(())
+    Ok(run_past::<Brand, R, _, _>(rt, alloc, setup, opening, script, &mut sink, gates))
+}
+
+// Whether both gates of a script of two lanes are reached, and each meets the other.
+fn meet<R: Threads + Wait + Sync>(
+    rt: &R,
+    alloc: Global,
+    setup: &Setup,
+    script: &Script,
+) -> Result<bool, Memory> {
+    let (one, two) = (AtomicBool::new(false), AtomicBool::new(false));
+    let mut gates = two_gates(alloc, &one, &two)?;
+    if gates.len() != script.lanes() {
+        return Ok(false);
+    }
+    let end = run_crossed(rt, alloc, setup, script, &mut gates)?;
+    Ok(end == RunEnd::Done && have_met(&gates))
+}
+
+fn lanes_meet<R: Threads + Wait + Sync>(
+    rt: &R,
+    alloc: Global,
+    setup: &Setup,
+) -> Result<bool, Memory> {
+    let script = read(alloc, b"a table SEX\nb table AREA\n")?;
+    meet(rt, alloc, setup, &script)
 }
 
 #[test]
 fn lanes_run_at_the_same_time(rt: HostRuntime) -> Result<(), Fail> {
     let setup = setup(rt.alloc())?;
-    let opening = opening(rt.alloc(), &setup)?;
-    let script = read(rt.alloc(), b"a table SEX\nb table AREA\n")?;
-    run_crossed::<Brand, _>(&rt, rt.alloc(), &setup, opening, &script)
+    assert!(&rt; lanes_meet(&rt, rt.alloc(), &setup)?);
+    Ok(())
 }

@@ -20,8 +20,8 @@ use tb_small::PTABLE;
 use tb_small_values::{release, schema};
 use tb_text::Setup;
 
-fn ptable(alloc: Global) -> Result<PTable, Memory> {
-    match PTable::read(alloc, PTABLE) {
+fn ptable_of(alloc: Global, file: &[u8]) -> Result<PTable, Memory> {
+    match PTable::read(alloc, file) {
         Ok(ptable) => Ok(ptable),
         Err(_) => Err(Memory),
     }
@@ -30,7 +30,7 @@ fn ptable(alloc: Global) -> Result<PTable, Memory> {
 pub fn setup(alloc: Global) -> Result<Setup, Memory> {
     Ok(Setup {
         schema: schema(alloc)?,
-        ptable: ptable(alloc)?,
+        ptable: ptable_of(alloc, PTABLE)?,
         threshold: 0,
     })
 }
@@ -78,6 +78,19 @@ pub fn run_past<B: Named + Send + Sync, R: Threads + Wait + Sync, K: Sink, G: Ga
 }
 
 // Runs a script over a new board, past open gates.
+fn run_open<R: Threads + Wait + Sync, K: Sink>(
+    rt: &R,
+    alloc: Global,
+    setup: &Setup,
+    script: &Script,
+    sink: &mut K,
+) -> Result<RunEnd, Memory> {
+    let mut gates = open_gates(alloc, script)?;
+    let opening = opening(alloc, setup)?;
+    Ok(run_past::<Brand, _, _, _>(rt, alloc, setup, opening, script, sink, &mut gates))
+}
+
+// The same of a script's bytes.
 pub fn run<R: Threads + Wait + Sync, K: Sink>(
     rt: &R,
     alloc: Global,
@@ -86,7 +99,5 @@ pub fn run<R: Threads + Wait + Sync, K: Sink>(
     sink: &mut K,
 ) -> Result<RunEnd, Memory> {
     let script = read(alloc, script)?;
-    let mut gates = open_gates(alloc, &script)?;
-    let opening = opening(alloc, setup)?;
-    Ok(run_past::<Brand, _, _, _>(rt, alloc, setup, opening, &script, sink, &mut gates))
+    run_open(rt, alloc, setup, &script, sink)
 }

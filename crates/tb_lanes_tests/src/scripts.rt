@@ -60,7 +60,7 @@ fn rows() -> &'static [Row] {
 }
 
 // Whether a script's run writes one of two texts.
-fn writes<R: Threads + Wait + Sync>(
+pub fn writes<R: Threads + Wait + Sync>(
     rt: &R,
     alloc: Global,
     setup: &Setup,
@@ -74,30 +74,43 @@ fn writes<R: Threads + Wait + Sync>(
     Ok(end == RunEnd::Done && (text == one || text == other))
 }
 
+// The first row that isn't so.
+fn first_wrong<R: Threads + Wait + Sync>(
+    rt: &R,
+    alloc: Global,
+    setup: &Setup,
+) -> Result<&'static str, Memory> {
+    for row in rows() {
+        if !writes(rt, alloc, setup, row.script, row.text, row.text)? {
+            return Ok(row.name);
+        }
+    }
+    Ok("none")
+}
+
 #[test]
 fn worked_scripts(rt: HostRuntime) -> Result<(), Fail> {
     let setup = setup(rt.alloc())?;
-    for row in rows() {
-        assert!(&rt;
-            writes(&rt, rt.alloc(), &setup, row.script, row.text, row.text)?,
-            "{}",
-            row.name
-        );
-    }
+    assert_eq!(&rt; first_wrong(&rt, rt.alloc(), &setup)?, "none");
     Ok(())
 }
+
+const BESIDE: &[u8] = b"custodian drop 104\ncustodian publish\nana table SEX\n--\nana table SEX\n";
+
+const BEFORE: &[u8] =
+    b"phase 1\nlane custodian\nheld 1\npublished 1\nlane ana\nrelease 0\nSEX,count\n\
+    1,1\n2,2\n.\nphase 2\nlane ana\nrelease 1\nSEX,count\n1,1\n2,0\n.\n";
+
+const AFTER: &[u8] =
+    b"phase 1\nlane custodian\nheld 1\npublished 1\nlane ana\nrelease 1\nSEX,count\n\
+    1,1\n2,0\n.\nphase 2\nlane ana\nrelease 1\nSEX,count\n1,1\n2,0\n.\n";
 
 // Who asks beside a publication sees the release before it or after it; who asks in the next phase
 // sees the one after it.
 #[test]
 fn ample_memory_is_enough(rt: HostRuntime) -> Result<(), Fail> {
     let setup = setup(rt.alloc())?;
-    let script = b"custodian drop 104\ncustodian publish\nana table SEX\n--\nana table SEX\n";
-    let before = b"phase 1\nlane custodian\nheld 1\npublished 1\nlane ana\nrelease 0\nSEX,count\n\
-        1,1\n2,2\n.\nphase 2\nlane ana\nrelease 1\nSEX,count\n1,1\n2,0\n.\n";
-    let after = b"phase 1\nlane custodian\nheld 1\npublished 1\nlane ana\nrelease 1\nSEX,count\n\
-        1,1\n2,0\n.\nphase 2\nlane ana\nrelease 1\nSEX,count\n1,1\n2,0\n.\n";
-    assert!(&rt; writes(&rt, rt.alloc(), &setup, script, before, after)?);
+    assert!(&rt; writes(&rt, rt.alloc(), &setup, BESIDE, BEFORE, AFTER)?);
     Ok(())
 }
 
@@ -109,9 +122,9 @@ fn is_cut<R: Threads + Wait + Sync>(
     script: &[u8],
     want: &[u8],
 ) -> Result<bool, Memory> {
-    let mut sink = MemSink::new(alloc, 10)?;
-    let end = run(rt, alloc, setup, script, &mut sink)?;
-    Ok(end == RunEnd::WriteFault && sink.taken() == want)
+    let mut ten = MemSink::new(alloc, 10)?;
+    let end = run(rt, alloc, setup, script, &mut ten)?;
+    Ok(end == RunEnd::WriteFault && ten.taken() == want)
 }
 
 #[test]

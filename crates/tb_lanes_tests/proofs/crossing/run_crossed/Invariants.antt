@@ -1,4 +1,4 @@
-use Rattle.tb_lanes_tests.proofs.making.run.Given as goal
+use Rattle.tb_lanes_tests.proofs.crossing.run_crossed.Given as goal
 
 -- the front of the opening
 abbrev pub ghosts-run_past : goal.ghosts-run_past
