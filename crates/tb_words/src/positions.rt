@@ -1,0 +1,102 @@
+// The commands as clap sees them.
+
+ghost use Rattle.std.specs.Prelude.{◌≡◌, IfErr, IfOk, false, map};
+ghost use Rattle.clap.specs.Words.{app_of, kind_of, rule_of, subcommand_of, subcommand_rows_of};
+ghost use Rattle.clap.specs.declared.error.kind.ErrorKind.TheVariants.{OutOfMemory};
+ghost use Rattle.tb_words.specs.Positions.{command_with, position as position_of};
+ghost use Rattle.tb_words.specs.Positions.{positions_of as names_of, program as the_program};
+ghost use Rattle.tb_words.specs.Words.{AreCommand};
+
+use clap::{Arg, ArgMatches, Command, Error};
+use std::alloc::{AllocError, Global};
+
+static SCRIPT: [&str; 6] = [
+    "CLASSES",
+    "RECODES",
+    "PTABLE",
+    "PEOPLE",
+    "THRESHOLD",
+    "SCRIPT",
+];
+
+static SERVE: [&str; 8] = [
+    "CLASSES",
+    "RECODES",
+    "PTABLE",
+    "PEOPLE",
+    "THRESHOLD",
+    "PORT",
+    "WORKERS",
+    "SESSIONS",
+];
+
+static GEN: [&str; 2] = ["N", "START"];
+
+/// The positions of the command of a name.
+pub(crate) fn positions_of(name: &str) -> &'static [&'static str]
+    ensures { map (λ s. s.now) result.now ≡ names_of name.now }
+{
+    if name == "script" {
+        SCRIPT.as_slice()
+    } else if name == "lanes" {
+        SCRIPT.as_slice()
+    } else if name == "serve" {
+        SERVE.as_slice()
+    } else {
+        GEN.as_slice()
+    }
+}
+
+// A position of that name.
+fn position<'a>(alloc: Global, name: &'a str) -> Arg<'a>
+    ensures rule { rule_of result ≡ position_of name.entry.now }
+    ensures local { result.global ≡ false }
+{
+    Arg::new(alloc, name).required(true)
+}
+
+// The command of that name.
+fn command<'a>(alloc: Global, name: &'static str) -> Result<Command<'a>, AllocError>
+    ensures { IfOk result (λ c. app_of c ≡ command_with name.now (names_of name.now)) }
+{
+    let mut command = Command::new(alloc, name);
+    let places = positions_of(name);
+    for place in places {
+        let one = position(alloc, *place);
+        command = command.arg(one)?;
+    }
+    Ok(command)
+}
+
+// The program, with a subcommand for each command.
+fn program<'a>(alloc: Global) -> Result<Command<'a>, AllocError>
+    ensures { IfOk result (λ c. app_of c ≡ the_program) }
+{
+    let script = command(alloc, "script")?;
+    let lanes = command(alloc, "lanes")?;
+    let serve = command(alloc, "serve")?;
+    let generated = command(alloc, "gen")?;
+    let bare = Command::new(alloc, "tablebuilder")
+        .no_binary_name(true)
+        .disable_help_flag(true)
+        .disable_help_subcommand(true);
+    let one = bare.subcommand(script)?;
+    let two = one.subcommand(lanes)?;
+    let three = two.subcommand(serve)?;
+    let four = three.subcommand(generated)?;
+    Ok(four)
+}
+
+/// What clap makes of the words of a command. It fails for want of memory alone.
+pub(crate) fn clap_matches<'a>(alloc: Global, words: &'a [&'a str]) -> Result<ArgMatches<'a>, Error>
+    requires { AreCommand (map (λ s. s.now) words.now) }
+    ensures ok { IfOk result (λ m. subcommand_rows_of m
+        ≡ subcommand_of the_program (map (λ s. s.now) words.entry.now)) }
+    ensures err { IfErr result (λ e. kind_of e ≡ OutOfMemory) }
+{
+    let program = program(alloc)?;
+    match program.try_get_matches_from(words) {
+        Ok(matches) => Ok(matches),
+        Err(error) => Err(error),
+    }
+}
