@@ -70,22 +70,22 @@ pub fn ask<B: Named, R: Threads + Wait + Sync, G: Gate>(
     )
 }
 
-// Answers several lines, which pass the gate, and returns whether all replies were taken.
+// Answers the lines of a text, which pass the gate, and returns whether all replies were taken.
 pub fn ask_all<B: Named, R: Threads + Wait + Sync, G: Gate>(
     rt: &R,
     alloc: Global,
     setup: &Setup,
     board: &Board<B>,
     party: &mut Party,
-    lines: &[&[u8]],
+    lines: &str,
     sink: &mut MemSink,
     gate: &mut G,
 ) -> bool
     requires own { IsPartyOf B.name (shape_of setup.now.schema) party.old }
     ensures own { IsPartyOf B.name (shape_of setup.now.schema) party.new }
 {
-    for line in lines {
-        if !ask(rt, alloc, setup, board, party, line, sink, gate) {
+    for line in lines.split('\n') {
+        if !ask(rt, alloc, setup, board, party, line.as_bytes(), sink, gate) {
             return false;
         }
     }

@@ -4,11 +4,10 @@ ghost use Rattle.std.specs.Prelude.{◌≡◌};
 ghost use Rattle.tb_model.specs.Schemas.{shape_of};
 ghost use Rattle.tb_session.specs.Parties.{IsPartyOf};
 
-use super::asking::{ask, ask_all};
+use super::asking::ask_all;
 use super::making::{analyst, opening, owner, setup};
 use std::alloc::Global;
 use std::marker::Brand;
-use std::process::Abort;
 use std::sync::Wait;
 use std::sync::atomic::{AtomicBool, Ordering};
 use std::test::Fail;
@@ -55,7 +54,36 @@ impl Gate for Flagged<'_> {
     }
 }
 
+// What the first caller gets, whose cube is built at release 3, and what the others get.
+const FIRST: &[u8] = b"release 3\nSEX,count\n1,1\n2,2\n.\nrelease 4\nSEX,count\n1,1\n2,0\n.\n";
+
+const OTHERS: &[u8] = b"held 1\npublished 4\nrelease 4\nSEX,count\n1,1\n2,0\n.\n\
+    stats release 4 looks 3 hits 1 entries 1 capacity 64\n";
+
 // The first caller asks, and waits at the gate; then it asks again, and isn't there again.
+fn ask_twice<B: Named, R: Threads + Wait + Sync>(
+    rt: &R,
+    alloc: Global,
+    setup: &Setup,
+    board: &Board<B>,
+    party: &mut Party,
+    flags: &Flags,
+    sink: &mut MemSink,
+) -> bool
+    requires own { IsPartyOf B.name (shape_of setup.now.schema) party.old }
+{
+    let mut gate = Flagged {
+        flags,
+        times: 0,
+        late: false,
+    };
+    let lines = "table SEX\ntable SEX";
+    let all = ask_all(rt, alloc, setup, board, party, lines, sink, &mut gate);
+    flags.answered.store(true, Ordering::SeqCst);
+    all && gate.times == 1 && !gate.late
+}
+
+// Whether the first caller gets its replies so.
 fn ask_first<B: Named, R: Threads + Wait + Sync>(
     rt: &R,
     alloc: Global,
@@ -63,29 +91,40 @@ fn ask_first<B: Named, R: Threads + Wait + Sync>(
     board: &Board<B>,
     mut party: Party,
     flags: &Flags,
-) -> Option<MemSink>
+) -> Option<bool>
     requires own { IsPartyOf B.name (shape_of setup.now.schema) party }
 {
     let mut sink = MemSink::new(alloc, 200).ok()?;
-    let mut gate = Flagged {
-        flags,
-        times: 0,
-        late: false,
-    };
-    let lines: [&[u8]; 2] = [b"table SEX", b"table SEX"];
-    let all = ask_all(
-        rt, alloc, setup, board, &mut party, &lines, &mut sink, &mut gate,
-    );
-    flags.answered.store(true, Ordering::SeqCst);
-    if all && gate.times == 1 && !gate.late {
-        Some(sink)
-    } else {
-        None
-    }
+    let right = ask_twice(rt, alloc, setup, board, &mut party, flags, &mut sink);
+    Some(right && sink.taken() == FIRST)
 }
 
 // The custodian publishes and another caller is answered before the first may go on; in the end
 // the custodian asks for the desk's numbers.
+fn publish_and_ask<B: Named, R: Threads + Wait + Sync>(
+    rt: &R,
+    alloc: Global,
+    setup: &Setup,
+    board: &Board<B>,
+    own: &mut Party,
+    party: &mut Party,
+    flags: &Flags,
+    sink: &mut MemSink,
+) -> bool
+    requires own { IsPartyOf B.name (shape_of setup.now.schema) own.old }
+    requires party { IsPartyOf B.name (shape_of setup.now.schema) party.old }
+{
+    let there = waits_for(&flags.there);
+    let edits = "drop 104\npublish";
+    let published = ask_all(rt, alloc, setup, board, own, edits, sink, &mut Open);
+    let asked = ask_all(rt, alloc, setup, board, party, "table SEX", sink, &mut Open);
+    flags.open.store(true, Ordering::SeqCst);
+    let answered = waits_for(&flags.answered);
+    let told = ask_all(rt, alloc, setup, board, own, "stats", sink, &mut Open);
+    there && published && asked && answered && told
+}
+
+// Whether the others get their replies so.
 fn go_on<B: Named, R: Threads + Wait + Sync>(
     rt: &R,
     alloc: Global,
@@ -94,40 +133,19 @@ fn go_on<B: Named, R: Threads + Wait + Sync>(
     mut own: Party,
     mut party: Party,
     flags: &Flags,
-) -> Option<MemSink>
+) -> Option<bool>
     requires own { IsPartyOf B.name (shape_of setup.now.schema) own }
     requires party { IsPartyOf B.name (shape_of setup.now.schema) party }
 {
     let mut sink = MemSink::new(alloc, 400).ok()?;
-    let there = waits_for(&flags.there);
-    let lines: [&[u8]; 2] = [b"drop 104", b"publish"];
-    let published = ask_all(
-        rt, alloc, setup, board, &mut own, &lines, &mut sink, &mut Open,
+    let right = publish_and_ask(
+        rt, alloc, setup, board, &mut own, &mut party, flags, &mut sink,
     );
-    let asked = ask(
-        rt,
-        alloc,
-        setup,
-        board,
-        &mut party,
-        b"table SEX",
-        &mut sink,
-        &mut Open,
-    );
-    flags.open.store(true, Ordering::SeqCst);
-    let answered = waits_for(&flags.answered);
-    let told = ask(
-        rt, alloc, setup, board, &mut own, b"stats", &mut sink, &mut Open,
-    );
-    if there && published && asked && answered && told {
-        Some(sink)
-    } else {
-        None
-    }
+    Some(right && sink.taken() == OTHERS)
 }
 
-// The custodian after it published three releases.
-fn at_release_three<B: Named, R: Threads + Wait + Sync>(
+// Whether the custodian publishes three releases.
+fn publish_three<B: Named, R: Threads + Wait + Sync>(
     rt: &R,
     alloc: Global,
     setup: &Setup,
@@ -138,23 +156,50 @@ fn at_release_three<B: Named, R: Threads + Wait + Sync>(
     ensures own { IsPartyOf B.name (shape_of setup.now.schema) own.new }
 {
     let mut sink = MemSink::new(alloc, 200).ok()?;
-    let lines: [&[u8]; 6] = [
-        b"amend 101 AGE=16-64",
-        b"publish",
-        b"amend 101 AGE=65+",
-        b"publish",
-        b"amend 101 AGE=0-15",
-        b"publish",
-    ];
-    Some(ask_all(rt, alloc, setup, board, own, &lines, &mut sink, &mut Open))
+    let lines = "amend 101 AGE=16-64\npublish\namend 101 AGE=65+\npublish\n\
+        amend 101 AGE=0-15\npublish";
+    Some(ask_all(rt, alloc, setup, board, own, lines, &mut sink, &mut Open))
 }
 
-fn beside<B: Named + Send + Sync, R: Threads + Wait + Abort + Sync>(
+// Whether both get their replies, one beside the other.
+fn are_answered<B: Named + Send + Sync, R: Threads + Wait + Sync>(
+    rt: &R,
+    alloc: Global,
+    setup: &Setup,
+    board: &Board<B>,
+    own: Party,
+    one: Party,
+    two: Party,
+) -> bool
+    requires own { IsPartyOf B.name (shape_of setup.now.schema) own }
+    requires one { IsPartyOf B.name (shape_of setup.now.schema) one }
+    requires two { IsPartyOf B.name (shape_of setup.now.schema) two }
+{
+    let flags = Flags {
+        there: AtomicBool::new(false),
+        open: AtomicBool::new(false),
+        answered: AtomicBool::new(false),
+    };
+    let (first, others) = join(
+        rt,
+        || -> Option<bool>
+            requires { IsPartyOf B.name (shape_of setup.now.schema) one }
+        { ask_first(rt, alloc, setup, board, one, &flags) },
+        || -> Option<bool>
+            requires { IsPartyOf B.name (shape_of setup.now.schema) own
+                × IsPartyOf B.name (shape_of setup.now.schema) two }
+        { go_on(rt, alloc, setup, board, own, two, &flags) },
+    );
+    first == Some(true) && others == Some(true)
+}
+
+// The same over a new board, after three releases.
+fn beside<B: Named + Send + Sync, R: Threads + Wait + Sync>(
     rt: &R,
     alloc: Global,
     setup: &Setup,
     opening: Opening,
-) -> Result<(), Fail>
+) -> bool
     requires name { opening.name ≡ B.name }
     requires shape { opening.start.shape ≡ shape_of setup.now.schema }
 {
@@ -162,43 +207,14 @@ fn beside<B: Named + Send + Sync, R: Threads + Wait + Abort + Sync>(
     let one = analyst(rt, setup, &board, &mut custodian);
     let two = analyst(rt, setup, &board, &mut custodian);
     let mut own = owner::<B>(alloc, setup, custodian);
-    assert_eq!(rt;
-        at_release_three(rt, alloc, setup, &board, &mut own),
-        Some(true)
-    );
-    let flags = Flags {
-        there: AtomicBool::new(false),
-        open: AtomicBool::new(false),
-        answered: AtomicBool::new(false),
-    };
-    let (first, second) = join(
-        rt,
-        || -> Option<MemSink>
-            requires { IsPartyOf B.name (shape_of setup.now.schema) one }
-        { ask_first(rt, alloc, setup, &board, one, &flags) },
-        || -> Option<MemSink>
-            requires { IsPartyOf B.name (shape_of setup.now.schema) own
-                × IsPartyOf B.name (shape_of setup.now.schema) two }
-        { go_on(rt, alloc, setup, &board, own, two, &flags) },
-    );
-    let first = first.ok_or("first")?;
-    let second = second.ok_or("second")?;
-    assert_eq!(rt;
-        first.taken(),
-        b"release 3\nSEX,count\n1,1\n2,2\n.\nrelease 4\nSEX,count\n1,1\n2,0\n.\n".as_slice()
-    );
-    assert_eq!(rt;
-        second.taken(),
-        b"held 1\npublished 4\nrelease 4\nSEX,count\n1,1\n2,0\n.\n\
-            stats release 4 looks 3 hits 1 entries 1 capacity 64\n"
-            .as_slice()
-    );
-    Ok(())
+    let published = publish_three(rt, alloc, setup, &board, &mut own);
+    are_answered(rt, alloc, setup, &board, own, one, two) && published == Some(true)
 }
 
 #[test]
 fn cube_is_built_outside_the_lock(rt: HostRuntime) -> Result<(), Fail> {
     let setup = setup(rt.alloc())?;
     let opening = opening(rt.alloc(), &setup)?;
-    beside::<Brand, _>(&rt, rt.alloc(), &setup, opening)
+    assert!(rt; beside::<Brand, _>(&rt, rt.alloc(), &setup, opening));
+    Ok(())
 }

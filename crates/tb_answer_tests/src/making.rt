@@ -1,7 +1,6 @@
 // The small setup, and a board over it.
 
 ghost use Rattle.std.specs.Prelude.{◌≡◌, IfOk};
-ghost use Rattle.tb_base.specs.Records.{AllFit};
 ghost use Rattle.tb_board.specs.Custodians.{IsWhole};
 ghost use Rattle.tb_model.specs.Schemas.{shape_of};
 ghost use Rattle.tb_session.specs.Parties.{IsPartyOf};
@@ -11,19 +10,12 @@ use std::sync::Wait;
 use tb_base::Memory;
 use tb_board::{Board, Custodian, Named, Opening};
 use tb_ptable::PTable;
-use tb_records::read_people;
-use tb_release::{Edits, Release};
+use tb_release::Edits;
 use tb_schema::Schema;
 use tb_session::Party;
-use tb_small::{CLASSES, PEOPLE, PTABLE, RECODES};
+use tb_small::PTABLE;
+use tb_small_values::{release, schema};
 use tb_text::Setup;
-
-fn schema(alloc: Global) -> Result<Schema, Memory> {
-    match Schema::read(alloc, CLASSES, Some(RECODES)) {
-        Ok(schema) => Ok(schema),
-        Err(_) => Err(Memory),
-    }
-}
 
 fn ptable(alloc: Global) -> Result<PTable, Memory> {
     match PTable::read(alloc, PTABLE) {
@@ -40,22 +32,10 @@ pub fn setup(alloc: Global) -> Result<Setup, Memory> {
     })
 }
 
-// Release 0 of four persons.
-fn first(alloc: Global, schema: &Schema) -> Result<Release, Memory>
-    ensures fit { IfOk result (λ r. AllFit (shape_of schema.now) r.records) }
-    ensures number { IfOk result (λ r. r.number ≡ 0) }
-{
-    let Ok(people) = read_people(alloc, schema, PEOPLE) else {
-        return Err(Memory);
-    };
-    let release = Release::first(alloc, people)?;
-    Ok(release)
-}
-
 fn opening_over(alloc: Global, schema: &Schema) -> Result<Opening, Memory>
     ensures { IfOk result (λ opening. opening.start.shape ≡ shape_of schema.now) }
 {
-    let release = first(alloc, schema)?;
+    let release = release(alloc, schema)?;
     Opening::new(alloc, schema.shape(), release, 64)
 }
 

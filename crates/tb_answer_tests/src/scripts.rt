@@ -117,6 +117,19 @@ fn read(alloc: Global, script: &[u8]) -> Result<Script, Memory> {
     }
 }
 
+// Whether these are the replies to a script.
+fn answers<R: Threads + Wait + Sync>(
+    rt: &R,
+    alloc: Global,
+    setup: &Setup,
+    script: &Script,
+    replies: &[u8],
+) -> Result<bool, Memory> {
+    let mut sink = MemSink::new(alloc, 700)?;
+    let done = replies_to(rt, alloc, setup, script, &mut sink)?;
+    Ok(done && sink.taken() == replies)
+}
+
 fn is_so<R: Threads + Wait + Sync>(
     rt: &R,
     alloc: Global,
@@ -124,9 +137,7 @@ fn is_so<R: Threads + Wait + Sync>(
     row: &Row,
 ) -> Result<bool, Memory> {
     let script = read(alloc, row.script)?;
-    let mut sink = MemSink::new(alloc, 700)?;
-    let done = replies_to(rt, alloc, setup, &script, &mut sink)?;
-    Ok(done && sink.taken() == row.replies)
+    answers(rt, alloc, setup, &script, row.replies)
 }
 
 #[test]

@@ -11,7 +11,6 @@ use std::marker::Brand;
 use std::sync::Wait;
 use std::test::Fail;
 use std::thread::Threads;
-use tb_base::Memory;
 use tb_board::{Board, Named, Opening};
 use tb_build::Open;
 use tb_io::MemSink;
@@ -29,13 +28,15 @@ fn asks<B: Named, R: Threads + Wait + Sync>(
     line: &[u8],
     bound: usize,
     want: &[u8],
-) -> Result<bool, Memory>
+) -> bool
     requires own { IsPartyOf B.name (shape_of setup.now.schema) own.old }
     ensures own { IsPartyOf B.name (shape_of setup.now.schema) own.new }
 {
-    let mut sink = MemSink::new(alloc, bound)?;
+    let Ok(mut sink) = MemSink::new(alloc, bound) else {
+        return false;
+    };
     let all = ask(rt, alloc, setup, board, own, line, &mut sink, &mut Open);
-    Ok(all == (want.len() < bound) && sink.taken() == want)
+    all == (want.len() < bound) && sink.taken() == want
 }
 
 // Whether the edit is held, the reply to `publish` is cut, and the table is over the next release.
@@ -44,32 +45,24 @@ fn is_published<B: Named, R: Threads + Wait + Sync>(
     alloc: Global,
     setup: &Setup,
     opening: Opening,
-) -> Result<bool, Memory>
+) -> bool
     requires name { opening.name ≡ B.name }
     requires shape { opening.start.shape ≡ shape_of setup.now.schema }
 {
     let (board, custodian) = Board::<B>::new(opening);
     let mut own = owner::<B>(alloc, setup, custodian);
+    let held = b"held 1\n";
     let table = b"release 1\nSEX,count\n1,1\n2,0\n.\n";
-    Ok(
-        asks(
-            rt,
-            alloc,
-            setup,
-            &board,
-            &mut own,
-            b"drop 104",
-            99,
-            b"held 1\n",
-        )? && asks(rt, alloc, setup, &board, &mut own, b"publish", 5, b"publi")?
-            && asks(rt, alloc, setup, &board, &mut own, b"table SEX", 99, table)?,
-    )
+    let drops = asks(rt, alloc, setup, &board, &mut own, b"drop 104", 99, held);
+    let publishes = asks(rt, alloc, setup, &board, &mut own, b"publish", 5, b"publi");
+    let shows = asks(rt, alloc, setup, &board, &mut own, b"table SEX", 99, table);
+    drops && publishes && shows
 }
 
 #[test]
 fn published_where_the_reply_is_cut(rt: HostRuntime) -> Result<(), Fail> {
     let setup = setup(rt.alloc())?;
     let opening = opening(rt.alloc(), &setup)?;
-    assert!(&rt; is_published::<Brand, _>(&rt, rt.alloc(), &setup, opening)?);
+    assert!(&rt; is_published::<Brand, _>(&rt, rt.alloc(), &setup, opening));
     Ok(())
 }
