@@ -68,9 +68,12 @@ keeps_asked view call after x s usage loads serves fresh answered = go (command_
     go None none = let bad = usage none in cc
     go (Some command) named = keeps_by_task view call after command x s named (loads command named) (serves ∙ ap asks_to_serve named) fresh answered
 
+abbrev failed : (A : Type 0) → End → Result A End
+failed A e = Err e
+
 -- or the run ended before
 pub keeps_unasked : {A : Type 0} (view : A → AskedValue) (call : Call) (after : Option (List ℕ → Option (List ℕ))) (e : End) (s : Status)
-    → (command_of call.words ≡ None → Err {A} e ≡ Err end.Usage)
+    → (command_of call.words ≡ None → failed A e ≡ Err end.Usage)
     → ((command : Command) → command_of call.words ≡ Some command
     → Loads (reading_of call after) 0 (command_files command) view (asked_over command) (Err e))
     → call.steps_after ≡ call.steps → All IsFresh call.ports → call.ports_after ≡ call.ports → IsToldBy call e s → Keeps call s
