@@ -7,6 +7,6 @@ pub returns-in-Ok : goal.returns-in-Ok
 returns-in-Ok g c = keeps_asked asked_value _ (g.F.Files.content c.ask.new.files) c.in-Ok.asked _ c.in-Ok.ensures.usage
     c.in-Ok.ensures.loads c.in-Ok.ensures.kind c.requires.fresh c.answer.ensures
 
-pub returns : goal.returns
-returns g c = keeps_unasked asked_value _ (g.F.Files.content c.ask.new.files) c.in-Err.end _ c.in-Err.ensures.usage
+pub returns-in-Err : goal.returns-in-Err
+returns-in-Err g c = keeps_unasked asked_value _ (g.F.Files.content c.ask.new.files) c.in-Err.end _ c.in-Err.ensures.usage
     c.in-Err.ensures.loads refl c.requires.fresh refl c.end_by.ensures.ended
