@@ -1,3 +1,4 @@
+pub mod AskingSteps
 pub mod Boards
 pub mod CommandWords
 pub mod Finishing
@@ -9,3 +10,4 @@ pub mod Serving
 pub mod SummaryTexts
 pub mod Summing
 pub mod Telling
+pub mod Tested

@@ -15,10 +15,10 @@ ghost use Rattle.tb_top.specs.Services.{IsServiceAnswered};
 ghost use Rattle.tb_top.specs.Promises.{Keeps};
 ghost use Rattle.tb_top.specs.Summaries.{summary_line};
 
-use crate::command::read_command;
+use crate::asking::ask;
 use crate::endings::End;
 use crate::lanes::answer_lanes;
-use crate::load::{Asked, Census, load};
+use crate::load::{Asked, Census};
 use crate::population::Population;
 use crate::service::Service;
 use crate::summary::write_summary;
@@ -252,11 +252,8 @@ pub fn tablebuilder<F: Files, O: Sink, N: Listen + Send, L: Ledger>(
         })
         result }
 {
-    match read_command(words) {
-        Some(command) => match load(alloc, files, &command) {
-            Ok(asked) => answer(rt, alloc, asked, out, net, steps),
-            Err(end) => end_by(&end, out),
-        },
-        None => end_by(&End::Usage, out),
+    match ask(alloc, words, files) {
+        Ok(asked) => answer(rt, alloc, asked, out, net, steps),
+        Err(end) => end_by(&end, out),
     }
 }

@@ -1,0 +1,248 @@
+-- Words that are a command's are those that `clap` takes.
+use Rattle.std.proofs.Common.{◌≡◌, ◌^◌, ◌∙◌, ap, sym, refl, ℕ, ◌≤◌, ◌==◌, ◌&&◌, ◌||◌, Bool, true, false, not, List, [], ◌∷◌, length, get_or, Option, Some, None, inl, inr, arith, eqb-true, leb-true, ne_eqb}
+use Rattle.std.specs.Prelude.{bytes_eq, codes, if◌then◌else◌, nat_le, nat_lt, option_and_then, option_map, set}
+use Rattle.std.specs.Char.{is_ascii_digit}
+use Rattle.std.specs.List.{list_all}
+use Rattle.std.specs.Option.{option_or}
+use Rattle.std.proofs.lemmas.Slice.Eq.{bytes_eq-Decides}
+use Rattle.tb_base.specs.Numbers.{number_of, value_after}
+use Rattle.tb_words.specs.Words.{AreTested, handed_on, is_plain}
+use Rattle.tb_top.specs.declared.command.Command.{Command}
+use Rattle.tb_top.specs.declared.command.Command.TheVariants as command
+use Rattle.tb_top.specs.declared.command.Inputs.{Inputs}
+use Rattle.tb_base.specs.declared.people.TheConstants.{MOST_PERSONS}
+use Rattle.tb_top.specs.declared.command.TheConstants.{MOST_THRESHOLD}
+use Rattle.tb_top.specs.declared.service.TheConstants.{MOST_PORT, MOST_SESSIONS, MOST_WORKERS}
+use Rattle.tb_top.specs.Commands.{command_of, gen_named, gen_words, inputs_named, inputs_with, is_file_name, lanes_named, lanes_words, may_name_recodes, script_named, script_words, serve_named, serve_words, threshold_in, word_at}
+use Rattle.tb_top.specs.Numbers.{number_within}
+use Rattle.tb_top.specs.Populations.{Population, population_named, population_with}
+use Rattle.tb_top.specs.ServicePorts.{Service, service_named, service_with}
+
+both : (a b : Bool) → (a && b) ≡ true → (a ≡ true) × (b ≡ true)
+both true b h = (refl, h)
+both false b h = cc
+
+if_some : {A : Type 0} (c : Bool) (o : Option A) (x : A) → (if c then o else None) ≡ Some x → (c ≡ true) × (o ≡ Some x)
+if_some true o x h = (refl, h)
+if_some false o x h = cc
+
+then_some : {A B : Type 0} (f : A → Option B) (o : Option A) (y : B) → option_and_then f o ≡ Some y → (x : A) × (o ≡ Some x) × (f x ≡ Some y)
+then_some f (Some x) y h = (x, refl, h)
+then_some f None y h = cc
+
+map_some : {A B : Type 0} (f : A → B) (o : Option A) (y : B) → option_map f o ≡ Some y → (x : A) × (o ≡ Some x)
+map_some f (Some x) y h = (x, refl)
+map_some f None y h = cc
+
+plain_name : (word : List ℕ) → is_file_name word ≡ true → is_plain word ≡ true
+plain_name [] h = cc
+plain_name (x ∷ word) h = h
+
+digit_plain : (x : ℕ) → is_ascii_digit x ≡ true → not (x == 45) ≡ true
+digit_plain x digit =
+    let least = leb-true 48 x (both (nat_le 48 x) (nat_le x 57) digit).0 in
+    ap not (ne_eqb x 45 (λ same. omega (arith, least, same)))
+
+plain_number : (word : List ℕ) (n : ℕ) → number_of word ≡ Some n → is_plain word ≡ true
+plain_number [] n h = cc
+plain_number (x ∷ word) n h =
+    let text = x ∷ word in
+    let (test, value) = if_some (nat_le 1 (length text) && nat_le (length text) 10 && list_all is_ascii_digit text
+    && nat_lt (value_after 0 text) (2 ^ 32)) (Some (value_after 0 text)) n h in
+    let first = both (nat_le 1 (length text) && nat_le (length text) 10 && list_all is_ascii_digit text) (nat_lt (value_after 0 text) (2 ^ 32)) test in
+    let digits = both (nat_le 1 (length text) && nat_le (length text) 10) (list_all is_ascii_digit text) first.0 in
+    digit_plain x (both (is_ascii_digit x) (list_all is_ascii_digit word) digits.1).0
+
+plain_within : (least most n : ℕ) (word : List ℕ) → number_within least most word ≡ Some n → is_plain word ≡ true
+plain_within least most n word h =
+    let (m, read, inside) = then_some (λ k. if nat_le least k && nat_le k most then Some k else None) (number_of word) n h in
+    plain_number word m read
+
+-- what is handed on in place of a word for the recodes
+abbrev handed : List ℕ → List ℕ
+handed word = if bytes_eq word (codes "-") then codes "none" else word
+
+plain_handed : (word : List ℕ) → may_name_recodes word ≡ true → is_plain (handed word) ≡ true
+plain_handed word may = go (bytes_eq word (codes "-")) refl
+  where
+    go : (b : Bool) → bytes_eq word (codes "-") ≡ b → is_plain (if b then codes "none" else word) ≡ true
+    go true is = refl
+    go false is = plain_name word (sym (ap (λ b. b || is_file_name word) is) ∙ may)
+
+-- the words of each command's inputs
+record ArePlain (a b c d e : List ℕ) : Type 0 where
+  classes : is_plain a ≡ true
+  recodes : may_name_recodes b ≡ true
+  ptable : is_plain c ≡ true
+  people : is_plain d ≡ true
+  threshold : is_plain e ≡ true
+
+plain_inputs : (a b c d e : List ℕ) (inputs : Inputs) → inputs_named a b c d e ≡ Some inputs → ArePlain a b c d e
+plain_inputs a b c d e inputs h =
+    let (test, named) = if_some (is_file_name a && may_name_recodes b && is_file_name c && is_file_name d)
+    (option_map (inputs_with a b c d) (threshold_in e)) inputs h in
+    let (abc, d_is) = both (is_file_name a && may_name_recodes b && is_file_name c) (is_file_name d) test in
+    let (ab, c_is) = both (is_file_name a && may_name_recodes b) (is_file_name c) abc in
+    let (a_is, b_is) = both (is_file_name a) (may_name_recodes b) ab in
+    let (n, within) = map_some (inputs_with a b c d) (threshold_in e) inputs named in
+    record {
+      classes = plain_name a a_is;
+      recodes = b_is;
+      ptable = plain_name c c_is;
+      people = plain_name d d_is;
+      threshold = plain_within 0 MOST_THRESHOLD n e within;
+    }
+
+all_true : (a b : Bool) → a ≡ true → b ≡ true → (a && b) ≡ true
+all_true true b h k = k
+all_true false b h k = cc
+
+handed_at : (a b c : List ℕ) (rest : List (List ℕ)) → handed_on (a ∷ b ∷ c ∷ rest) ≡ a ∷ b ∷ handed c ∷ rest
+handed_at a b c rest = go (bytes_eq c (codes "-"))
+  where
+    go : (t : Bool) → (if t then set (a ∷ b ∷ c ∷ rest) 2 (codes "none") else (a ∷ b ∷ c ∷ rest)) ≡ a ∷ b ∷ (if t then codes "none" else c) ∷ rest
+    go true = refl
+    go false = refl
+
+-- the words of each command, one by one
+script_list : (words : List (List ℕ)) (k : Command) → length words ≡ 7 → bytes_eq (word_at words 0) (codes "script") ≡ true
+    → script_named (word_at words 1) (word_at words 2) (word_at words 3) (word_at words 4) (word_at words 5) (word_at words 6) ≡ Some k → AreTested words
+script_list [] k len name named = absurd (omega (arith, len))
+script_list (a ∷ []) k len name named = absurd (omega (arith, len))
+script_list (a ∷ b ∷ []) k len name named = absurd (omega (arith, len))
+script_list (a ∷ b ∷ c ∷ []) k len name named = absurd (omega (arith, len))
+script_list (a ∷ b ∷ c ∷ d ∷ []) k len name named = absurd (omega (arith, len))
+script_list (a ∷ b ∷ c ∷ d ∷ e ∷ []) k len name named = absurd (omega (arith, len))
+script_list (a ∷ b ∷ c ∷ d ∷ e ∷ f ∷ []) k len name named = absurd (omega (arith, len))
+script_list (a ∷ b ∷ c ∷ d ∷ e ∷ f ∷ g ∷ []) k len name named =
+    let (script, inner) = if_some (is_file_name g) (option_map (λ (inputs : Inputs). command.Script inputs g) (inputs_named b c d e f)) k named in
+    let (inputs, read) = map_some (λ (inputs : Inputs). command.Script inputs g) (inputs_named b c d e f) k inner in
+    let plain = plain_inputs b c d e f inputs read in
+    let values = b ∷ handed c ∷ d ∷ e ∷ f ∷ g ∷ [] in
+    let first : a ≡ codes "script" = (bytes_eq-Decides a (codes "script")).0 name in
+    inl (
+      values,
+      handed_at a b c (d ∷ e ∷ f ∷ g ∷ []) ∙ ap (λ (word : List ℕ). word ∷ values) first,
+      refl,
+      all_true _ _ plain.classes (all_true _ _ (plain_handed c plain.recodes) (all_true _ _ plain.ptable (all_true _ _ plain.people
+          (all_true _ _ plain.threshold (all_true _ _ (plain_name g script) refl))))),
+    )
+script_list (a ∷ b ∷ c ∷ d ∷ e ∷ f ∷ g ∷ x ∷ rest) k len name named = absurd (omega (arith, len))
+
+lanes_list : (words : List (List ℕ)) (k : Command) → length words ≡ 7 → bytes_eq (word_at words 0) (codes "lanes") ≡ true
+    → lanes_named (word_at words 1) (word_at words 2) (word_at words 3) (word_at words 4) (word_at words 5) (word_at words 6) ≡ Some k → AreTested words
+lanes_list [] k len name named = absurd (omega (arith, len))
+lanes_list (a ∷ []) k len name named = absurd (omega (arith, len))
+lanes_list (a ∷ b ∷ []) k len name named = absurd (omega (arith, len))
+lanes_list (a ∷ b ∷ c ∷ []) k len name named = absurd (omega (arith, len))
+lanes_list (a ∷ b ∷ c ∷ d ∷ []) k len name named = absurd (omega (arith, len))
+lanes_list (a ∷ b ∷ c ∷ d ∷ e ∷ []) k len name named = absurd (omega (arith, len))
+lanes_list (a ∷ b ∷ c ∷ d ∷ e ∷ f ∷ []) k len name named = absurd (omega (arith, len))
+lanes_list (a ∷ b ∷ c ∷ d ∷ e ∷ f ∷ g ∷ []) k len name named =
+    let (script, inner) = if_some (is_file_name g) (option_map (λ (inputs : Inputs). command.Lanes inputs g) (inputs_named b c d e f)) k named in
+    let (inputs, read) = map_some (λ (inputs : Inputs). command.Lanes inputs g) (inputs_named b c d e f) k inner in
+    let plain = plain_inputs b c d e f inputs read in
+    let values = b ∷ handed c ∷ d ∷ e ∷ f ∷ g ∷ [] in
+    let first : a ≡ codes "lanes" = (bytes_eq-Decides a (codes "lanes")).0 name in
+    inr (inl (
+      values,
+      handed_at a b c (d ∷ e ∷ f ∷ g ∷ []) ∙ ap (λ (word : List ℕ). word ∷ values) first,
+      refl,
+      all_true _ _ plain.classes (all_true _ _ (plain_handed c plain.recodes) (all_true _ _ plain.ptable (all_true _ _ plain.people
+          (all_true _ _ plain.threshold (all_true _ _ (plain_name g script) refl))))),
+    ))
+lanes_list (a ∷ b ∷ c ∷ d ∷ e ∷ f ∷ g ∷ x ∷ rest) k len name named = absurd (omega (arith, len))
+
+serve_list : (words : List (List ℕ)) (k : Command) → length words ≡ 9 → bytes_eq (word_at words 0) (codes "serve") ≡ true
+    → serve_named (word_at words 1) (word_at words 2) (word_at words 3) (word_at words 4) (word_at words 5) (word_at words 6) (word_at words 7) (word_at words 8) ≡ Some k → AreTested words
+serve_list [] k len name named = absurd (omega (arith, len))
+serve_list (a ∷ []) k len name named = absurd (omega (arith, len))
+serve_list (a ∷ b ∷ []) k len name named = absurd (omega (arith, len))
+serve_list (a ∷ b ∷ c ∷ []) k len name named = absurd (omega (arith, len))
+serve_list (a ∷ b ∷ c ∷ d ∷ []) k len name named = absurd (omega (arith, len))
+serve_list (a ∷ b ∷ c ∷ d ∷ e ∷ []) k len name named = absurd (omega (arith, len))
+serve_list (a ∷ b ∷ c ∷ d ∷ e ∷ f ∷ []) k len name named = absurd (omega (arith, len))
+serve_list (a ∷ b ∷ c ∷ d ∷ e ∷ f ∷ g ∷ []) k len name named = absurd (omega (arith, len))
+serve_list (a ∷ b ∷ c ∷ d ∷ e ∷ f ∷ g ∷ h ∷ []) k len name named = absurd (omega (arith, len))
+serve_list (a ∷ b ∷ c ∷ d ∷ e ∷ f ∷ g ∷ h ∷ i ∷ []) k len name named =
+    let (inputs, read, more) = then_some (λ (inputs : Inputs). option_map (command.Serve inputs) (service_named g h i)) (inputs_named b c d e f) k named in
+    let (service, served) = map_some (command.Serve inputs) (service_named g h i) k more in
+    let (p, port, two) = then_some (λ p. option_and_then (λ w. option_map (service_with p w) (number_within 1 MOST_SESSIONS i))
+    (number_within 1 MOST_WORKERS h)) (number_within 1 MOST_PORT g) service served in
+    let (w, workers, one) = then_some (λ w. option_map (service_with p w) (number_within 1 MOST_SESSIONS i)) (number_within 1 MOST_WORKERS h) service two in
+    let (n, sessions) = map_some (service_with p w) (number_within 1 MOST_SESSIONS i) service one in
+    let plain = plain_inputs b c d e f inputs read in
+    let values = b ∷ handed c ∷ d ∷ e ∷ f ∷ g ∷ h ∷ i ∷ [] in
+    let first : a ≡ codes "serve" = (bytes_eq-Decides a (codes "serve")).0 name in
+    inr (inr (inl (
+      values,
+      handed_at a b c (d ∷ e ∷ f ∷ g ∷ h ∷ i ∷ []) ∙ ap (λ (word : List ℕ). word ∷ values) first,
+      refl,
+      all_true _ _ plain.classes (all_true _ _ (plain_handed c plain.recodes) (all_true _ _ plain.ptable (all_true _ _ plain.people
+          (all_true _ _ plain.threshold (all_true _ _ (plain_within 1 MOST_PORT p g port) (all_true _ _ (plain_within 1 MOST_WORKERS w h workers)
+          (all_true _ _ (plain_within 1 MOST_SESSIONS n i sessions) refl))))))),
+    )))
+serve_list (a ∷ b ∷ c ∷ d ∷ e ∷ f ∷ g ∷ h ∷ i ∷ x ∷ rest) k len name named = absurd (omega (arith, len))
+
+plain_either : (word : List ℕ) → is_plain word ≡ true → is_plain (handed word) ≡ true
+plain_either word plain = go (bytes_eq word (codes "-"))
+  where
+    go : (b : Bool) → is_plain (if b then codes "none" else word) ≡ true
+    go true = refl
+    go false = plain
+
+gen_list : (words : List (List ℕ)) (k : Command) → length words ≡ 3 → bytes_eq (word_at words 0) (codes "gen") ≡ true
+    → gen_named (word_at words 1) (word_at words 2) ≡ Some k → AreTested words
+gen_list [] k len name named = absurd (omega (arith, len))
+gen_list (a ∷ []) k len name named = absurd (omega (arith, len))
+gen_list (a ∷ b ∷ []) k len name named = absurd (omega (arith, len))
+gen_list (a ∷ b ∷ c ∷ []) k len name named =
+    let (population, read) = map_some command.Gen (population_named b c) k named in
+    let (p, persons, more) = then_some (λ n. option_map (population_with n) (number_of c)) (number_within 1 MOST_PERSONS b) population read in
+    let (start, is_start) = map_some (population_with p) (number_of c) population more in
+    let values = b ∷ handed c ∷ [] in
+    let first : a ≡ codes "gen" = (bytes_eq-Decides a (codes "gen")).0 name in
+    inr (inr (inr (
+      values,
+      handed_at a b c [] ∙ ap (λ (word : List ℕ). word ∷ values) first,
+      refl,
+      all_true _ _ (plain_within 1 MOST_PERSONS p b persons) (all_true _ _ (plain_either c (plain_number c start is_start)) refl),
+    )))
+gen_list (a ∷ b ∷ c ∷ x ∷ rest) k len name named = absurd (omega (arith, len))
+
+script_tested : (words : List (List ℕ)) (k : Command) → script_words words ≡ Some k → AreTested words
+script_tested words k h =
+    let (test, named) = if_some ((length words == 7) && bytes_eq (word_at words 0) (codes "script")) (script_named (word_at words 1) (word_at words 2) (word_at words 3) (word_at words 4) (word_at words 5) (word_at words 6)) k h in
+    let (len, name) = both (length words == 7) (bytes_eq (word_at words 0) (codes "script")) test in
+    script_list words k (eqb-true (length words) 7 len) name named
+
+lanes_tested : (words : List (List ℕ)) (k : Command) → lanes_words words ≡ Some k → AreTested words
+lanes_tested words k h =
+    let (test, named) = if_some ((length words == 7) && bytes_eq (word_at words 0) (codes "lanes")) (lanes_named (word_at words 1) (word_at words 2) (word_at words 3) (word_at words 4) (word_at words 5) (word_at words 6)) k h in
+    let (len, name) = both (length words == 7) (bytes_eq (word_at words 0) (codes "lanes")) test in
+    lanes_list words k (eqb-true (length words) 7 len) name named
+
+serve_tested : (words : List (List ℕ)) (k : Command) → serve_words words ≡ Some k → AreTested words
+serve_tested words k h =
+    let (test, named) = if_some ((length words == 9) && bytes_eq (word_at words 0) (codes "serve")) (serve_named (word_at words 1) (word_at words 2) (word_at words 3) (word_at words 4) (word_at words 5) (word_at words 6) (word_at words 7) (word_at words 8)) k h in
+    let (len, name) = both (length words == 9) (bytes_eq (word_at words 0) (codes "serve")) test in
+    serve_list words k (eqb-true (length words) 9 len) name named
+
+gen_tested : (words : List (List ℕ)) (k : Command) → gen_words words ≡ Some k → AreTested words
+gen_tested words k h =
+    let (test, named) = if_some ((length words == 3) && bytes_eq (word_at words 0) (codes "gen")) (gen_named (word_at words 1) (word_at words 2)) k h in
+    let (len, name) = both (length words == 3) (bytes_eq (word_at words 0) (codes "gen")) test in
+    gen_list words k (eqb-true (length words) 3 len) name named
+
+either : {A : Type 0} (P : Type 0) (o other : Option A) (x : A) → option_or o other ≡ Some x → (o ≡ Some x → P)
+    → (other ≡ Some x → P) → P
+either P (Some y) other x h one two = one h
+either P None other x h one two = two h
+
+-- the words of a command pass
+pub tested : (words : List (List ℕ)) (k : Command) → command_of words ≡ Some k → AreTested words
+tested words k h =
+    either (AreTested words) (script_words words) (option_or (lanes_words words) (option_or (serve_words words) (gen_words words))) k h
+    (script_tested words k)
+    (λ more. either (AreTested words) (lanes_words words) (option_or (serve_words words) (gen_words words)) k more (lanes_tested words k)
+    (λ most. either (AreTested words) (serve_words words) (gen_words words) k most (serve_tested words k) (gen_tested words k)))
