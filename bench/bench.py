@@ -72,9 +72,10 @@ PAIRS = [
     (SMALL, ONE_DIMENSION, COLD, 1_000),
     (LARGE, ONE_DIMENSION, COLD, 1_000),
     (LARGE, TWO_DIMENSIONS, COLD, 400),
-    (LARGE, MARGINS, COLD, 100),
+    # Where threads count, a table takes so little beside what loading differs by that many are run.
+    (LARGE, MARGINS, COLD, 1_000),
     (LARGE, FILTERED, COLD, 100),
-    (LARGE, LARGEST, COLD, 100),
+    (LARGE, LARGEST, COLD, 1_000),
     (LARGE, RECODED, COLD, 100),
     (LARGE, MARGINS, KEPT, 10_000),
     (LARGE, LARGEST, KEPT, 10_000),

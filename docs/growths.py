@@ -1,0 +1,350 @@
+#!/usr/bin/env python3
+"""Runs scripts and lanes over examples/small with one allocation refused, for one allocation after
+another, and compares each output with what the definitions allow, by a model that shares nothing
+with the program. Loading makes most of them: of those each 60th is refused, of the last 240 each.
+
+    growths.py PROGRAM FOLDER [WORD ..]
+
+PROGRAM was built by `rt try --fail-alloc 100000`: a counter is compared with that number in two
+places, and each run is of a copy with another number there. `rt try` takes its program away at its
+end, so it has to be copied from the folder that it is run in while it runs (as `gen 1000000 1`, for
+one). FOLDER is examples/small. With words, only the cases whose names have one of them are run. It
+prints each output that the definitions don't allow, and then ends with status 1.
+"""
+import collections
+import csv
+import os
+import subprocess
+import sys
+import tempfile
+
+# A counter is compared with this number.
+BUILT_WITH = b"\x48\x3d" + (100_000).to_bytes(4, "little")
+MEMORY, TOTAL = "memory\n", "Total"
+DONE, NO_MEMORY = 0, 9
+ALL = "no reply is memory"
+# How many of the last allocations are refused one by one, which of those before, and how many more.
+LAST, STRIDE, BEYOND = 240, 60, 20
+FILES = ("classes", "recodes", "ptable", "people")
+# The lines, and whether they are answered as lanes or as a script.
+CASES = {
+    "add, amend and drop": ("script", """
+custodian add 105 9 SEX=2 AGE=65+ AREA=E1
+custodian amend 101 SEX=2
+custodian drop 104
+custodian publish
+a table SEX
+custodian add 104 7 SEX=2 AGE=16-64 AREA=E2
+custodian publish
+a table AREA by SEX with totals
+"""),
+    "a cache of one cube": ("script", """
+custodian cache 1
+a table SEX
+a table SEX
+custodian drop 104
+custodian publish
+a table SEX
+b table AREA by SEX with totals
+custodian stats
+"""),
+    "two publications": ("script", """
+custodian drop 104
+custodian publish
+custodian publish
+a table SEX
+"""),
+    "cache and stats": ("script", """
+a table SEX
+a table SEX
+custodian stats
+custodian cache 200
+custodian clear
+custodian stats
+a table AREA by SEX with totals
+a table AREA by SEX with totals
+custodian stats
+"""),
+    "many edits, some of one person": ("script", """
+custodian drop 101
+custodian drop 102
+custodian drop 103
+custodian drop 104
+custodian publish
+a table SEX
+custodian add 101 200 SEX=1 AGE=0-15 AREA=E1
+custodian amend 101 AREA=E2
+custodian amend 101 SEX=2
+custodian add 102 100 SEX=1 AGE=16-64 AREA=E1
+custodian publish
+a table AREA by SEX with totals
+"""),
+    "a batch beside a table": ("lanes", """
+custodian drop 104
+custodian publish
+a table SEX
+--
+a table SEX
+"""),
+    "three lanes in two phases": ("lanes", """
+custodian drop 104
+custodian publish
+a table SEX
+b table AREA by SEX with totals
+a table SEX
+--
+b table SEX
+custodian add 104 7 SEX=2 AGE=16-64 AREA=E2
+custodian publish
+a table SEX
+"""),
+}
+
+
+def rows_of(path):
+    with open(path, encoding="ascii", newline="") as file:
+        return list(csv.DictReader(file))
+
+
+class Model:
+    """What the definitions say of tables of this folder, where all is small and the threshold 0."""
+
+    def __init__(self, folder):
+        self.codes = collections.defaultdict(list)
+        for row in rows_of(f"{folder}/classes.csv"):
+            self.codes[row["variable"]].append(row["code"])
+        self.pvalues = {(int(row["pcv"]), int(row["ckey"])): int(row["pvalue"])
+                        for row in rows_of(f"{folder}/ptable.csv")}
+        self.first = tuple(tuple(sorted(row.items())) for row in rows_of(f"{folder}/people.csv"))
+
+    def shown(self, records):
+        count, key = len(records), sum(int(one["record_key"]) for one in records) % 256
+        return str(count + self.pvalues.get((count, key), 0))
+
+    def table(self, number, people, query):
+        """The reply to `table NAME [by NAME] [with totals]` at a release."""
+        words = query.split()
+        totals = words[-2:] == ["with", "totals"]
+        names = [word for word in words[1:-2 if totals else None] if word != "by"]
+        entries = [self.codes[name] + [TOTAL] * totals for name in names]
+        records = [dict(one) for one in people]
+        lines = [f"release {number}", ",".join([*names, "count"])]
+        cells = [()]
+        for entry in entries:
+            cells = [(*cell, code) for cell in cells for code in entry]
+        for cell in cells:
+            inside = [one for one in records
+                      if all(code in (TOTAL, one[name]) for name, code in zip(names, cell))]
+            lines.append(",".join([*cell, self.shown(inside)]))
+        return "".join(line + "\n" for line in [*lines, "."])
+
+
+def edited(people, edit):
+    """The records after an edit that is none of the refused ones."""
+    word, person, *rest = edit.split()
+    old = next((dict(one) for one in people if dict(one)["person"] == person), None)
+    others = [one for one in people if dict(one)["person"] != person]
+    if word == "drop":
+        return tuple(others) if old else None
+    if word == "add":
+        key, *rest = rest
+        if old:
+            return None
+        old = {"person": person, "record_key": key}
+    elif old is None:
+        return None
+    new = old | dict(setting.split("=") for setting in rest)
+    return (*others, tuple(sorted(new.items())))
+
+
+def cut(text):
+    """The replies of a text: tables as a whole, others a line each."""
+    replies, table = [], ""
+    for line in text.splitlines(keepends=True):
+        table += line
+        if not table.startswith("release ") or line == ".\n":
+            replies.append(table)
+            table = ""
+    return replies if not table else None
+
+
+class Custodian:
+    """The chain and the held edits, led by the custodian's lines and their replies."""
+
+    def __init__(self, model, chain):
+        self.model, self.chain, self.held = model, list(chain), []
+
+    def allows(self, line, reply):
+        if reply == MEMORY:
+            return True
+        people = self.chain[-1]
+        if line.startswith("table "):
+            return reply == self.model.table(len(self.chain) - 1, people, line)
+        if line.startswith("stats"):
+            return reply.startswith(f"stats release {len(self.chain) - 1} looks ")
+        if line.startswith("cache "):
+            return reply == f"{line}\n"
+        if line == "clear":
+            return reply == "cleared\n"
+        if line != "publish":
+            self.held.append(line)
+            return reply == f"held {len(self.held)}\n"
+        if not self.held:
+            return reply == "refused batch 0 5 Nothing\n"
+        for edit in self.held:
+            people = edited(people, edit)
+            if people is None:
+                # (an edit before it found no memory, so this one doesn't follow)
+                self.held = []
+                return reply.startswith("refused batch ")
+        self.chain.append(people)
+        self.held = []
+        return reply == f"published {len(self.chain) - 1}\n"
+
+
+def allows_script(model, lines, text):
+    replies, custodian = cut(text), Custodian(model, [model.first])
+    if replies is None or len(replies) != len(lines):
+        return False
+    for line, reply in zip(lines, replies):
+        lane, words = line.split(" ", 1)
+        if lane == "custodian":
+            if not custodian.allows(words, reply):
+                return False
+        elif reply != MEMORY:
+            number = len(custodian.chain) - 1
+            if reply != model.table(number, custodian.chain[-1], words):
+                return False
+    return True
+
+
+def allows_phase(model, lanes, custodian, last, texts):
+    """Whether these are texts of a phase's lanes from the custodian's chain and held edits on."""
+    begun = len(custodian.chain) - 1
+    for line, reply in zip(lanes.get("custodian", []), texts.get("custodian", [])):
+        if not custodian.allows(line, reply):
+            return False
+    for lane, replies in texts.items():
+        if len(replies) != len(lanes[lane]):
+            return False
+        if lane == "custodian":
+            continue
+        seen = max(begun, last.get(lane, 0))
+        for line, reply in zip(lanes[lane], replies):
+            if reply == MEMORY:
+                continue
+            seen = next((number for number in range(seen, len(custodian.chain))
+                         if reply == model.table(number, custodian.chain[number], line)), None)
+            if seen is None:
+                return False
+        last[lane] = seen
+    return True
+
+
+def allows_lanes(model, lines, text):
+    """The number of phases that the text has, each allowed; None where one isn't."""
+    phases, lane = [{}], None
+    for line in lines:
+        if line == "--":
+            phases.append({})
+        else:
+            lane, words = line.split(" ", 1)
+            phases[-1].setdefault(lane, []).append(words)
+    # (a phase has its lanes in the order in which the script first names them)
+    order = list(dict.fromkeys(line.split(" ", 1)[0] for line in lines if line != "--"))
+    phases = [{lane: lanes[lane] for lane in order if lane in lanes} for lanes in phases]
+    parts = text.split("phase ")
+    if parts[0] or len(parts) - 1 > len(phases):
+        return None
+    custodian, last = Custodian(model, [model.first]), {}
+    for number, (lanes, part) in enumerate(zip(phases, parts[1:]), 1):
+        head, rest = part.split("\n", 1)
+        if head != str(number):
+            return None
+        texts = {}
+        for piece in ("\n" + rest).split("\nlane ")[1:]:
+            name, replies = (piece if piece.endswith("\n") else piece + "\n").split("\n", 1)
+            texts[name] = cut(replies)
+        if list(texts) != list(lanes) or None in texts.values():
+            return None
+        if not allows_phase(model, lanes, custodian, last, texts):
+            return None
+    return len(parts) - 1, len(phases)
+
+
+def allowed(model, command, lines, status, text):
+    """How a run ended, in a word; None where the definitions don't allow it."""
+    if status == NO_MEMORY:
+        before = text.removesuffix("fault memory\n")
+        if command == "lanes" and before:
+            return "no memory" if allows_lanes(model, lines, before) else None
+        return None if before else "no memory"
+    if status != DONE:
+        return None
+    if command == "lanes":
+        told = allows_lanes(model, lines, text)
+        if not told or told[0] != told[1]:
+            return None
+    elif not allows_script(model, lines, text):
+        return None
+    return (ALL, "one is memory", "more are memory")[min(text.count(MEMORY), 2)]
+
+
+def run(program, number, folder, command, words):
+    path = f"{folder}/program-{number}"
+    with open(path, "wb") as out:
+        out.write(program.replace(BUILT_WITH, BUILT_WITH[:2] + number.to_bytes(4, "little")))
+    os.chmod(path, 0o755)
+    try:
+        done = subprocess.run([path, command, *words], capture_output=True, timeout=60, check=False)
+    finally:
+        os.remove(path)
+    return done.returncode, done.stdout.decode("ascii")
+
+
+def main(path, small, *chosen):
+    with open(path, "rb") as file:
+        program = file.read()
+    places = program.count(BUILT_WITH)
+    print(f"the number stands in {places} places")
+    model, failed = Model(small), 0
+    with tempfile.TemporaryDirectory() as folder:
+        for name, (command, text) in CASES.items():
+            if chosen and not any(word in name for word in chosen):
+                continue
+            lines = text.strip().splitlines()
+            script = f"{folder}/script.txt"
+            with open(script, "w", encoding="ascii") as out:
+                out.writelines(line + "\n" for line in lines)
+            words = [*(f"{small}/{file}.csv" for file in FILES), "0", script]
+            status, whole = run(program, 10_000_000, folder, command, words)
+            if status != DONE or allowed(model, command, lines, status, whole) != ALL:
+                sys.exit(f"{name}: {status} {whole}")
+            def meets(number):
+                """Whether a run with that allocation refused differs from one with none refused."""
+                return run(program, number, folder, command, words) != (DONE, whole)
+
+            # Loading makes most of them, one for each page and shard; lines make the last ones.
+            least, most = 1, 20_000
+            while most - least > 1:
+                middle = (least + most) // 2
+                if any(meets(middle + more) for more in range(6)):
+                    least = middle
+                else:
+                    most = middle
+            first = max(1, most - LAST)
+            ends = collections.Counter()
+            for number in [*range(1, first, STRIDE), *range(first, most + BEYOND)]:
+                status, text = run(program, number, folder, command, words)
+                end = allowed(model, command, lines, status, text)
+                if end is None:
+                    failed += 1
+                    print(f"{name}, allocation {number}: status {status}\n{text}")
+                ends[end] += 1
+            print(f"{name} ({command}): {most} allocations, each from {first} on, and each "
+                  f"{STRIDE}th before and some {BEYOND} beyond: {dict(ends)}", flush=True)
+    sys.exit(1 if failed else 0)
+
+
+if __name__ == "__main__":
+    main(*sys.argv[1:])
