@@ -49,14 +49,6 @@ packed_cut [] some = absurd (omega arith)
 packed_cut (r ∷ rs) some =
     subst (Packed (cut (r ∷ rs))) (omega arith) (packed_from (page_of (r ∷ []) 0 ∷ []) 1 rs (record { count = refl; low = omega arith; high = omega arith }))
 
--- the last of so many records stands on this page
-pub last_number : (rs : List Record) (n : ℕ) → length rs ≡ n + 1 → length (cut rs) ≡ n / PAGE_ROOM + 1
-last_number rs n is =
-    let packed = packed_cut rs (omega arith) in
-    let count = packed.count in
-    let low = packed.low in
-    let high = packed.high in omega arith
-
 -- ---- records behind full pages
 -- one more record, where no page has room
 pub added_new : (ps : List PageValue) (r : Record) → (length ps ≡ 0) ⊎ (PAGE_ROOM ≤ last_length ps) → with_added 0 r ps ≡ ps ++ page_of (r ∷ []) 0 ∷ []

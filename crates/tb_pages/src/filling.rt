@@ -1,10 +1,11 @@
-// Release 0's pages and key book.
+// The key book of pages.
 
-ghost use Rattle.std.specs.Prelude.{◌≡◌, ◌≤◌, IfOk, length};
-ghost use Rattle.tb_base.specs.declared.people.TheConstants.{MOST_PERSONS};
+ghost use Rattle.std.specs.Prelude.{◌≡◌, ◌≤◌, All, None, IfOk, OnOk, length};
+ghost use Rattle.std.specs.FinMap.{get};
 ghost use Rattle.tb_base.specs.Persons.{AreDistinct};
-ghost use Rattle.tb_model.specs.Pages.{cut};
-ghost use Rattle.tb_pages.specs.Fillings.{AreFilled};
+ghost use Rattle.tb_model.specs.Pages.{records_in};
+ghost use Rattle.tb_pages.specs.declared.pages.TheConstants.{PAGES};
+ghost use Rattle.tb_pages.specs.Fillings.{AreBooked, with_entries};
 
 use crate::book::Book;
 use crate::lists::Lists;
@@ -12,33 +13,32 @@ use crate::pages::Pages;
 use crate::shard::Entry;
 use std::alloc::Global;
 use tb_base::{Memory, Record};
-use tb_model::PAGE_ROOM;
 
-// The key book of records that are put into pages, each after the other.
-fn book_of(alloc: Global, records: &[Record]) -> Result<Book, Memory>
+// Adds the entries of a page's records, whose persons have none.
+fn note(lists: &mut Lists, page: u16, records: &[Record]) -> Result<(), Memory>
     requires distinct { AreDistinct records.now }
-    requires few { length records.now ≤ MOST_PERSONS }
-    ensures { IfOk result (λ book. AreFilled records.now (cut records.now) book) }
+    requires new { All (λ r. get lists.old r.person ≡ None) records.now }
+    ensures { OnOk result (lists.new ≡ with_entries page records.now lists.old) }
 {
-    let mut lists = Lists::with_room(alloc, records)?;
     for i in 0..records.len() {
         let one = &records[i];
         let (person, key) = (one.person, one.key);
-        let page = Some((i / PAGE_ROOM) as u16);
+        let page = Some(page);
         lists.push(Entry { person, key, page })?;
+    }
+    Ok(())
+}
+
+/// The key book of the records that stand in pages.
+pub(crate) fn book_for(alloc: Global, pages: &Pages) -> Result<Book, Memory>
+    requires distinct { AreDistinct (records_in pages.now) }
+    requires few { length pages.now ≤ PAGES }
+    ensures { IfOk result (λ book. AreBooked pages.now book) }
+{
+    let mut lists = Lists::with_room(alloc, pages)?;
+    for i in 0..pages.len() {
+        note(&mut lists, i as u16, pages.page(i))?;
     }
     let book = lists.finish(alloc)?;
     Ok(book)
-}
-
-/// The key book and the pages of records that are put in each after the other. The list of records
-/// is given up page by page, so that no second list of them all stands.
-pub(crate) fn fill(alloc: Global, records: Vec<Record>) -> Result<(Pages, Book), Memory>
-    requires distinct { AreDistinct records.items }
-    requires few { length records.items ≤ MOST_PERSONS }
-    ensures { IfOk result (λ parts. AreFilled records.items parts.0 parts.1) }
-{
-    let book = book_of(alloc, &records)?;
-    let pages = Pages::of(alloc, records)?;
-    Ok((pages, book))
 }

@@ -2,9 +2,9 @@
 //!
 //! It stands on `tb_base` and on `tb_model`, whose `Pages` says what pages are and how records are
 //! cut into pages. Here `specs/Pages` says what a change makes of them, `Books` what a key book in
-//! shards is, `Fillings` how both are made from a list of records, `Registers` how they stand
-//! together and what a change leaves, `Lents` which pages are lent, `Rooms` how many pages there
-//! can be, and `Stamps` what the stamps of pages tell. `laws` cites the last two.
+//! shards is, `Fillings` how it is made from pages, `Registers` how they stand together and what a
+//! change leaves, `Stocks` what a release keeps, `Lents` which pages are lent, `Rooms` how many
+//! pages there can be, and `Stamps` what the stamps of pages tell. `laws` cites the last two.
 //!
 //! Of the lemmas `PageLists` (one page changes), `PageLaws` (all records of pages), `PageFinds` (a
 //! person's page and place), `CutLemmas` (pages from behind), `RoomLemmas` and `StampLemmas` are
@@ -21,9 +21,11 @@ mod page;
 mod pages;
 mod register;
 mod shard;
+mod stock;
 
 pub use book::{Book, SHARDS};
 pub use lent::{Lent, filled_places};
 pub use pages::{PAGES, Pages};
 pub use register::{Register, Spot};
 pub use shard::Entry;
+pub use stock::Stock;

@@ -7,6 +7,7 @@ ghost use Rattle.tb_pages.specs.Books.{AreLists, AreSorted, entries_of};
 ghost use Rattle.tb_pages.specs.declared.book.TheConstants.{SHARDS as COUNT};
 
 use crate::book::{Book, SHARDS};
+use crate::pages::Pages;
 use crate::shard::{Entry, Shard};
 use std::alloc::Global;
 use std::marker::Model;
@@ -33,16 +34,26 @@ impl Model for Lists {
     ghost invariant = { λ l. AreLists (map entries_of l.lists.items) };
 }
 
+// Counts the records that belong to each shard.
+fn count(counts: &mut Vec<u32>, records: &[Record])
+    requires { length counts.old.items ≡ COUNT }
+    ensures { length counts.new.items ≡ COUNT }
+{
+    for one in records {
+        let shard = one.person as usize % SHARDS;
+        counts[shard] = u32::saturating_add(counts[shard], 1);
+    }
+}
+
 // How many of the records belong to each shard, so that its list needn't grow. No clause speaks of
 // it.
-fn counts_of(alloc: Global, records: &[Record]) -> Result<Vec<u32>, Memory>
+fn counts_of(alloc: Global, pages: &Pages) -> Result<Vec<u32>, Memory>
     ensures { IfOk result (λ counts. length counts.items ≡ COUNT) }
 {
     let mut counts = Vec::new(alloc);
     counts.resize(SHARDS, 0)?;
-    for one in records {
-        let shard = one.person as usize % SHARDS;
-        counts[shard] = u32::saturating_add(counts[shard], 1);
+    for i in 0..pages.len() {
+        count(&mut counts, pages.page(i));
     }
     Ok(counts)
 }
@@ -58,11 +69,11 @@ fn push_to(list: &mut Vec<Entry>, entry: Entry) -> Result<(), Memory>
 }
 
 impl Lists {
-    /// No entries, with room for those of these records.
-    pub(crate) fn with_room(alloc: Global, records: &[Record]) -> Result<Lists, Memory>
+    /// No entries, with room for those of the records in these pages.
+    pub(crate) fn with_room(alloc: Global, pages: &Pages) -> Result<Lists, Memory>
         ensures { IfOk result (λ lists. lists ≡ empty) }
     {
-        let counts = counts_of(alloc, records)?;
+        let counts = counts_of(alloc, pages)?;
         let mut lists = Vec::with_capacity(alloc, SHARDS)?;
         for i in 0..SHARDS {
             lists.push(Vec::with_capacity(alloc, counts[i] as usize)?)?;

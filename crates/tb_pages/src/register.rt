@@ -1,16 +1,14 @@
 ghost use Rattle.std.specs.Prelude.{◌≡◌, ◌<◌, ◌≤◌, true, false, Some, IfOk, length};
 ghost use Rattle.std.specs.FinMap.{get};
 ghost use Rattle.tb_base.specs.declared.people.TheConstants.{MOST_PERSONS};
-ghost use Rattle.tb_base.specs.Persons.{AreDistinct, has_person};
+ghost use Rattle.tb_base.specs.Persons.{has_person};
 ghost use Rattle.tb_pages.specs.declared.pages.TheConstants.{PAGES};
 ghost use Rattle.tb_pages.specs.Books.{keys_in};
-ghost use Rattle.tb_pages.specs.Fillings.{AreFilled};
 ghost use Rattle.tb_model.specs.Pages.{records_in};
 ghost use Rattle.tb_pages.specs.Pages.{page_number, record_of};
 ghost use Rattle.tb_pages.specs.Registers.{IsAdded, IsRegister, IsReplaced, IsSpot, IsTaken};
 
 use crate::book::Book;
-use crate::filling::fill;
 use crate::pages::Pages;
 use crate::shard::Entry;
 use std::alloc::Global;
@@ -24,8 +22,8 @@ pub struct Spot {
 }
 
 /// Records in pages, beside the key book that has each person's page, and how many records there
-/// are. It is what a release keeps, and the draft of the next one: `share` takes its pages and
-/// shards over, and each that a change touches is copied once.
+/// are. It is the draft of a release: its pages and shards are those of the one before, and each
+/// that a change touches is copied once.
 ///
 /// A call that is out of memory may leave it half changed; then it is to be given up.
 #[derive(Drop)]
@@ -36,34 +34,6 @@ pub struct Register {
 }
 
 impl Register {
-    /// These records, each put into the pages after the other, with stamp 0.
-    pub fn of(alloc: Global, records: Vec<Record>) -> Result<Register, Memory>
-        requires distinct { AreDistinct records.items }
-        requires few { length records.items ≤ MOST_PERSONS }
-        ensures filled { IfOk result
-            (λ register. AreFilled records.items register.pages register.book) }
-        ensures whole { IfOk result (λ register. IsRegister register) }
-    {
-        let living = records.len();
-        let (pages, book) = fill(alloc, records)?;
-        Ok(Register {
-            pages,
-            book,
-            living,
-        })
-    }
-
-    /// The same pages and shards, shared.
-    pub fn share(&self, alloc: Global) -> Result<Register, Memory>
-        ensures { IfOk result (λ register. register ≡ self.now) }
-    {
-        Ok(Register {
-            pages: self.pages.share(alloc)?,
-            book: self.book.share(alloc)?,
-            living: self.living,
-        })
-    }
-
     /// Whether a person has a record.
     pub fn has(&self, person: u32) -> bool
         requires { IsRegister self.now }

@@ -1,46 +1,74 @@
--- Release 0.
-use Rattle.std.proofs.Common.{◌≡◌, ◌+◌, ◌≤◌, List, length, map, refl, sym, ap, ◌∙◌, subst, arith}
+-- Release 0, and what a draft takes over from a release.
+use Rattle.std.proofs.Common.{◌≡◌, ℕ, ◌+◌, ◌≤◌, List, length, refl, sym, ap, ◌∙◌, subst, arith}
 use Rattle.std.specs.Prelude.{All}
-use Rattle.std.specs.FinMap as finmap
-use Rattle.std.specs.Ordering.{nat_cmp}
 use Rattle.tb_base.specs.declared.people.TheConstants.{MOST_PERSONS}
 use Rattle.tb_base.specs.declared.records.Record.{Record}
 use Rattle.tb_base.specs.Persons.{AreDistinct}
-use Rattle.tb_model.specs.Pages.{PageValue, cut, records_in}
-use Rattle.tb_model.specs.Releases.{KeyBook, first_release}
+use Rattle.tb_model.specs.Pages.{PageValue, records_in}
+use Rattle.tb_model.specs.Releases.{KeyBook, ReleaseValue, first_release}
 use Rattle.tb_model.specs.Setups.{SetupValue}
 use Rattle.tb_pages.specs.declared.register.Register.{Register}
+use Rattle.tb_pages.specs.declared.stock.Stock.{Stock}
 use Rattle.tb_pages.specs.Books.{keys_in}
-use Rattle.tb_pages.specs.Fillings.{AreFilled}
+use Rattle.tb_pages.specs.Fillings.{keys_of_records}
 use Rattle.tb_pages.specs.Registers.{IsRegister}
 use Rattle.tb_pages.specs.Rooms.{AreFilledBy}
+use Rattle.tb_pages.specs.Stocks.{IsFirst, IsStock, keys_of, keys_with}
 use Rattle.tb_pages.proofs.PageLaws.{records_in-cut}
-use Rattle.tb_pages.proofs.RoomLemmas.{records_fill}
-use Rattle.tb_release.specs.Releases.{HasKeyOf, IsKept, IsSound, registered}
+use Rattle.tb_pages.specs.declared.pages.TheConstants.{PAGES}
+use Rattle.tb_pages.proofs.RoomLemmas.{few_pages, records_fill}
+use Rattle.tb_release.specs.Releases.{HasKeyOf, IsKept, IsShared, IsSound, stocked}
 use Rattle.tb_release.proofs.Books.{key_at}
 use Rattle.tb_release.proofs.Edited.{same_release}
 
-all_there : (records : List Record) (register : Register) → AreFilled records register.pages register.book → records_in register.pages ≡ records
-all_there records register filled = ap records_in filled.all ∙ records_in-cut records
+all_there : (records : List Record) (stock : Stock) → IsFirst records stock → records_in stock.pages ≡ records
+all_there records stock first = ap records_in first.pages ∙ records_in-cut records
 
-first_sound : (records : List Record) (register : Register) → AreFilled records register.pages register.book → AreDistinct records → length records ≤ MOST_PERSONS → IsSound (registered register 0 0)
-first_sound records register filled distinct few =
-    let all = all_there records register filled in
-    let pairs : KeyBook = finmap.from_entries {R = nat_cmp} (map (λ (r : Record). (r.person, r.key)) records) in
-    let keys : All (HasKeyOf pairs) records = λ k d within. key_at records k d distinct within in record {
+-- the keys are those of the records
+first_keys : (records : List Record) (stock : Stock) → IsFirst records stock → keys_of stock ≡ keys_of_records records
+first_keys records stock first = ap (λ b. keys_with b stock.pages) first.book ∙ ap keys_of_records (all_there records stock first)
+
+first_sound : (records : List Record) (stock : Stock) → IsFirst records stock → AreDistinct records → length records ≤ MOST_PERSONS → IsSound (stocked stock 0 0)
+first_sound records stock first distinct few =
+    let all = all_there records stock first in
+    let keys : All (HasKeyOf (keys_of_records records)) records = λ k d within. key_at records k d distinct within in record {
       distinct = subst AreDistinct (sym all) distinct;
-      in_book = subst (All (HasKeyOf (keys_in register.book))) (sym all) (subst (λ (b : KeyBook). All (HasKeyOf b) records) (sym filled.keys) keys);
+      in_book = subst (All (HasKeyOf (keys_of stock))) (sym all) (subst (λ (b : KeyBook). All (HasKeyOf b) records) (sym (first_keys records stock first)) keys);
       few = subst (λ (rs : List Record). length rs ≤ MOST_PERSONS) (sym all) few;
       in_pages = refl;
     }
 
-pub first_kept : (records : List Record) (register : Register) → AreFilled records register.pages register.book → IsRegister register → AreDistinct records → length records ≤ MOST_PERSONS → IsKept register 0 0
-first_kept records register filled whole distinct few = record {
-  whole = whole;
-  sound = first_sound records register filled distinct few;
-  room = subst (λ (ps : List PageValue). AreFilledBy ps (MOST_PERSONS + 0)) (sym filled.all) (let h = records_fill records in omega arith);
+first_whole : (records : List Record) (stock : Stock) → IsFirst records stock → AreDistinct records → IsStock stock
+first_whole records stock first distinct =
+    let all = all_there records stock first in record {
+      placed = λ b is. (let none = first.book in cc);
+      living = first.living ∙ sym (ap length all);
+      distinct = subst AreDistinct (sym all) distinct;
+    }
+
+pub first_kept : (records : List Record) (stock : Stock) → IsFirst records stock → AreDistinct records → length records ≤ MOST_PERSONS → IsKept stock 0 0
+first_kept records stock first distinct few = record {
+  whole = first_whole records stock first distinct;
+  sound = first_sound records stock first distinct few;
+  room = subst (λ (ps : List PageValue). AreFilledBy ps (MOST_PERSONS + 0)) (sym first.pages) (let h = records_fill records in omega arith);
   few = omega arith;
 }
 
-pub first_is : (setup : SetupValue) (records : List Record) (register : Register) → AreFilled records register.pages register.book → registered register 0 0 ≡ first_release setup records
-first_is setup records register filled = same_release (all_there records register filled) filled.all filled.keys refl refl
+pub first_is : (setup : SetupValue) (records : List Record) (stock : Stock) → IsFirst records stock → stocked stock 0 0 ≡ first_release setup records
+first_is setup records stock first = same_release (all_there records stock first) first.pages (first_keys records stock first) refl refl
+
+-- ---- a release is shared
+pub few_pages_kept : (stock : Stock) (number changes : ℕ) → IsKept stock number changes → length stock.pages ≤ PAGES
+few_pages_kept stock number changes kept =
+    let few = kept.few in
+    let below = few_pages stock.pages (MOST_PERSONS + changes) kept.room (omega arith) in omega arith
+
+pub shared : (stock : Stock) (number changes : ℕ) (release : ReleaseValue) (register : Register) → IsKept stock number changes → stocked stock number changes ≡ release
+    → register.pages ≡ stock.pages → keys_in register.book ≡ keys_of stock → IsRegister register → IsShared release register
+shared stock number changes release register kept seen pages keys whole =
+    subst (λ (r : ReleaseValue). IsShared r register) seen (record {
+      same = same_release (ap records_in (sym pages)) (sym pages) (sym keys) refl refl;
+      whole = whole;
+      sound = kept.sound;
+      room = subst (λ (ps : List PageValue). AreFilledBy ps (MOST_PERSONS + changes)) (sym pages) kept.room;
+    })

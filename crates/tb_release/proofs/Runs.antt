@@ -1,5 +1,5 @@
 -- All edits, from a draft's beginning to its end.
-use Rattle.std.proofs.Common.{◌≡◌, ℕ, ◌+◌, ◌<◌, ◌≤◌, Bool, true, false, cond, eqb, List, [], ◌∷◌, ◌++◌, map, length, drop, get_or, refl, sym, ap, ◌∙◌, subst, arith, append_assoc}
+use Rattle.std.proofs.Common.{◌≡◌, ℕ, ◌+◌, ◌<◌, ◌≤◌, Bool, true, false, cond, eqb, List, [], ◌∷◌, ◌++◌, length, drop, get_or, refl, sym, ap, ◌∙◌, subst, arith, append_assoc}
 use Rattle.std.specs.Prelude.{Option, Some, None, All, slice_index}
 use Rattle.std.specs.List.{AllByRecursion}
 use Rattle.std.specs.Option.{ForSome}
@@ -16,9 +16,13 @@ use Rattle.tb_release.specs.declared.draft.Draft.{Draft}
 use Rattle.tb_release.specs.declared.edits.Edit.{Edit}
 use Rattle.tb_release.specs.declared.edits.Edit.TheVariants.{Add, Drop, Amend}
 use Rattle.tb_release.specs.declared.edits.Change.{Change}
-use Rattle.tb_release.specs.declared.fault.EditFaultKind.{EditFaultKind}
 use Rattle.tb_release.specs.declared.limits.TheConstants.{MOST_EDITS, MOST_RELEASES, MOST_CHANGES}
-use Rattle.tb_release.specs.Releases.{IsKept, IsSound, registered}
+use Rattle.tb_pages.specs.declared.register.Register.{Register}
+use Rattle.tb_pages.specs.declared.stock.Stock.{Stock}
+use Rattle.tb_pages.specs.Books.{Book}
+use Rattle.tb_pages.specs.Fillings.{ArePlaced}
+use Rattle.tb_pages.specs.Registers.{IsRegister}
+use Rattle.tb_release.specs.Releases.{IsKept, IsShared, IsSound, stocked}
 use Rattle.tb_release.specs.Edits.{edited, edited_all, person_of}
 use Rattle.tb_release.specs.Possible.{refusal, first_refusal}
 use Rattle.tb_release.specs.Batches.{BatchValue, Follows, change_of, changes_of, batch_refusal}
@@ -30,29 +34,41 @@ use Rattle.tb_release.proofs.Chained.{can_follow, batches_lead_on, length-change
 use Rattle.tb_release.proofs.Fitting.{fit_after, stay_fitting}
 
 -- ---- the beginning and the end of a draft
-pub draft_of : (draft : Draft) (release : ReleaseValue) → release ≡ registered draft.register release.number release.changes → IsKept draft.register release.number release.changes
+pub draft_of : (draft : Draft) (release : ReleaseValue) → IsShared release draft.register
     → draft.number ≡ release.number → draft.changes ≡ release.changes → draft.made ≡ 0 → release.number < MOST_RELEASES → IsDraftOf release draft
-draft_of draft release is kept number changes none more =
-    let same : release_of draft ≡ release = rw (number, changes) (sym is) in record {
+draft_of draft release shared number changes none more =
+    let same : release_of draft ≡ release = rw (number, changes) (sym shared.same) in record {
       whole = record {
-        whole = kept.whole;
-        sound = subst IsSound (sym same) (subst IsSound (sym is) kept.sound);
+        whole = shared.whole;
+        sound = subst IsSound (sym same) shared.sound;
         room =
             let adds : MOST_PERSONS + release.changes ≡ MOST_PERSONS + (draft.changes + draft.made) = omega (arith, changes, none) in
-            subst (AreFilledBy draft.register.pages) adds kept.room;
+            subst (AreFilledBy draft.register.pages) adds shared.room;
         number = omega (arith, number, more);
       };
       same = same;
       none = none;
     }
 
-pub draft_kept : (draft : Draft) → IsDraft draft → draft.changes + draft.made ≤ MOST_CHANGES → IsKept draft.register (draft.number + 1) (draft.changes + draft.made)
-draft_kept draft d few = record {
-  whole = d.whole;
+-- what a register has
+abbrev pub stock_of : Register → Stock
+stock_of register = record { pages = register.pages; book = Some register.book; living = register.living }
+
+placed_there : (register : Register) (o : Option Book) → o ≡ Some register.book → IsRegister register → ForSome o (λ b. ArePlaced b register.pages)
+placed_there register o is whole = λ b there. (let same : register.book ≡ b = cc in subst (λ (x : Book). ArePlaced x register.pages) same whole.placed)
+
+pub draft_kept : (draft : Draft) (stock : Stock) → stock ≡ stock_of draft.register → IsDraft draft → draft.changes + draft.made ≤ MOST_CHANGES → IsKept stock (draft.number + 1) (draft.changes + draft.made)
+draft_kept draft stock is d few = subst (λ (s : Stock). IsKept s (draft.number + 1) (draft.changes + draft.made)) (sym is) (record {
+  whole = record { placed = placed_there draft.register (Some draft.register.book) refl d.whole; living = d.whole.living; distinct = d.whole.distinct };
   sound = record { distinct = d.sound.distinct; in_book = d.sound.in_book; few = d.sound.few; in_pages = d.sound.in_pages };
   room = d.room;
   few = few;
-}
+})
+
+-- the next release is that of the draft
+pub draft_stocked : (draft : Draft) (stock : Stock) (next : ReleaseValue) (number changes : ℕ) → stock ≡ stock_of draft.register → next ≡ stocked stock number changes
+    → next ≡ record (release_of draft) { number = number; changes = changes }
+draft_stocked draft stock next number changes is same = same ∙ ap (λ s. stocked s number changes) is
 
 -- ---- the loop
 pub left_at : {X : Type 0} (xs : List X) (i : ℕ) (x : X) → i < length xs → x ≡ get_or xs i x → drop i xs ≡ x ∷ drop (i + 1) xs

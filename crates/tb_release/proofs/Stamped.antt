@@ -3,10 +3,8 @@ use Rattle.std.proofs.Common.{◌≡◌, ℕ, suc, ◌+◌, ◌<◌, ◌≤◌, 
 use Rattle.std.specs.Prelude.{fold}
 use Rattle.std.proofs.lemmas.Bool.{cases_order}
 use Rattle.std.proofs.lemmas.List.{length-take-le, take_all, take_more}
-use Rattle.tb_base.specs.declared.records.Record.{Record}
 use Rattle.tb_model.specs.Pages.{PageValue}
 use Rattle.tb_model.specs.Releases.{ReleaseValue, first_release}
-use Rattle.tb_model.specs.Setups.{SetupValue}
 use Rattle.tb_pages.specs.Pages.{no_page}
 use Rattle.tb_pages.specs.Stamps.{KeepsPages}
 use Rattle.tb_pages.proofs.StampLemmas.{keeps_changed, keeps_none, keeps_then}

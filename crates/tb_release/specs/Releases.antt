@@ -7,9 +7,11 @@ use Rattle.tb_base.specs.Persons.{AreDistinct}
 use Rattle.tb_model.specs.Pages.{PageValue, records_in}
 use Rattle.tb_model.specs.Releases.{KeyBook, ReleaseValue}
 use Rattle.tb_pages.specs.declared.register.Register.{Register}
+use Rattle.tb_pages.specs.declared.stock.Stock.{Stock}
 use Rattle.tb_pages.specs.Books.{keys_in}
 use Rattle.tb_pages.specs.Registers.{IsRegister}
 use Rattle.tb_pages.specs.Rooms.{AreFilledBy}
+use Rattle.tb_pages.specs.Stocks.{IsStock, keys_of}
 use Rattle.tb_release.specs.declared.limits.TheConstants.{MOST_CHANGES}
 
 -- a key book has a record's person with the record's key
@@ -40,10 +42,22 @@ abbrev pub registered : Register → ℕ → ℕ → ReleaseValue
 registered register number changes =
     release_view register.pages (keys_in register.book) number changes
 
--- a register serves as a release: persons are found on their pages, the release is sound, and there
--- are no more pages and changes than there can be
-pub record IsKept (register : Register) (number changes : ℕ) : Type 0 where
-  pub whole : IsRegister register
-  pub sound : IsSound (registered register number changes)
-  pub room : AreFilledBy register.pages (MOST_PERSONS + changes)
+-- the release of what is kept of it
+abbrev pub stocked : Stock → ℕ → ℕ → ReleaseValue
+stocked stock number changes = release_view stock.pages (keys_of stock) number changes
+
+-- what is kept serves as a release: it is whole, the release is sound, and there are no more pages
+-- and changes than there can be
+pub record IsKept (stock : Stock) (number changes : ℕ) : Type 0 where
+  pub whole : IsStock stock
+  pub sound : IsSound (stocked stock number changes)
+  pub room : AreFilledBy stock.pages (MOST_PERSONS + changes)
   pub few : changes ≤ MOST_CHANGES
+
+-- a register has the records and keys of a release, persons are found on their pages, and there are
+-- no more pages than its changes suffice for
+pub record IsShared (release : ReleaseValue) (register : Register) : Type 0 where
+  pub same : release ≡ registered register release.number release.changes
+  pub whole : IsRegister register
+  pub sound : IsSound release
+  pub room : AreFilledBy register.pages (MOST_PERSONS + release.changes)

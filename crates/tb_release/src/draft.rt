@@ -21,7 +21,7 @@ use crate::parts::amended_record;
 use crate::release::Release;
 use std::alloc::Global;
 use tb_base::{Codes, MOST_PERSONS, Memory, Record, Shape};
-use tb_pages::Register;
+use tb_pages::{Register, Stock};
 
 /// A release while it is edited. Its pages and shards are those of the old one until an edit
 /// touches them: then a copy is made, once for all its edits.
@@ -91,7 +91,8 @@ impl Draft {
             changes,
             made,
         } = self;
-        let next = Release::of(alloc, register, number + 1, changes + made as u32)?;
+        let stock = Stock::of(register);
+        let next = Release::of(alloc, stock, number + 1, changes + made as u32)?;
         Ok(next)
     }
 

@@ -29,7 +29,8 @@ fn refused(kind: EditFaultKind) -> EditFault
 /// `Nothing` where there is no edit; `TooMany` where the old release is the last that may be, or
 /// there would be too many changes; and else that of the first edit that isn't possible, with its
 /// number. It takes memory for the changes, and for a copy of each page and shard that an edit
-/// touches; the other pages and shards are the old release's.
+/// touches; the other pages and shards are the old release's. After release 0, which has no key
+/// book, it takes memory for one of all its records, and the time to make it.
 pub fn next(
     alloc: Global,
     shape: &Shape,

@@ -4,21 +4,22 @@ ghost use Rattle.tb_model.specs.Releases.{first_release};
 ghost use Rattle.tb_model.specs.Setups.{SetupValue};
 ghost use Rattle.tb_pages.specs.Lents.{pieces_of};
 ghost use Rattle.tb_pages.specs.Pages.{no_page};
-ghost use Rattle.tb_release.specs.Releases.{IsKept, IsSound, registered};
+ghost use Rattle.tb_release.specs.Releases.{IsKept, IsShared, IsSound, stocked};
 
 use std::alloc::Global;
 use std::marker::Model;
 use std::sync::ledger::Ledger;
 use tb_base::{Memory, People, Record, Steps, charge};
-use tb_pages::{Lent, Register, filled_places};
+use tb_pages::{Lent, Register, Stock, filled_places};
 
 /// A release of the microdata: its records in order, no two of one person, the key book, its
 /// number, and how many changes led to it. It has at most `MOST_PERSONS` records.
 ///
-/// They stand in pages, and the key book in shards, which other releases may share.
+/// They stand in pages, and the key book in shards, which other releases may share. Release 0 has
+/// no key book: it is made for each draft of the release after it.
 #[derive(Drop)]
 pub struct Release {
-    register: Register,
+    stock: Stock,
     filled: Vec<u16>,
     number: u32,
     changes: u32,
@@ -28,29 +29,29 @@ impl Model for Release {
     ghost use Rattle.std.specs.Prelude.{◌≡◌};
     ghost use Rattle.tb_model.specs.Releases.{ReleaseValue, release_code};
     ghost use Rattle.tb_pages.specs.Lents.{filled_from};
-    ghost use Rattle.tb_release.specs.Releases.{IsKept, registered};
+    ghost use Rattle.tb_release.specs.Releases.{IsKept, stocked};
 
     ghost Value = { ReleaseValue };
 
     ghost coded = { release_code };
 
-    ghost view = { λ r. registered r.register r.number r.changes };
+    ghost view = { λ r. stocked r.stock r.number r.changes };
 
-    ghost invariant = { λ r. IsKept r.register r.number r.changes
-        × (r.filled.items ≡ filled_from 0 r.register.pages) };
+    ghost invariant = { λ r. IsKept r.stock r.number r.changes
+        × (r.filled.items ≡ filled_from 0 r.stock.pages) };
 }
 
 impl Release {
     /// Release 0: these records, each put into the pages after the other, and no change so far. The
     /// list of records is given up page by page, so that no second list of them all stands. It
-    /// takes memory for the key book, and a little for the pages.
+    /// takes a little memory for the pages.
     pub fn first(alloc: Global, people: People) -> Result<Release, Memory>
         requires few { length people ≤ MOST_PERSONS }
         ensures { IfOk result
             (λ release. (setup : SetupValue) → release ≡ first_release setup people) }
     {
-        let register = Register::of(alloc, people.into_list())?;
-        let first = Release::of(alloc, register, 0, 0)?;
+        let stock = Stock::first(alloc, people.into_list())?;
+        let first = Release::of(alloc, stock, 0, 0)?;
         Ok(first)
     }
 
@@ -60,7 +61,7 @@ impl Release {
     pub fn soundness(&self)
         ensures { IsSound self.now }
     {
-        let _ = &self.register;
+        let _ = &self.stock;
     }
 
     /// Its number: 0 for the microdata, and 1 more with each batch.
@@ -74,7 +75,7 @@ impl Release {
     pub fn len(&self) -> usize
         ensures { result ≡ length self.now.records }
     {
-        self.register.living
+        self.stock.living
     }
 
     /// How many changes led to it.
@@ -88,7 +89,7 @@ impl Release {
     pub fn pages(&self) -> usize
         ensures { result ≡ length self.now.pages }
     {
-        self.register.pages.len()
+        self.stock.pages.len()
     }
 
     /// How many records page `i` has, from 0.
@@ -96,7 +97,7 @@ impl Release {
         requires { i < length self.now.pages }
         ensures { result ≡ length (slice_index_or self.now.pages i no_page).records }
     {
-        self.register.pages.page(i).len()
+        self.stock.pages.page(i).len()
     }
 
     /// The stamp of page `i`, from 0: the number of the release that last changed it.
@@ -104,35 +105,33 @@ impl Release {
         requires { i < length self.now.pages }
         ensures { result ≡ (slice_index_or self.now.pages i no_page).stamp }
     {
-        self.register.pages.stamp(i)
+        self.stock.pages.stamp(i)
     }
 
     // A release of these parts.
     pub(crate) fn of(
         alloc: Global,
-        register: Register,
+        stock: Stock,
         number: u32,
         changes: u32,
     ) -> Result<Release, Memory>
-        requires { IsKept register number changes }
-        ensures { IfOk result (λ release. release ≡ registered register number changes) }
+        requires { IsKept stock number changes }
+        ensures { IfOk result (λ release. release ≡ stocked stock number changes) }
     {
-        let filled = filled_places(alloc, &register.pages)?;
+        let filled = filled_places(alloc, &stock.pages)?;
         Ok(Release {
-            register,
+            stock,
             filled,
             number,
             changes,
         })
     }
 
-    // Its pages and its key book, shared.
+    // Its pages and its key book, shared. It takes memory for a key book where there is none.
     pub(crate) fn share(&self, alloc: Global) -> Result<Register, Memory>
-        ensures same { IfOk result (λ register. self.now
-            ≡ registered register self.now.number self.now.changes) }
-        ensures kept { IfOk result (λ register. IsKept register self.now.number self.now.changes) }
+        ensures { IfOk result (λ register. IsShared self.now register) }
     {
-        let register = self.register.share(alloc)?;
+        let register = self.stock.share(alloc)?;
         Ok(register)
     }
 
@@ -143,7 +142,7 @@ impl Release {
         ensures charge { steps.new ≡ steps.old + length self.now.records }
         ensures pieces { result ≡ pieces_of self.now.pages }
     {
-        charge(self.register.living as u32, steps);
-        Lent::of(&self.register.pages, &self.filled)
+        charge(self.stock.living as u32, steps);
+        Lent::of(&self.stock.pages, &self.filled)
     }
 }

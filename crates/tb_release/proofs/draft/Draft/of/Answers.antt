@@ -1,5 +1,4 @@
-use Rattle.std.proofs.Common.{◌≡◌, ◌+◌, refl, sym, ap, ◌∙◌, subst, arith}
-use Rattle.tb_model.specs.Releases.{ReleaseValue}
+use Rattle.std.proofs.Common.{refl}
 use Rattle.tb_release.specs.declared.draft.Draft.{Draft}
 use Rattle.tb_release.proofs.Runs.{draft_of}
 use Rattle.tb_release.proofs.draft.Draft.of.Goals as goal
@@ -7,4 +6,4 @@ use Rattle.tb_release.proofs.draft.Draft.of.Goals as goal
 pub returns : goal.returns
 returns c =
     let draft : Draft = record { register = c.in_ok-share.field-0; number = c.number.result; changes = c.changes.result; made = 0 } in
-    draft_of draft c.args.old.now c.in_ok-share.ensures.same c.in_ok-share.ensures.kept c.number.ensures c.changes.ensures refl c.requires
+    draft_of draft c.args.old.now c.in_ok-share.ensures c.number.ensures c.changes.ensures refl c.requires

@@ -1,4 +1,4 @@
-use Rattle.std.proofs.Common.{◌≡◌, false, not, sym, ap, ◌∙◌}
+use Rattle.std.proofs.Common.{false, not, sym, ap, ◌∙◌}
 use Rattle.std.specs.Prelude.{◌==◌}
 use Rattle.std.specs.Option.{option_map_or}
 use Rattle.tb_release.proofs.Made.{person_there, key_changed, too_many, may_add}
