@@ -1,8 +1,8 @@
 -- A `csv` writer that makes fields, or records.
-use Rattle.std.specs.Prelude.{◌≡◌, ◌<◌, ℕ, false, List, [], ◌∷◌, ◌++◌, drop, Vec}
+use Rattle.std.specs.Prelude.{◌≡◌, ◌<◌, ℕ, List, [], ◌∷◌, ◌++◌, drop, Vec}
 use Rattle.std.specs.declared.alloc.Global.{Global}
 use Rattle.csv.specs.declared.writer.Writer.{Writer}
-use Rattle.csv.specs.Writing.{default_writer, fields_written, has_written, writer_pending}
+use Rattle.csv.specs.Writing.{default_writer, fields_written, writer_pending}
 use Rattle.csv.specs.Writing.{writer_setup, writer_under}
 
 -- a writer at its defaults is within a record, and has passed on all that it wrote
@@ -14,13 +14,3 @@ pub record IsWithinRecord (rows : Writer (Vec ℕ Global)) : Type 0 where
 -- what it passed on from byte `base` on, and a comma
 abbrev pub fields_from : ℕ → Writer (Vec ℕ Global) → List ℕ
 fields_from base rows = drop base ((writer_under rows).items ++ 44 ∷ [])
-
--- a writer at its defaults is between two records
-pub record IsBetween (rows : Writer (Vec ℕ Global)) : Type 0 where
-  pub setup : writer_setup rows ≡ default_writer
-  pub fields : fields_written rows ≡ 0
-  pub wrote : has_written rows ≡ false
-
--- what a writer has written, into the text under it or its buffer
-abbrev pub text_so_far : Writer (Vec ℕ Global) → List ℕ
-text_so_far rows = (writer_under rows).items ++ writer_pending rows

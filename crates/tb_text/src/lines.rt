@@ -1,6 +1,7 @@
 // The lines of a table's places.
 
-ghost use Rattle.std.specs.Prelude.{◌≡◌, ◌≤◌, ◌++◌, ◌∷◌, [], length, drop, All, IfOk, OnOk};
+ghost use Rattle.std.specs.Prelude.{◌≡◌, ◌<◌, ◌≤◌, ◌++◌, ◌∷◌, [], length, drop};
+ghost use Rattle.std.specs.Prelude.{slice_index_or, All, IfOk, OnOk};
 ghost use Rattle.tb_base.specs.declared.people.TheConstants.{MOST_PERSONS};
 ghost use Rattle.tb_model.specs.Perturbations.{pvalue_at};
 ghost use Rattle.tb_model.specs.RowMajor.{row_major};
@@ -21,6 +22,26 @@ fn add_end(text: &mut Bytes, setup: &Setup, cell: Cell) -> Result<(), Memory>
     text.append_end(setup.ptable.shown(setup.threshold, cell))
 }
 
+// Adds the line of a cell that begins with `first` and the field `i`, from 0.
+#[inline(always)]
+fn add_line(
+    text: &mut Bytes,
+    setup: &Setup,
+    first: &Bytes,
+    fields: &EntryFields,
+    i: usize,
+    cell: Cell,
+) -> Result<(), Memory>
+    requires few { cell.count ≤ MOST_PERSONS }
+    requires entry { i < length fields.now }
+    ensures { OnOk result (text.new
+        ≡ ((text.old ++ first.now) ++ slice_index_or fields.now i [])
+        ++ end_of (pvalue_at setup.now.lines) setup.now.threshold cell) }
+{
+    let shown = setup.ptable.shown(setup.threshold, cell);
+    fields.add_line(text, first, i, shown)
+}
+
 // Adds the lines of cells, each of which begins with `first` and a field.
 fn add_row(
     text: &mut Bytes,
@@ -35,9 +56,7 @@ fn add_row(
         first.now (fields.now ∷ []) cells.now) }
 {
     for i in 0..fields.len().min(cells.len()) {
-        text.append(first)?;
-        fields.add_to(text, i)?;
-        add_end(text, setup, cells[i])?;
+        add_line(text, setup, first, fields, i, cells[i])?;
     }
     Ok(())
 }

@@ -1,7 +1,7 @@
 // The text of a table.
 
 ghost use Rattle.std.specs.Prelude.{◌≡◌, ◌≤◌, ◌++◌, ◌∷◌, codes, decimal, map};
-ghost use Rattle.std.specs.Prelude.{◌<◌, length, drop, All, IfOk, OnOk};
+ghost use Rattle.std.specs.Prelude.{◌<◌, length, drop, All, IfOk, IfSome, OnOk};
 ghost use Rattle.std.specs.List.{concat};
 ghost use Rattle.tb_base.specs.declared.people.TheConstants.{MOST_PERSONS};
 ghost use Rattle.tb_model.specs.Perturbations.{pvalue_at};
@@ -9,15 +9,12 @@ ghost use Rattle.tb_model.specs.Schemas.{name_text};
 ghost use Rattle.tb_model.specs.Texts.{heading, line_text, text_of_cells};
 ghost use Rattle.tb_schema.specs.Names.{IsName};
 ghost use Rattle.tb_text.specs.Lines.{before_another};
-ghost use Rattle.tb_text.specs.Writers.{IsWithinRecord};
 
 use crate::bytes::Bytes;
-use crate::fields::{EntryFields, all_fields};
+use crate::fields::{EntryFields, add_plain, all_fields};
 use crate::lines::add_lines;
-use crate::records::text_by_records;
 use crate::setup::Setup;
 use crate::writing::{begin_record, bytes_from, write_one, writer_after, written_len};
-use csv::Writer;
 use std::alloc::Global;
 use tb_base::{Cell, Memory, print_number};
 use tb_query::Query;
@@ -27,7 +24,7 @@ use tb_schema::Schema;
 const MOST_DIGITS: usize = 8;
 
 // The lines before the first place, roughly.
-pub(crate) const HEAD: usize = 256;
+const HEAD: usize = 256;
 
 // How many bytes the text has at most, but for long names: an entry stands in one line of so many.
 fn room_for(fields: &[EntryFields], places: usize) -> usize {
@@ -42,7 +39,7 @@ fn room_for(fields: &[EntryFields], places: usize) -> usize {
 }
 
 // Adds the first line, with the number of the release.
-pub(crate) fn add_release(text: &mut Bytes, number: u32) -> Result<(), Memory>
+fn add_release(text: &mut Bytes, number: u32) -> Result<(), Memory>
     ensures { OnOk result (text.new ≡ text.old ++ line_text (codes "release " ++ decimal number)) }
 {
     let mut digits = [0; 10];
@@ -52,24 +49,48 @@ pub(crate) fn add_release(text: &mut Bytes, number: u32) -> Result<(), Memory>
     text.push_slice(b"\n")
 }
 
-// A comma, and the fields of the dimensions' names, each with a comma.
-fn names_of(
-    alloc: Global,
-    rows: &mut Writer<Vec<u8>>,
-    schema: &Schema,
-    query: &Query,
-) -> Result<Bytes, Memory>
-    requires within { IsWithinRecord rows.old }
-    requires names { All (IsName schema.now) query.now.dimensions }
-    ensures within { OnOk result (IsWithinRecord rows.new) }
-    ensures names { IfOk result (λ names. names ≡ 44 ∷ concat
+// A comma, and the fields of the dimensions' names, each with a comma, where each name stands as it
+// is.
+fn plain_names(alloc: Global, schema: &Schema, query: &Query) -> Result<Option<Bytes>, Memory>
+    requires { All (IsName schema.now) query.now.dimensions }
+    ensures { IfOk result (λ found. IfSome found (λ names. names ≡ 44 ∷ concat
+        (map (λ d. before_another (name_text schema.now d)) query.now.dimensions))) }
+{
+    let mut names = Bytes::with_room(alloc, HEAD)?;
+    names.push_slice(b",")?;
+    for of in query.dimensions() {
+        let Some(_span) = add_plain(&mut names, schema.name(*of).as_bytes())? else {
+            return Ok(None);
+        };
+    }
+    Ok(Some(names))
+}
+
+// The same of any names, as `csv` writes them.
+fn written_names(alloc: Global, schema: &Schema, query: &Query) -> Result<Bytes, Memory>
+    requires { All (IsName schema.now) query.now.dimensions }
+    ensures { IfOk result (λ names. names ≡ 44 ∷ concat
         (map (λ d. before_another (name_text schema.now d)) query.now.dimensions)) }
 {
-    let base = written_len(rows);
+    let mut rows = writer_after(Vec::new(alloc));
+    begin_record(&mut rows)?;
+    let base = written_len(&rows);
     for of in query.dimensions() {
-        write_one(rows, base, schema.name(*of).as_bytes())?;
+        write_one(&mut rows, base, schema.name(*of).as_bytes())?;
     }
-    bytes_from(alloc, rows, base)
+    bytes_from(alloc, &rows, base)
+}
+
+// The same of any names. `csv` writes them where one calls for quotes.
+fn names_of(alloc: Global, schema: &Schema, query: &Query) -> Result<Bytes, Memory>
+    requires { All (IsName schema.now) query.now.dimensions }
+    ensures { IfOk result (λ names. names ≡ 44 ∷ concat
+        (map (λ d. before_another (name_text schema.now d)) query.now.dimensions)) }
+{
+    match plain_names(alloc, schema, query)? {
+        Some(names) => Ok(names),
+        None => written_names(alloc, schema, query),
+    }
 }
 
 // The bytes after the first.
@@ -84,48 +105,20 @@ fn without_first(bytes: &[u8]) -> &[u8]
 fn add_heading(
     alloc: Global,
     text: &mut Bytes,
-    rows: &mut Writer<Vec<u8>>,
     schema: &Schema,
     query: &Query,
 ) -> Result<(), Memory>
-    requires within { IsWithinRecord rows.old }
-    requires names { All (IsName schema.now) query.now.dimensions }
+    requires { All (IsName schema.now) query.now.dimensions }
     ensures { OnOk result (text.new ≡ text.old ++ heading schema.now query.now) }
 {
-    let names = names_of(alloc, rows, schema, query)?;
+    let names = names_of(alloc, schema, query)?;
     text.push_slice(without_first(names.as_slice()))?;
     text.push_slice(b"count\n")
 }
 
-// The text of a table whose lines are put together from fields.
-fn text_by_fields(
-    alloc: Global,
-    setup: &Setup,
-    query: &Query,
-    number: u32,
-    cells: &[Cell],
-) -> Result<Vec<u8>, Memory>
-    requires names { All (IsName setup.now.schema) query.now.dimensions }
-    requires few { All (λ cell. cell.count ≤ MOST_PERSONS) cells.now }
-    ensures { IfOk result (λ text. text.items
-        ≡ text_of_cells setup.now.schema (pvalue_at setup.now.lines) setup.now.threshold
-        query.now number cells.now) }
-{
-    let mut rows = writer_after(Vec::new(alloc));
-    begin_record(&mut rows)?;
-    let fields = all_fields(alloc, &mut rows, &setup.schema, query)?;
-    let mut text = Bytes::with_room(alloc, room_for(&fields, cells.len()))?;
-    add_release(&mut text, number)?;
-    add_heading(alloc, &mut text, &mut rows, &setup.schema, query)?;
-    let mut first = Bytes::with_room(alloc, HEAD)?;
-    add_lines(&mut text, setup, &mut first, &fields, cells, 0)?;
-    text.push_slice(b".\n")?;
-    Ok(text.into_vec())
-}
-
 /// The text of a query's table at the release of this number, where these are its cells: one for
 /// each of its places in row-major order, each of at most `MOST_PERSONS` persons. It takes memory
-/// for the text, and for the fields of each dimension where there is more than one.
+/// for the text, and for the fields of each dimension.
 pub fn table_text(
     alloc: Global,
     setup: &Setup,
@@ -139,9 +132,12 @@ pub fn table_text(
         ≡ text_of_cells setup.now.schema (pvalue_at setup.now.lines) setup.now.threshold
         query.now number cells.now) }
 {
-    let dimensions = query.dimensions();
-    if dimensions.len() == 1 {
-        return text_by_records(alloc, setup, query, dimensions[0], number, cells);
-    }
-    text_by_fields(alloc, setup, query, number, cells)
+    let fields = all_fields(alloc, &setup.schema, query)?;
+    let mut text = Bytes::with_room(alloc, room_for(&fields, cells.len()))?;
+    add_release(&mut text, number)?;
+    add_heading(alloc, &mut text, &setup.schema, query)?;
+    let mut first = Bytes::with_room(alloc, HEAD)?;
+    add_lines(&mut text, setup, &mut first, &fields, cells, 0)?;
+    text.push_slice(b".\n")?;
+    Ok(text.into_vec())
 }

@@ -2,7 +2,7 @@ use Rattle.std.proofs.Common.{◌≡◌, ◌++◌, ◌∷◌}
 use Rattle.std.proofs.Common.{◌<◌, length, drop}
 use Rattle.tb_text.specs.Writers.{IsWithinRecord, fields_from}
 use Rattle.tb_text.proofs.PlaceLines.{names_under}
-use Rattle.tb_text.proofs.table.names_of.Given as goal
+use Rattle.tb_text.proofs.table.written_names.Given as goal
 
 abbrev pub invariant-loop-of : goal.invariant-loop-of
 invariant-loop-of l = record {
