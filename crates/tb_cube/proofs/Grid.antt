@@ -45,7 +45,6 @@ lengths shape (v ∷ vs) = rw (length-range_with_len 0 (slice_index shape v), le
 pub length-lists : (shape vars : List ℕ) → length (category_lists shape vars) ≡ cell_count shape vars
 length-lists shape vars = length-row_major (map (λ v. range_with_len 0 (slice_index shape v)) vars) ∙ ap product (lengths shape vars)
 
--- a record has the categories of its place alone
 choice-test : (shape vars : List ℕ) (at : ℕ → ℕ) (k : ℕ) → EachBelow at (slice_index shape) vars → k < cell_count shape vars
     → bytes_eq (map at vars) (choice_at (map (λ v. range_with_len 0 (slice_index shape v)) vars) k 0) ≡ (k == place_of shape vars at)
 choice-test shape [] at k below inside = let first : k ≡ 0 = omega arith in rw first refl
@@ -57,13 +56,18 @@ choice-test shape (v ∷ vs) at k below inside =
     rw (first, choice-test shape vs at (k % m) below.1 c.column, eq-swap (at v) (k / m))
     (sym (same-place m k (at v) (place_of shape vs at) (place-below shape vs at below.1))))
 
-pub place-test : (shape vars : List ℕ) (r : Record) (k : ℕ) (e : List ℕ) → EachBelow (category_at r) (slice_index shape) vars → k < length (category_lists shape vars)
-    → bytes_eq (map (category_at r) vars) (get_or (category_lists shape vars) k e) ≡ (k == place_of shape vars (category_at r))
-place-test shape vars r k e below inside =
+-- some categories are those of their place alone
+pub list-test : (shape vars : List ℕ) (at : ℕ → ℕ) (k : ℕ) (e : List ℕ) → EachBelow at (slice_index shape) vars → k < length (category_lists shape vars)
+    → bytes_eq (map at vars) (get_or (category_lists shape vars) k e) ≡ (k == place_of shape vars at)
+list-test shape vars at k e below inside =
     let lists = map (λ v. range_with_len 0 (slice_index shape v)) vars in
     let within : k < product (map length lists) = omega (arith, inside, length-row_major lists) in
     let here : k < cell_count shape vars = omega (arith, inside, length-lists shape vars) in
-    ap (bytes_eq (map (category_at r) vars)) (get_or-row_major lists k 0 e within) ∙ choice-test shape vars (category_at r) k below here
+    ap (bytes_eq (map at vars)) (get_or-row_major lists k 0 e within) ∙ choice-test shape vars at k below here
+
+pub place-test : (shape vars : List ℕ) (r : Record) (k : ℕ) (e : List ℕ) → EachBelow (category_at r) (slice_index shape) vars → k < length (category_lists shape vars)
+    → bytes_eq (map (category_at r) vars) (get_or (category_lists shape vars) k e) ≡ (k == place_of shape vars (category_at r))
+place-test shape vars r k e below inside = list-test shape vars (category_at r) k e below inside
 
 -- a record that fits the shape leads into the cube
 below-all : (n : ℕ) (vars : List ℕ) → AllByRecursion (λ v. v < n) vars → AllBelow n vars

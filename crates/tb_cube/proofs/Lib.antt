@@ -1,4 +1,9 @@
 pub mod Grid
 pub mod Adding
 pub mod Changes
+pub mod Walks
+pub mod Lists
+pub mod Steps
+pub mod Leading
+pub mod Narrowed
 pub mod Holding

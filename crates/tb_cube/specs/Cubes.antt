@@ -10,7 +10,7 @@ use Rattle.tb_base.specs.declared.records.Record.{Record}
 use Rattle.tb_base.specs.Cells.{empty_cell, merged, merged_all, with_key, without_key}
 use Rattle.tb_base.specs.Records.{category_at, Fits}
 use Rattle.tb_grid.specs.declared.products.TheConstants.{MOST_CELLS}
-use Rattle.tb_model.specs.Cubes.{category_lists, cube_of}
+use Rattle.tb_model.specs.Cubes.{category_lists, cube_of, narrowed}
 use Rattle.tb_model.specs.RowMajor.{product}
 
 -- a shape, some of its variables, and a cell for each list of their categories, in row-major order
@@ -31,6 +31,11 @@ cube_over shape vars records =
 -- a cube holds these records and no others: its cells are those of the definitions' cube
 abbrev pub Holds : CubeValue → List Record → Type 0
 Holds cube records = cube.cells ≡ cube_of cube.shape cube.vars records
+
+-- a cube over fewer of its variables: each cell merges those that agree with it on them
+abbrev pub narrowed_to : List ℕ → CubeValue → CubeValue
+narrowed_to fewer cube =
+    record cube { vars = fewer; cells = narrowed cube.shape cube.vars fewer cube.cells }
 
 -- a cube with each of its cells merged with one
 abbrev pub merged_with : CubeValue → List Cell → CubeValue

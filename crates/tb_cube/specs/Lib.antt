@@ -1,2 +1,4 @@
 pub mod Cubes
 pub mod Axes
+pub mod Walks
+pub mod Narrowing

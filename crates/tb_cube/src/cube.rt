@@ -1,18 +1,21 @@
 ghost use Rattle.std.specs.Prelude.{◌≡◌, List, [], ◌++◌, ◌+◌, ◌<◌, ◌≤◌, All, IfOk, length};
-ghost use Rattle.std.specs.Prelude.{slice_index_or};
+ghost use Rattle.std.specs.Prelude.{slice_index_or, true};
+ghost use Rattle.std.specs.List.{sum_by};
 ghost use Rattle.std.specs.Option.{ForSome, option_copied, option_to_list};
 ghost use Rattle.tb_base.specs.declared.people.TheConstants.{MOST_PERSONS};
 ghost use Rattle.tb_base.specs.declared.records.Record.{Record as AnyRecord};
 ghost use Rattle.tb_base.specs.Cells.{empty_cell};
 ghost use Rattle.tb_base.specs.Records.{category_at, AllFit, Fits};
+ghost use Rattle.tb_base.specs.Sets.{includes_all};
 ghost use Rattle.tb_grid.specs.declared.products.TheConstants.{MOST_CELLS};
 ghost use Rattle.tb_model.specs.Cubes.{cube_of};
-ghost use Rattle.tb_cube.specs.Cubes.{cell_count, cube_over, merged_at, merged_with, place_of};
-ghost use Rattle.tb_cube.specs.Cubes.{put_in, taken_out, CanPutIn, CanTakeOut, HasRoom, Holds};
-ghost use Rattle.tb_cube.specs.Cubes.{IsWhole};
+ghost use Rattle.tb_cube.specs.Cubes.{cell_count, cube_over, merged_at, merged_with, narrowed_to};
+ghost use Rattle.tb_cube.specs.Cubes.{place_of, put_in, taken_out, CanPutIn, CanTakeOut, HasRoom};
+ghost use Rattle.tb_cube.specs.Cubes.{Holds, IsWhole};
 
 use crate::axes::{Axis, axes_of, number_of};
 use crate::merging::merge_all;
+use crate::narrowing::{narrowed_cells, steps_of};
 use crate::putting::put_all;
 use std::alloc::Global;
 use std::marker::Model;
@@ -23,7 +26,7 @@ use tb_grid::cells_over;
 /// row-major order, so that the last variable's categories change fastest. A cell counts the
 /// records with its categories, and has their key sum.
 ///
-/// Only `zero` and `copy` take memory.
+/// Only `zero`, `copy` and `narrow` take memory.
 #[derive(Drop)]
 pub struct Cube {
     shape: Shape,
@@ -207,4 +210,31 @@ impl Cube {
             cells: self.cells.clone()?,
         })
     }
+}
+
+/// The cube over some of a cube's variables: each cell is the merge of the cube's cells that agree
+/// with it on them. It takes memory for the cells.
+pub fn narrow(alloc: Global, cube: &Cube, vars: &VarSet) -> Result<Cube, Memory>
+    requires among { includes_all cube.now.vars vars.now ≡ true }
+    requires few { sum_by (λ c. c.count) cube.now.cells ≤ MOST_PERSONS }
+    // Where a variable has no category the wider cube has no cell, and this one may be too large.
+    requires fits { cell_count cube.now.shape vars.now ≤ MOST_CELLS }
+    ensures cells { IfOk result (λ fewer. fewer ≡ narrowed_to vars.now cube.now) }
+    // So from a cube that holds some records comes the one that is counted from scratch.
+    ensures held { IfOk result (λ fewer. (records : List AnyRecord)
+        → AllFit cube.now.shape records → Holds cube.now records
+        → fewer ≡ cube_over cube.now.shape vars.now records) }
+{
+    // Its clause tells that the variables ascend.
+    let _ = vars.len();
+    let axes = axes_of(alloc, &cube.shape, vars)?;
+    let steps = steps_of(alloc, &cube.shape, &cube.vars, &axes)?;
+    let long = cells_over(&cube.shape, vars, 0);
+    let cells = narrowed_cells(alloc, &cube.cells, &steps, long)?;
+    Ok(Cube {
+        shape: cube.shape.copy()?,
+        vars: vars.copy()?,
+        axes,
+        cells,
+    })
 }

@@ -3,26 +3,18 @@ use Rattle.std.proofs.Common.{◌≡◌, ℕ, ◌+◌, ◌*◌, ◌%◌, ◌<◌
 use Rattle.std.specs.Prelude.{◌==◌, slice_index, MatchOption}
 use Rattle.std.specs.Option.{IfSome}
 use Rattle.std.specs.List.{sum_by, range_with_len}
-use Rattle.std.proofs.Math.Nat.{mod-mod, mod-add-mod, add-mod-mod}
+use Rattle.std.proofs.Math.Nat.{mod-mod, mod-add-mod}
 use Rattle.std.proofs.lemmas.List.{drop_more}
 use Rattle.std.proofs.lemmas.List.Sums.{sum_by-cons}
 use Rattle.std.proofs.lemmas.List.FromFn.{length-map-range_with_len, get_or-map-range_with_len}
-use Rattle.tb_base.specs.declared.cells.Cell.{Cell}
 use Rattle.tb_base.proofs.PartLemmas.{add-more}
-use Rattle.tb_base.specs.Parts.{Part, part, modulus}
+use Rattle.tb_base.specs.Parts.{Part, modulus}
 use Rattle.tb_grid.proofs.Sums.{sum-range}
 use Rattle.tb_plan.specs.Plans.{PlanValue, uses}
 use Rattle.tb_plan.specs.Steps.{step_at, steps_of}
 use Rattle.tb_rollup.specs.Rolling.{spread, run_sum, runs_at, AreUnused, IsLast}
-use Rattle.tb_rollup.proofs.Spread.{count_of, spread-more, spread-unused, sum-next, no-step}
-
--- a cell to which a cell with this sum is added
-pub sum-added : (p : Part) (old new sum : Cell) (x : ℕ) → part p new ≡ (part p old + part p sum) % modulus p
-    → part p sum % modulus p ≡ x % modulus p → part p new % modulus p ≡ (part p old + x) % modulus p
-sum-added p old new sum x made is =
-    let k : ℕ = modulus p in
-    ap (λ y. y % k) made ∙ mod-mod (part p old + part p sum) k ∙ sym (add-mod-mod (part p old) (part p sum) k) ∙ ap
-    (λ y. (part p old + y) % k) is ∙ add-mod-mod (part p old) x k
+use Rattle.tb_cube.proofs.Walks.{sum-next}
+use Rattle.tb_rollup.proofs.Spread.{count_of, spread-more, spread-unused, no-step}
 
 -- one cell more of a run
 pub one-cell : (k s mid new x : ℕ) → mid % k ≡ s % k → new ≡ (mid + x) % k → new % k ≡ (s + x) % k

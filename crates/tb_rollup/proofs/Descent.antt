@@ -8,7 +8,8 @@ use Rattle.tb_base.proofs.PartLemmas.{add-more, nothing}
 use Rattle.tb_plan.specs.Plans.{PlanValue}
 use Rattle.tb_plan.specs.Steps.{step_at}
 use Rattle.tb_rollup.specs.Rolling.{spread, Stands}
-use Rattle.tb_rollup.proofs.Spread.{level-at, spread-more, spread-past, sum-next, Level}
+use Rattle.tb_cube.proofs.Walks.{sum-next}
+use Rattle.tb_rollup.proofs.Spread.{level-at, spread-more, spread-past, Level}
 
 -- a variable of the cube is one of its shape
 pub there-in : (cube : CubeValue) (vars : List ℕ) (j v : ℕ) → All (λ w. w < length cube.shape) cube.vars → vars ≡ cube.vars

@@ -1,18 +1,17 @@
 -- What the cells of a cube add at a number.
-use Rattle.std.proofs.Common.{◌≡◌, ℕ, zero, suc, ◌+◌, ◌*◌, ◌<◌, ◌≤◌, ◌⊎◌, Bool, true, false, cond, List, [], ◌∷◌, length, drop, get_or, refl, ap, sym, subst, ◌∙◌, inl, inr, arith}
+use Rattle.std.proofs.Common.{◌≡◌, ℕ, zero, suc, ◌+◌, ◌*◌, ◌<◌, ◌≤◌, Bool, true, false, cond, List, [], ◌∷◌, length, drop, get_or, refl, ap, sym, subst, ◌∙◌, arith}
 use Rattle.std.specs.Prelude.{◌==◌, slice_index}
 use Rattle.std.specs.List.{sum_by, range_with_len, list_any}
-use Rattle.std.proofs.lemmas.Bool.{ne_eqb, or_parts}
+use Rattle.std.proofs.lemmas.Bool.{or_parts}
 use Rattle.std.proofs.lemmas.List.{drop_more}
-use Rattle.std.proofs.lemmas.List.Sums.{sum_by-cons}
 use Rattle.tb_model.proofs.SumLemmas.{sum_by-ext, sum_by-none}
-use Rattle.std.proofs.lemmas.Nat.{mul-le}
-use Rattle.tb_grid.proofs.Sums.{sum-more}
 use Rattle.tb_grid.proofs.Factors.{at-least}
 use Rattle.tb_plan.specs.Plans.{PlanValue, DimensionValue, ConditionValue, uses, place_count}
 use Rattle.tb_plan.specs.Steps.{dimension_step, filter_step, step_at}
 use Rattle.tb_cube.specs.Cubes.{cell_count}
-use Rattle.tb_rollup.specs.Rolling.{spread, AreUnused}
+use Rattle.tb_cube.specs.Walks.{count_of as count_by}
+use Rattle.tb_cube.proofs.Walks.{inside-row, room-row, second-factor, spread-end, spread-more as one-fork, spread-none as none-none, spread-past as past-none, sum-next}
+use Rattle.tb_rollup.specs.Rolling.{forks_of, spread, AreUnused}
 
 -- how many cells a cube over some variables has
 abbrev pub count_of : PlanValue → List ℕ → ℕ
@@ -36,30 +35,18 @@ no-step plan v c h =
     let both = or_parts (list_any (λ d. d.variable == v) plan.dimensions) (list_any (λ f. f.variable == v) plan.filters) h in
     rw (no-dimension plan.totals plan.dimensions v c both.0, no-filter (place_count plan) plan.filters v c both.1) (omega arith)
 
+-- there are as many lists of categories as cells
+pub count-of-forks : (plan : PlanValue) (vars : List ℕ) → count_by (forks_of plan vars) ≡ count_of plan vars
+count-of-forks plan [] = refl
+count-of-forks plan (v ∷ vs) = ap (λ n. slice_index plan.shape v * n) (count-of-forks plan vs)
+
 pub spread-more : (plan : PlanValue) (v : ℕ) (vs : List ℕ) (f : ℕ → ℕ) (k base i : ℕ)
     → spread plan (v ∷ vs) f k base i ≡ sum_by (λ c. spread plan vs f (k * slice_index plan.shape v + c) (base + step_at plan v c) i) (range_with_len 0 (slice_index plan.shape v))
-unfolding spread
-spread-more plan v vs f k base i = refl
-
-pub spread-end : (plan : PlanValue) (f : ℕ → ℕ) (k base i : ℕ) → spread plan [] f k base i ≡ cond (base == i) (f k) 0
-unfolding spread
-spread-end plan f k base i = refl
+spread-more plan v vs f k base i = one-fork (record { count = slice_index plan.shape v; step = step_at plan v }) (forks_of plan vs) f k base i
 
 -- a number past a place adds nothing there
 pub spread-past : (plan : PlanValue) (vs : List ℕ) (f : ℕ → ℕ) (k base i : ℕ) → i < base → spread plan vs f k base i ≡ 0
-unfolding spread
-spread-past plan [] f k base i past = rw (ne_eqb base i (λ e. omega arith)) refl
-spread-past plan (v ∷ vs) f k base i past =
-    sum_by-ext _ (λ (_ : ℕ). 0) (range_with_len 0 (slice_index plan.shape v)) (λ c. spread-past plan vs f (k * slice_index plan.shape v + c) (base + step_at plan v c) i (omega arith))
-    ∙ sum_by-none (range_with_len 0 (slice_index plan.shape v))
-
--- a range in rows
-pub sum-shift : (f : ℕ → ℕ) (a n : ℕ) → sum_by f (range_with_len (a + 1) n) ≡ sum_by (λ e. f (e + 1)) (range_with_len a n)
-sum-shift f a zero = refl
-sum-shift f a (suc n) = rw (sum_by-cons f (a + 1) (range_with_len (a + 1 + 1) n), sum_by-cons (λ e. f (e + 1)) a (range_with_len (a + 1) n), sum-shift f (a + 1) n) refl
-
-pub sum-next : (f : ℕ → ℕ) (n : ℕ) → sum_by f (range_with_len 0 (n + 1)) ≡ sum_by f (range_with_len 0 n) + f n
-sum-next f n = let z : 0 + n ≡ n = omega arith in sum-more f 0 n ∙ ap (λ j. sum_by f (range_with_len 0 n) + f j) z
+spread-past plan vs f k base i past = past-none (forks_of plan vs) f k base i past
 
 sum-join : (f : ℕ → ℕ) (a m : ℕ) → sum_by f (range_with_len 0 (m + a)) ≡ sum_by f (range_with_len 0 m) + sum_by (λ r. f (m + r)) (range_with_len 0 a)
 sum-join f zero m = let e : m + 0 ≡ m = omega arith in rw e (omega arith)
@@ -81,10 +68,9 @@ sum-rows f (suc n) m =
 -- variables that aren't used make one run
 pub spread-unused : (plan : PlanValue) (vs : List ℕ) (f : ℕ → ℕ) (k base i : ℕ) → AreUnused plan vs
     → spread plan vs f k base i ≡ cond (base == i) (sum_by (λ r. f (k * count_of plan vs + r)) (range_with_len 0 (count_of plan vs))) 0
-unfolding spread
 spread-unused plan [] f k base i unused =
     let e : k * 1 + 0 ≡ k = omega arith in
-    rw e (ap (λ x. cond (base == i) x 0) (omega arith))
+    spread-end f k base i ∙ rw e (ap (λ x. cond (base == i) x 0) (omega arith))
 spread-unused plan (v ∷ vs) f k base i unused =
     let n : ℕ = slice_index plan.shape v in
     let m : ℕ = count_of plan vs in
@@ -92,33 +78,15 @@ spread-unused plan (v ∷ vs) f k base i unused =
     let same : base + step_at plan v c ≡ base = rw (no-step plan v c unused.0) (omega arith) in
     rw same (spread-unused plan vs f (k * n + c) base i unused.1
     ∙ ap (λ x. cond (base == i) x 0) (sum_by-ext (λ r. f ((k * n + c) * m + r)) (λ r. f (k * (n * m) + (c * m + r))) (range_with_len 0 m) (λ r. let flat : (k * n + c) * m + r ≡ k * (n * m) + (c * m + r) = omega arith in ap f flat))) in
-    sum_by-ext _ _ (range_with_len 0 n) row
+    spread-more plan v vs f k base i ∙ sum_by-ext _ _ (range_with_len 0 n) row
     ∙ elim (base == i) as (λ b. sum_by (λ c. cond b (sum_by (λ r. f (k * (n * m) + (c * m + r))) (range_with_len 0 m)) 0) (range_with_len 0 n) ≡ cond b (sum_by (λ r. f (k * (n * m) + r)) (range_with_len 0 (n * m))) 0) [
       | true ↦ sym (sum-rows (λ r. f (k * (n * m) + r)) n m)
       | false ↦ sum_by-none (range_with_len 0 n)
     ]
 
-zero-factor : (n m : ℕ) → n * m ≡ 0 → (n ≡ 0) ⊎ (m ≡ 0)
-zero-factor zero m h = inl refl
-zero-factor (suc n) m h = inr (omega (arith, h, at-least (suc n) m (omega arith)))
-
-second-factor : (n m : ℕ) → 0 < n * m → 0 < m
-second-factor n zero h = absurd (omega arith)
-second-factor n (suc m) h = omega arith
-
-turned : (n m : ℕ) → n * m ≡ m * n
-turned n m = omega arith
-
 -- a cube with no cells adds nothing
 pub spread-none : (plan : PlanValue) (vs : List ℕ) (f : ℕ → ℕ) (k base i : ℕ) → count_of plan vs ≡ 0 → spread plan vs f k base i ≡ 0
-unfolding spread
-spread-none plan [] f k base i none = absurd (omega (arith, none))
-spread-none plan (v ∷ vs) f k base i none = elim (zero-factor (slice_index plan.shape v) (count_of plan vs) none) [
-  | inl h ↦ ap (λ n. sum_by (λ c. spread plan vs f (k * slice_index plan.shape v + c) (base + step_at plan v c) i) (range_with_len 0 n)) h
-  | inr h ↦
-      sum_by-ext _ (λ (_ : ℕ). 0) (range_with_len 0 (slice_index plan.shape v)) (λ c. spread-none plan vs f (k * slice_index plan.shape v + c) (base + step_at plan v c) i h)
-      ∙ sum_by-none (range_with_len 0 (slice_index plan.shape v))
-]
+spread-none plan vs f k base i none = none-none (forks_of plan vs) f k base i (count-of-forks plan vs ∙ none)
 
 -- where a roll-up stands at a variable v with n categories
 pub record Level (plan : PlanValue) (vars : List ℕ) (j k long v n : ℕ) : Type 0 where
@@ -137,16 +105,12 @@ level plan vars j k long below some whole =
     let count : count_of plan (drop j vars) ≡ n * m = ap (count_of plan) is in
     let rest : 0 < m = second-factor n m (omega (arith, some, count)) in
     let whole' : (k + 1) * (n * m) ≤ long = rw (← count) whole in
-    let inside : (c : ℕ) → c < n → (k * n + c + 1) * m ≤ long = λ c h.
-    let row : k * n + c + 1 ≤ (k + 1) * n = omega arith in
-    let flat : (k + 1) * n * m ≡ (k + 1) * (n * m) = omega arith in
-    omega (arith, mul-le (k * n + c + 1) m ((k + 1) * n) m row (omega arith), flat, whole') in
     record {
       is = is;
       size = refl;
       rest = rest;
-      inside = inside;
-      room = λ c h. omega (arith, inside c h, at-least m (k * n + c + 1) rest, turned m (k * n + c + 1));
+      inside = λ c h. inside-row n m k c long whole' rest h;
+      room = λ c h. room-row n m k c long whole' rest h;
     }
 
 pub level-at : (plan : PlanValue) (vars : List ℕ) (j k long v n : ℕ) → j < length vars → 0 < count_of plan (drop j vars) → (k + 1) * count_of plan (drop j vars) ≤ long

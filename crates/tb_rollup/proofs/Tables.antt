@@ -1,10 +1,8 @@
 -- The cells of a table from what a cube adds at each number.
-use Rattle.std.proofs.Common.{◌≡◌, ℕ, ◌+◌, ◌%◌, ◌^◌, ◌<◌, ◌≤◌, ◌&&◌, Bool, true, false, cond, List, [], ◌∷◌, length, map, replicate, get_or, ap, sym, subst, ◌∙◌, arith}
+use Rattle.std.proofs.Common.{◌≡◌, ℕ, ◌+◌, ◌%◌, ◌<◌, ◌≤◌, ◌&&◌, Bool, true, false, cond, List, [], length, map, get_or, ap, sym, subst, ◌∙◌, arith}
 use Rattle.std.specs.Prelude.{◌==◌, nat_lt, slice_index, All}
-use Rattle.std.specs.List.{sum_by, filter, list_any, zip}
-use Rattle.std.proofs.Math.Nat.{mod-eq_of_lt}
-use Rattle.std.proofs.lemmas.List.{length-map, length-replicate, get_or-map, get_or-replicate, ext_get_or}
-use Rattle.std.proofs.lemmas.List.Sums.{sum_by-cons}
+use Rattle.std.specs.List.{sum_by, list_any, zip}
+use Rattle.std.proofs.lemmas.List.{length-map, get_or-map, ext_get_or}
 use Rattle.tb_base.specs.declared.cells.Cell.{Cell}
 use Rattle.tb_base.specs.declared.people.TheConstants.{MOST_PERSONS}
 use Rattle.tb_base.specs.Cells.{empty_cell}
@@ -18,11 +16,9 @@ use Rattle.tb_model.specs.Cubes.{category_lists, category_in, cube_of, merged_wh
 use Rattle.tb_model.proofs.CubeLemmas.{rolled_up-cube_of}
 use Rattle.tb_cube.proofs.Grid.{all-fit}
 use Rattle.tb_model.specs.RowMajor.{product}
-use Rattle.tb_model.proofs.SumLemmas.{sum_by-map, sum_by-filter}
 use Rattle.tb_model.proofs.TableLemmas.{size_of, place_at, length-places, get_or-places}
 use Rattle.tb_base.specs.Parts.{Part, part, part_at, modulus}
 use Rattle.tb_grid.specs.Totals.{total_at}
-use Rattle.tb_base.specs.Parts.Part.{counts, keys}
 use Rattle.tb_base.proofs.PartLemmas.{same-cell}
 use Rattle.tb_grid.proofs.Reached.{plain-value, reached, total-value}
 use Rattle.tb_grid.proofs.Sums.{total-zero, under}
@@ -36,7 +32,8 @@ use Rattle.tb_plan.proofs.Under.{each-named}
 use Rattle.tb_rollup.specs.Rolling.{spread}
 use Rattle.tb_rollup.proofs.Spread.{count_of}
 use Rattle.tb_rollup.proofs.Zipped.{lead, spread-zip}
-use Rattle.tb_rollup.proofs.Among.{Distinct, distinct, FitsList, once-in, all-range, lists-fit, lead-steps, category-below, zip-ext}
+use Rattle.tb_cube.proofs.Lists.{Distinct, distinct, FitsList, lists-fit, category-below, part-where, zip-ext}
+use Rattle.tb_rollup.proofs.Among.{once-in, all-range, lead-steps}
 
 -- what a cube adds at a place of the table
 abbrev pub reached_sum : PlanValue → Bool → List ℕ → List ℕ → Part → List Cell → ℕ → ℕ
@@ -59,31 +56,6 @@ reaches schema query vars cs i is apart among fits below =
     (λ v low used. category-below (shape_of schema) vars cs v fits (there v low used)) in
     ap (λ x. nat_lt x (product ns) && under query.totals ns i x) number ∙ reach schema query at i is named below
 
--- the counts that pass a test are no more than all
-counted : (test : (ℕ → ℕ) → Bool) (vars : List ℕ) (L : List (List ℕ)) (cells : List Cell) → sum_by (λ (q : List ℕ × Cell). cond (test (category_in vars q.0)) q.1.count 0) (zip L cells) ≤ sum_by (λ c. c.count) cells
-counted test vars [] cells = omega arith
-counted test vars (x ∷ xs) [] = omega arith
-counted test vars (x ∷ xs) (c ∷ cs) =
-    let ih = counted test vars xs cs in
-    let f : List ℕ × Cell → ℕ = λ q. cond (test (category_in vars q.0)) q.1.count 0 in
-    let one : f (x, c) ≤ c.count = elim (test (category_in vars x)) as (λ b. cond b c.count 0 ≤ c.count) [ true ↦ omega arith | false ↦ omega arith ] in
-    rw (sum_by-cons f (x, c) (zip xs cs), sum_by-cons (λ (d : Cell). d.count) c cs) (omega (arith, ih, one))
-
--- the parts of a merge
-part-merged : (p : Part) (test : (ℕ → ℕ) → Bool) (shape vars : List ℕ) (cells : List Cell) → sum_by (λ c. c.count) cells < 2 ^ 32
-    → part p (merged_where test shape vars cells) ≡ sum_by (λ q. cond (test (category_in vars q.0)) (part p q.1) 0) (zip (category_lists shape vars) cells) % modulus p
-part-merged counts test shape vars cells few =
-    let pairs : List (List ℕ × Cell) = zip (category_lists shape vars) cells in
-    let whole : sum_by (λ (c : Cell). c.count) (map (λ (q : List ℕ × Cell). q.1) (filter (λ (q : List ℕ × Cell). test (category_in vars q.0)) pairs)) ≡ sum_by (λ (q : List ℕ × Cell). cond (test (category_in vars q.0)) q.1.count 0) pairs =
-    sum_by-map (λ (c : Cell). c.count) (λ (q : List ℕ × Cell). q.1) (filter (λ (q : List ℕ × Cell). test (category_in vars q.0)) pairs) ∙ sum_by-filter (λ (q : List ℕ × Cell). q.1.count) (λ (q : List ℕ × Cell). test (category_in vars q.0)) pairs in
-    let small : sum_by (λ (q : List ℕ × Cell). cond (test (category_in vars q.0)) q.1.count 0) pairs < 2 ^ 32 = omega (arith, counted test vars (category_lists shape vars) cells) in
-    whole ∙ sym (mod-eq_of_lt small)
-part-merged keys test shape vars cells few =
-    let pairs : List (List ℕ × Cell) = zip (category_lists shape vars) cells in
-    ap (λ s. s % modulus keys) (sum_by-map (λ (c : Cell). c.key) (λ (q : List ℕ × Cell). q.1)
-    (filter (λ (q : List ℕ × Cell). test (category_in vars q.0)) pairs) ∙ sum_by-filter (λ (q : List ℕ × Cell). q.1.key)
-    (λ (q : List ℕ × Cell). test (category_in vars q.0)) pairs)
-
 -- a table's cells are rolled up, where each part is what the cube adds at its place
 pub rolled : (schema : SchemaValue) (query : QueryValue) (vars : List ℕ) (cube cells : List Cell) → IsPlan (plan_of schema query) → Distinct vars → includes_all vars (vars_of (plan_of schema query)) ≡ true
     → sum_by (λ c. c.count) cube ≤ MOST_PERSONS → length cells ≡ length (places_of schema query)
@@ -101,7 +73,7 @@ rolled schema query vars cube cells is apart among few long value =
     value p i below
     ∙ ap (λ s. s % modulus p) (zip-ext (FitsList (shape_of schema) vars) _ (λ q. cond (belongs schema query (place_at schema query query.dimensions i) (category_in vars q.0)) (part p q.1) 0) (category_lists (shape_of schema) vars) cube (lists-fit (shape_of schema) vars)
     (λ x c fits. ap (λ b. cond b (part p c) 0) (reaches schema query vars x i is apart among fits low)))
-    ∙ sym (ap (part p) here ∙ part-merged p (belongs schema query (place_at schema query query.dimensions i)) (shape_of schema) vars cube (omega (arith, few)))))
+    ∙ sym (ap (part p) here ∙ part-where p (belongs schema query (place_at schema query query.dimensions i)) (shape_of schema) vars cube (omega (arith, few)))))
 
 -- the part of a cell, after the cube was rolled into empty cells, without totals and with them
 module _ (plan : PlanValue) (totals : Bool) (ns vars : List ℕ) (p : Part) (cube : List Cell) (long : length cube ≡ count_of plan vars)
@@ -162,9 +134,3 @@ counted-plan plan cube cells is whole shape among rolled schema query records e 
     (each-named (λ v. list_any (λ w. w == v) cube.vars ≡ true) schema query is' there').dimensions
     (each-named (λ v. list_any (λ w. w == v) cube.vars ≡ true) schema query is' there').filters) is there in
     rolled schema query e ∙ ap (rolled_up schema query cube.shape cube.vars) from ∙ law
-
--- as many empty cells as there are places are all empty
-pub all-empty : (cells : List Cell) (n : ℕ) → cells ≡ replicate n empty_cell → All (λ (c : Cell). c ≡ empty_cell) cells
-all-empty cells n is k d below =
-    let low : k < n = omega (arith, below, ap length is, length-replicate n empty_cell) in
-    ap (λ (xs : List Cell). get_or xs k d) is ∙ get_or-replicate n k empty_cell d low

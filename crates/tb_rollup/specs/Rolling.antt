@@ -3,19 +3,22 @@ use Rattle.std.specs.Prelude.{◌≡◌, ◌+◌, ◌*◌, ◌==◌, ◌<◌, �
 use Rattle.std.specs.Prelude.{List, [], ◌∷◌, length, drop, slice_index}
 use Rattle.std.specs.List.{sum_by, range_with_len}
 use Rattle.tb_cube.specs.Cubes.{cell_count, CubeValue}
+use Rattle.tb_cube.specs.Walks.{spread as spread_by, Fork}
 use Rattle.tb_grid.specs.declared.products.TheConstants.{MOST_CELLS}
 use Rattle.tb_plan.specs.Plans.{PlanValue, uses}
 use Rattle.tb_plan.specs.Steps.{step_at, steps_of}
 use Rattle.tb_query.specs.declared.limits.TheConstants.{MOST_PLACES}
 
+-- where the walk over a cube forks: each category leads on by its step in the plan
+abbrev pub forks_of : PlanValue → List ℕ → List Fork
+forks_of plan [] = []
+forks_of plan (v ∷ vs) =
+    record { count = slice_index plan.shape v; step = step_at plan v } ∷ forks_of plan vs
+
 -- what the cells of a cube add at the number i: f gives a part of the cell at each place; the
 -- categories of the variables before these lead to the place k among theirs, and to the number base
-unfoldable pub spread : PlanValue → List ℕ → (ℕ → ℕ) → ℕ → ℕ → ℕ → ℕ
-spread plan [] f k base i = cond (base == i) (f k) 0
-spread plan (v ∷ vs) f k base i =
-    sum_by
-    (λ c. spread plan vs f (k * slice_index plan.shape v + c) (base + step_at plan v c) i)
-    (range_with_len 0 (slice_index plan.shape v))
+abbrev pub spread : PlanValue → List ℕ → (ℕ → ℕ) → ℕ → ℕ → ℕ → ℕ
+spread plan vars f k base i = spread_by (forks_of plan vars) f k base i
 
 -- what a run of cells adds, from a place on
 abbrev pub run_sum : (ℕ → ℕ) → ℕ → ℕ → ℕ

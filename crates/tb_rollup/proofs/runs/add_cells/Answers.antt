@@ -5,7 +5,8 @@ use Rattle.tb_base.specs.Cells.{empty_cell}
 use Rattle.tb_base.specs.Parts.{part_at, modulus}
 use Rattle.tb_rollup.specs.Rolling.{run_sum}
 use Rattle.tb_base.proofs.PartLemmas.{added-at, past-at}
-use Rattle.tb_rollup.proofs.Added.{one-run, run-one, sum-added}
+use Rattle.tb_cube.proofs.Walks.{sum-added}
+use Rattle.tb_rollup.proofs.Added.{one-run, run-one}
 use Rattle.tb_rollup.proofs.runs.add_cells.Goals as goal
 use Rattle.tb_rollup.proofs.runs.add_cells.Goals.{then-to-cells, else-to-cells}
 

@@ -3,7 +3,7 @@ use Rattle.std.specs.List.{sum_by, range_with_len}
 use Rattle.tb_base.specs.Parts.{part, part_at, modulus}
 use Rattle.tb_base.proofs.PartLemmas.{empty-part}
 use Rattle.tb_rollup.proofs.Added.{one-cell}
-use Rattle.tb_rollup.proofs.Spread.{sum-next}
+use Rattle.tb_cube.proofs.Walks.{sum-next}
 use Rattle.tb_rollup.proofs.runs.sum_of.Goals as goal
 
 pub loop-r-init : goal.loop-r-init

@@ -1,0 +1,158 @@
+// The cells over fewer variables: a cube's cells are walked once, variable by variable, and each is
+// added to the cell to which its categories lead. A variable that isn't among the fewer leads
+// nowhere.
+
+ghost use Rattle.std.specs.Prelude.{◌≡◌, ℕ, ◌+◌, ◌*◌, ◌%◌, ◌<◌, ◌≤◌, List, [], ◌∷◌, All, IfOk};
+ghost use Rattle.std.specs.Prelude.{drop, length};
+ghost use Rattle.tb_base.specs.Cells.{empty_cell};
+ghost use Rattle.tb_base.specs.Parts.{modulus, part_at, Part};
+ghost use Rattle.tb_grid.specs.declared.products.TheConstants.{MOST_CELLS};
+ghost use Rattle.tb_cube.specs.Narrowing.{forks_of, steps_of as steps_over, stride_in};
+ghost use Rattle.tb_cube.specs.Walks.{count_of, spread, StandsAt};
+
+use crate::axes::Axis;
+use std::alloc::Global;
+use tb_base::{Cell, Memory, Shape, VarSet, know_cells};
+
+/// A variable's number of categories, and how many cells over the fewer variables one of them leads
+/// on.
+#[derive(Clone, Copy)]
+pub struct Step {
+    pub count: u16,
+    pub stride: u32,
+}
+
+// The stride of a variable among the axes of the fewer variables, 0 where it isn't there.
+fn stride_of(axes: &[Axis], v: u16) -> u32
+    ensures { result ≡ stride_in axes.now v }
+{
+    for axis in axes {
+        if axis.variable == v {
+            return axis.stride;
+        }
+    }
+    0
+}
+
+/// The steps of some variables among the axes of fewer.
+pub fn steps_of(
+    alloc: Global,
+    shape: &Shape,
+    vars: &VarSet,
+    axes: &[Axis],
+) -> Result<Vec<Step>, Memory>
+    requires { All (λ v. v < length shape.now) vars.now }
+    ensures { IfOk result (λ steps. steps.items ≡ steps_over shape.now axes.now vars.now) }
+{
+    let mut steps = Vec::new(alloc);
+    for j in 0..vars.len() {
+        let v = vars.at(j);
+        let count = shape.at(v as usize);
+        let stride = stride_of(axes, v);
+        steps.push(Step { count, stride })?;
+    }
+    Ok(steps)
+}
+
+// Adds the cells whose categories before the last variable have the place k, where those categories
+// lead to `base`.
+#[inline]
+fn add_row(all: &[Cell], step: Step, cells: &mut [Cell], k: usize, base: usize)
+    requires { StandsAt (forks_of (step ∷ [])) (length all.now) (length cells.old) k base }
+    ensures { (p : Part) (i : ℕ) → i < length cells.old
+        → part_at p cells.new i % modulus p
+        ≡ (part_at p cells.old i
+        + spread (forks_of (step ∷ [])) (part_at p all.now) k base i) % modulus p }
+{
+    let n = step.count as usize;
+    let from = k * n;
+    for c in 0..n {
+        let to = base + c * step.stride as usize;
+        if to < cells.len() {
+            let more = all[from + c];
+            cells[to].add(more);
+        }
+    }
+}
+
+// The same for the first j categories. What leads past all cells is left out: there is none.
+fn add_from(all: &[Cell], steps: &[Step], cells: &mut [Cell], j: usize, k: usize, base: usize)
+    requires depth { j < length steps.now }
+    requires stands { StandsAt (forks_of (drop j steps.now)) (length all.now) (length cells.old)
+        k base }
+    ensures { (p : Part) (i : ℕ) → i < length cells.old
+        → part_at p cells.new i % modulus p
+        ≡ (part_at p cells.old i
+        + spread (forks_of (drop j steps.now)) (part_at p all.now) k base i) % modulus p }
+{
+    let step = steps[j];
+    let last = steps.len() - 1;
+    if j == last {
+        add_row(all, step, cells, k, base);
+        return;
+    }
+    let n = step.count as usize;
+    for c in 0..n {
+        let to = base + c * step.stride as usize;
+        if to < cells.len() {
+            add_from(all, steps, cells, j + 1, k * n + c, to);
+        }
+    }
+}
+
+// Adds each cell at the number to which its categories lead.
+fn add_cells(all: &[Cell], steps: &[Step], cells: &mut [Cell])
+    requires whole { length all.now ≡ count_of (forks_of steps.now) }
+    requires small { length all.now ≤ MOST_CELLS }
+    requires few { length cells.old ≤ MOST_CELLS }
+    ensures { (p : Part) (i : ℕ) → i < length cells.old
+        → part_at p cells.new i % modulus p
+        ≡ (part_at p cells.old i + spread (forks_of steps.now) (part_at p all.now) 0 0 i)
+        % modulus p }
+{
+    if all.len() == 0 {
+        return;
+    }
+    if cells.len() == 0 {
+        return;
+    }
+    if steps.len() == 0 {
+        cells[0].add(all[0]);
+        return;
+    }
+    add_from(all, steps, cells, 0, 0, 0);
+}
+
+// The same into cells that are empty.
+fn fill(all: &[Cell], steps: &[Step], cells: &mut [Cell])
+    requires whole { length all.now ≡ count_of (forks_of steps.now) }
+    requires small { length all.now ≤ MOST_CELLS }
+    requires few { length cells.old ≤ MOST_CELLS }
+    requires empty { All (λ c. c ≡ empty_cell) cells.old }
+    ensures { (p : Part) (i : ℕ) → i < length cells.old
+        → part_at p cells.new i
+        ≡ spread (forks_of steps.now) (part_at p all.now) 0 0 i % modulus p }
+{
+    add_cells(all, steps, cells);
+    know_cells(cells);
+}
+
+/// So many cells, at each of which the cells that lead there are summed. It takes memory for them.
+pub fn narrowed_cells(
+    alloc: Global,
+    all: &[Cell],
+    steps: &[Step],
+    long: usize,
+) -> Result<Vec<Cell>, Memory>
+    requires whole { length all.now ≡ count_of (forks_of steps.now) }
+    requires small { length all.now ≤ MOST_CELLS }
+    requires few { long ≤ MOST_CELLS }
+    ensures many { IfOk result (λ cells. length cells.items ≡ long) }
+    ensures sums { IfOk result (λ cells. (p : Part) (i : ℕ) → i < long
+        → part_at p cells.items i
+        ≡ spread (forks_of steps.now) (part_at p all.now) 0 0 i % modulus p) }
+{
+    let mut cells = vec![in alloc; Cell::empty(); long]?;
+    fill(all, steps, &mut cells);
+    Ok(cells)
+}
