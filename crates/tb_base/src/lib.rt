@@ -38,5 +38,5 @@ pub use records::Record;
 pub use shape::Shape;
 pub use status::Status;
 pub use steps::{Steps, charge};
-pub use var_set::VarSet;
+pub use var_set::{VARIABLES_IN_PLACE, VarSet};
 pub use words::first_word;

@@ -1,4 +1,4 @@
-ghost use Rattle.std.specs.Prelude.{◌≡◌, ◌<◌, length, slice_index, IfOk};
+ghost use Rattle.std.specs.Prelude.{◌≡◌, ◌<◌, ◌≤◌, length, slice_index, IfOk};
 ghost use Rattle.std.specs.List.Sorted.{IsStrictlyIncreasing};
 ghost use Rattle.tb_base.specs.Sets.{includes_all};
 
@@ -8,14 +8,16 @@ use std::alloc::Global;
 use std::hash::{Hash, Hasher};
 use std::marker::Model;
 
-/// How many variables are kept in place, without an allocation of their own.
-const IN_PLACE: usize = 8;
+/// How many variables are kept in place, without an allocation of their own: as many as a schema may
+/// have.
+pub const VARIABLES_IN_PLACE: usize = 64;
 
 /// A set of variables, seen as their numbers in ascending order. Two sets are equal, and hash
-/// alike, where their lists are equal. Up to eight variables take no memory of their own.
+/// alike, where their lists are equal. Up to `VARIABLES_IN_PLACE` variables take no memory of
+/// their own.
 #[derive(Debug, Drop)]
 pub struct VarSet {
-    numbers: SmallVec<u16, IN_PLACE>,
+    numbers: SmallVec<u16, VARIABLES_IN_PLACE>,
 }
 
 impl Model for VarSet {
@@ -92,11 +94,22 @@ impl VarSet {
         self.numbers.as_slice()[i]
     }
 
-    /// An equal set. It takes memory for more than eight variables.
+    /// An equal set. It takes memory for more than `VARIABLES_IN_PLACE` variables.
     pub fn copy(&self) -> Result<VarSet, Memory>
         ensures { IfOk result (λ set. set ≡ self.now) }
     {
         VarSet::of(*self.numbers.allocator(), self.numbers.as_slice())
+    }
+
+    /// An equal set, of at most `VARIABLES_IN_PLACE` variables. It takes no memory.
+    pub fn copy_in_place(&self) -> VarSet
+        requires { length self.now ≤ VARIABLES_IN_PLACE }
+        ensures { result ≡ self.now }
+    {
+        match SmallVec::from_slice(*self.numbers.allocator(), self.numbers.as_slice()) {
+            Ok(numbers) => VarSet { numbers },
+            Err(_) => unreachable!(),
+        }
     }
 
     /// Whether each variable of `other` is in this set.
