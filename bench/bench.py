@@ -88,6 +88,33 @@ PAIRS = [
     (NONE, LARGEST, KEPT, 400),
     (NONE, REFUSED, KEPT, 400_000),
 ]
+
+
+class Publishing(typing.NamedTuple):
+    """Batches of amends that are published one after another, with no table between them: how many
+    amends each has and whose, how many batches there are, and the most that each may take, in
+    thousandths of what the plain program takes for one."""
+
+    whose: str
+    person: typing.Callable[[int], int]
+    amends: int
+    batches: int
+    most: float
+
+
+# When a release was one list, a batch of one edit took 0.34 of the plain program's time and one of
+# 10,000 took 0.36; with pages a batch is to take a hundredth of the first, and of the second 0.3
+# where the persons follow each other and 1.2 where they are scattered over all pages.
+FOLLOWING, SCATTERED = "persons that follow each other", "persons scattered over all pages"
+PUBLISHINGS = [
+    Publishing(FOLLOWING, lambda place: place + 1, 1, 1_000, 10 * 0.34),
+    Publishing(SCATTERED, lambda place: place * 7_919 % LARGE + 1, 1, 1_000, 10 * 0.34),
+    Publishing(FOLLOWING, lambda place: place + 1, 10_000, 11, 300 * 0.36),
+    Publishing(SCATTERED, lambda place: place * 7_919 % LARGE + 1, 10_000, 11, 1_200 * 0.36),
+]
+# How many batches the plain program publishes, and the most MiB that many batches may hold above
+# one.
+PLAIN_BATCHES, MOST_HELD = 5, 4
 # How often each case is run, and the one that shows how long loading takes.
 RUNS, LOADING_RUNS, LONG_RUNS = 5, 15, 3
 # How often a script of batches with tables and the same without them are run in turn, and the
@@ -242,6 +269,43 @@ def measure(case, programs, folder):
             sys.exit(f"bench: the outputs over {folder} differ")
     for who in case.whos:
         case.peak[who] = peak_of(words[who])
+
+
+def write_batches(path, publishing, batches):
+    """A script of so many batches."""
+    with open(path, "w", encoding="ascii") as out:
+        for number in range(batches):
+            for place in range(number * publishing.amends, (number + 1) * publishing.amends):
+                out.write(f"custodian amend {publishing.person(place)} TENURE={place % 5 + 1}\n")
+            out.write("custodian publish\n")
+
+
+def publications(programs, folder):
+    """What each publication after the first takes beside the plain program, and what many hold above
+    one."""
+    for publishing in PUBLISHINGS:
+        words, further, peak = {}, {}, {}
+        counts = {PROGRAM: publishing.batches, PLAIN: min(publishing.batches, PLAIN_BATCHES)}
+        for who, many in counts.items():
+            for count in (ONE, many):
+                script = f"{folder}/batches-{who}-{count}.txt"
+                write_batches(script, publishing, count)
+                words[who, count] = words_of(programs[who], folder, script)
+        for who, many in counts.items():
+            runs = {ONE: [], many: []}
+            for _ in range(RUNS):
+                for count, seconds in runs.items():
+                    seconds.append(seconds_of(words[who, count], f"{folder}/batches.out"))
+            further[who] = [(m - o) / (many - ONE) for o, m in zip(runs[ONE], runs[many])]
+            peak[who] = {count: peak_of(words[who, count]) for count in runs}
+        times = [f"{statistics.median(further[who]) * 1e3:.3f} ms" for who in (PROGRAM, PLAIN)]
+        amends = f"{publishing.amends:,} amend{'s' * (publishing.amends > 1)}"
+        what = f"a batch of {amends}, {publishing.whose}, {' beside '.join(times)}, in thousandths"
+        yield (what, 1e3 * median_ratio(further[PROGRAM], further[PLAIN]), publishing.most)
+        held = (peak[PROGRAM][publishing.batches] - peak[PROGRAM][ONE]) / MIB
+        few = publishing.amends == ONE and publishing.whose == FOLLOWING
+        what = f"{publishing.batches:,} such batches, MiB above one"
+        yield (what, held, MOST_HELD if few else None)
 
 
 def widen(folder, into):
@@ -501,6 +565,7 @@ def main(program, baseline, earlier=None):
                 make_input(folder, case.persons, case.order)
             measure(case, programs, folder)
         lanes = measure_lanes(programs[PROGRAM], f"{top}/{LARGE}-{ASCENDING}")
+        published = list(publications(programs, f"{top}/{LARGE}-{ASCENDING}"))
         widen(f"{top}/{SMALL}-{ASCENDING}", f"{top}/wide")
         behind = {
             batch: seconds_behind(batch, programs[PROGRAM], f"{top}/wide")
@@ -517,6 +582,8 @@ def main(program, baseline, earlier=None):
     print_rows(targets(first, further, shuffled))
     print()
     print_rows(kept(further, behind))
+    print()
+    print_rows(published)
     print()
     print_rows(threads(further, lanes))
     print()
