@@ -15,6 +15,11 @@ added old sub new a s adds one two plain =
     let set : (app_of sub).top.is_plain ≡ true = ap (λ (x : App). x.top.is_plain) two ∙ plain in
     adds.shape (is_false _ (both _ _ (both _ _ (both _ _ set).1).1).0) ∙ ap₂ with_subcommand one (ap (λ (x : App). x.top) two)
 
+-- positions leave a command plain
+pub plain_command : (names : List Text) (a : App) → a.top.is_plain ≡ true → (fold with_position a names).top.is_plain ≡ true
+plain_command [] a plain = plain
+plain_command (name ∷ names) a plain = plain_command names (with_position a name) plain
+
 -- one more position
 pub one_more_place : (places : List (Bor Text)) (i : ℕ) (d : Bor Text) (start old new : App) → i < length places
     → old ≡ fold with_position start (map (λ s. s.now) (take i places)) → new ≡ with_position old (get_or places i d).now

@@ -3,8 +3,9 @@
 ghost use Rattle.std.specs.Prelude.{◌≡◌, IfErr, IfOk, false, map};
 ghost use Rattle.clap.specs.Words.{app_of, kind_of, rule_of, subcommand_of, subcommand_rows_of};
 ghost use Rattle.clap.specs.declared.error.kind.ErrorKind.TheVariants.{OutOfMemory};
-ghost use Rattle.tb_words.specs.Positions.{command_with, position as position_of};
+ghost use Rattle.tb_words.specs.Positions.{bare_program, command_with, position as position_of};
 ghost use Rattle.tb_words.specs.Positions.{positions_of as names_of, program as the_program};
+ghost use Rattle.tb_words.specs.Positions.{with_command as and_command};
 ghost use Rattle.tb_words.specs.Words.{AreCommand};
 
 use clap::{Arg, ArgMatches, Command, Error};
@@ -68,23 +69,40 @@ fn command<'a>(alloc: Global, name: &'static str) -> Result<Command<'a>, AllocEr
     Ok(command)
 }
 
+// The program before its commands are added.
+fn empty_program<'a>(alloc: Global) -> Command<'a>
+    ensures { app_of result ≡ bare_program }
+{
+    Command::new(alloc, "tablebuilder")
+        .no_binary_name(true)
+        .disable_help_flag(true)
+        .disable_help_subcommand(true)
+}
+
+// A program with one more command.
+fn with_command<'a>(
+    alloc: Global,
+    program: Command<'a>,
+    name: &'static str,
+) -> Result<Command<'a>, AllocError>
+    ensures { IfOk result (λ c. app_of c
+        ≡ and_command (app_of program.entry) name.now (names_of name.now)) }
+{
+    let one = command(alloc, name)?;
+    let more = program.subcommand(one)?;
+    Ok(more)
+}
+
 // The program, with a subcommand for each command.
 fn program<'a>(alloc: Global) -> Result<Command<'a>, AllocError>
     ensures { IfOk result (λ c. app_of c ≡ the_program) }
 {
-    let script = command(alloc, "script")?;
-    let lanes = command(alloc, "lanes")?;
-    let serve = command(alloc, "serve")?;
-    let generated = command(alloc, "gen")?;
-    let bare = Command::new(alloc, "tablebuilder")
-        .no_binary_name(true)
-        .disable_help_flag(true)
-        .disable_help_subcommand(true);
-    let one = bare.subcommand(script)?;
-    let two = one.subcommand(lanes)?;
-    let three = two.subcommand(serve)?;
-    let four = three.subcommand(generated)?;
-    Ok(four)
+    let bare = empty_program(alloc);
+    let script = with_command(alloc, bare, "script")?;
+    let lanes = with_command(alloc, script, "lanes")?;
+    let serve = with_command(alloc, lanes, "serve")?;
+    let generated = with_command(alloc, serve, "gen")?;
+    Ok(generated)
 }
 
 /// What clap makes of the words of a command. It fails for want of memory alone.
