@@ -1,15 +1,15 @@
 #!/usr/bin/env python3
 """Runs scripts and lanes over examples/small with one allocation refused, for one allocation after
 another, and compares each output with what the definitions allow, by a model that shares nothing
-with the program. Loading makes most of them: of those each 60th is refused, of the last 240 each.
+with the program. Loading makes few of them, and the first batch one for each shard of the key book:
+each of the first 400 and of the last 400 is refused, and each 20th between; with `all`, each one.
 
-    growths.py PROGRAM FOLDER [WORD ..]
+    growths.py PROGRAM FOLDER [all] [WORD ..]
 
-PROGRAM was built by `rt try --fail-alloc 100000`: a counter is compared with that number in two
-places, and each run is of a copy with another number there. `rt try` takes its program away at its
-end, so it has to be copied from the folder that it is run in while it runs (as `gen 1000000 1`, for
-one). FOLDER is examples/small. With words, only the cases whose names have one of them are run. It
-prints each output that the definitions don't allow, and then ends with status 1.
+PROGRAM is the built program. `cc` makes a small library that stands before the system's allocator
+and refuses the allocation whose number it is given, and no other. FOLDER is examples/small. With
+words, only the cases whose names have one of them are run. It prints each output that the
+definitions don't allow, and then ends with status 1.
 """
 import collections
 import csv
@@ -18,13 +18,49 @@ import subprocess
 import sys
 import tempfile
 
-# A counter is compared with this number.
-BUILT_WITH = b"\x48\x3d" + (100_000).to_bytes(4, "little")
+# What refuses one allocation: that of the number in REFUSED, from 1, none for 0. Each call of malloc
+# and realloc is one; they are counted in the file COUNTED.
+REFUSER = r"""
+#define _GNU_SOURCE
+#include <dlfcn.h>
+#include <fcntl.h>
+#include <stdatomic.h>
+#include <stdlib.h>
+#include <sys/mman.h>
+
+static atomic_long *made;
+static long refused;
+static void *(*system_malloc)(size_t);
+static void *(*system_realloc)(void *, size_t);
+
+__attribute__((constructor)) static void begin(void) {
+    system_malloc = dlsym(RTLD_NEXT, "malloc");
+    system_realloc = dlsym(RTLD_NEXT, "realloc");
+    int file = open(getenv("COUNTED"), O_RDWR);
+    void *page = mmap(NULL, 4096, PROT_READ | PROT_WRITE, MAP_SHARED, file, 0);
+    refused = atol(getenv("REFUSED"));
+    made = page;
+}
+
+static int is_refused(void) {
+    return made && atomic_fetch_add(made, 1) + 1 == refused;
+}
+
+void *malloc(size_t size) {
+    if (!system_malloc) system_malloc = dlsym(RTLD_NEXT, "malloc");
+    return is_refused() ? NULL : system_malloc(size);
+}
+
+void *realloc(void *old, size_t size) {
+    if (!system_realloc) system_realloc = dlsym(RTLD_NEXT, "realloc");
+    return is_refused() ? NULL : system_realloc(old, size);
+}
+"""
 MEMORY, TOTAL = "memory\n", "Total"
 DONE, NO_MEMORY = 0, 9
 ALL = "no reply is memory"
-# How many of the last allocations are refused one by one, which of those before, and how many more.
-LAST, STRIDE, BEYOND = 240, 60, 20
+# How many allocations at both ends are refused one by one, which between, and how many beyond.
+ENDS, STRIDE, BEYOND = 400, 20, 20
 FILES = ("classes", "recodes", "ptable", "people")
 # The lines, and whether they are answered as lanes or as a script.
 CASES = {
@@ -290,59 +326,64 @@ def allowed(model, command, lines, status, text):
     return (ALL, "one is memory", "more are memory")[min(text.count(MEMORY), 2)]
 
 
-def run(program, number, folder, command, words):
-    path = f"{folder}/program-{number}"
-    with open(path, "wb") as out:
-        out.write(program.replace(BUILT_WITH, BUILT_WITH[:2] + number.to_bytes(4, "little")))
-    os.chmod(path, 0o755)
-    try:
-        done = subprocess.run([path, command, *words], capture_output=True, timeout=60, check=False)
-    finally:
-        os.remove(path)
-    return done.returncode, done.stdout.decode("ascii")
+def run(program, refuser, number, command, words):
+    """How a run with that allocation refused ends, what it prints, and how many it made."""
+    counted = f"{refuser}.counted"
+    with open(counted, "wb") as out:
+        out.write(bytes(4096))
+    environment = os.environ | {"LD_PRELOAD": refuser, "REFUSED": str(number), "COUNTED": counted}
+    done = subprocess.run([program, command, *words], capture_output=True, env=environment,
+                          timeout=60, check=False)
+    with open(counted, "rb") as file:
+        made = int.from_bytes(file.read(8), "little")
+    return done.returncode, done.stdout.decode("ascii"), made
 
 
-def main(path, small, *chosen):
-    with open(path, "rb") as file:
-        program = file.read()
-    places = program.count(BUILT_WITH)
-    print(f"the number stands in {places} places")
+def build_refuser(folder):
+    """The library that refuses an allocation."""
+    source, library = f"{folder}/refuser.c", f"{folder}/refuser.so"
+    with open(source, "w", encoding="ascii") as out:
+        out.write(REFUSER)
+    words = ["cc", "-O2", "-shared", "-fPIC", "-o", library, source, "-ldl"]
+    subprocess.run(words, check=True)
+    return library
+
+
+def numbers_to_refuse(most, each):
+    """Which allocations are refused of so many: each one, or those at both ends and some between."""
+    last = most + BEYOND
+    if each or last <= 2 * ENDS:
+        return range(1, last + 1)
+    between = range(ENDS + 1, most - ENDS, STRIDE)
+    return [*range(1, ENDS + 1), *between, *range(most - ENDS, last + 1)]
+
+
+def main(program, small, *chosen):
+    each, words = "all" in chosen, [word for word in chosen if word != "all"]
     model, failed = Model(small), 0
     with tempfile.TemporaryDirectory() as folder:
+        refuser = build_refuser(folder)
         for name, (command, text) in CASES.items():
-            if chosen and not any(word in name for word in chosen):
+            if words and not any(word in name for word in words):
                 continue
             lines = text.strip().splitlines()
             script = f"{folder}/script.txt"
             with open(script, "w", encoding="ascii") as out:
                 out.writelines(line + "\n" for line in lines)
-            words = [*(f"{small}/{file}.csv" for file in FILES), "0", script]
-            status, whole = run(program, 10_000_000, folder, command, words)
+            given = [*(f"{small}/{file}.csv" for file in FILES), "0", script]
+            status, whole, most = run(program, refuser, 0, command, given)
             if status != DONE or allowed(model, command, lines, status, whole) != ALL:
                 sys.exit(f"{name}: {status} {whole}")
-            def meets(number):
-                """Whether a run with that allocation refused differs from one with none refused."""
-                return run(program, number, folder, command, words) != (DONE, whole)
-
-            # Loading makes most of them, one for each page and shard; lines make the last ones.
-            least, most = 1, 20_000
-            while most - least > 1:
-                middle = (least + most) // 2
-                if any(meets(middle + more) for more in range(6)):
-                    least = middle
-                else:
-                    most = middle
-            first = max(1, most - LAST)
             ends = collections.Counter()
-            for number in [*range(1, first, STRIDE), *range(first, most + BEYOND)]:
-                status, text = run(program, number, folder, command, words)
+            for number in numbers_to_refuse(most, each):
+                status, text, _ = run(program, refuser, number, command, given)
                 end = allowed(model, command, lines, status, text)
                 if end is None:
                     failed += 1
                     print(f"{name}, allocation {number}: status {status}\n{text}")
                 ends[end] += 1
-            print(f"{name} ({command}): {most} allocations, each from {first} on, and each "
-                  f"{STRIDE}th before and some {BEYOND} beyond: {dict(ends)}", flush=True)
+            print(f"{name} ({command}): {most} allocations, {sum(ends.values())} refused: "
+                  f"{dict(ends)}", flush=True)
     sys.exit(1 if failed else 0)
 
 
