@@ -25,7 +25,7 @@ const REFUSAL: &[u8; 24] = b"refused 3 UnknownName 2\n";
 const AT_ONCE: u32 = 100;
 
 /// What a client does.
-#[derive(Clone, Copy, Debug)]
+#[derive(Clone, Copy)]
 pub enum Client {
     /// Sends a query byte by byte, and reads the reply.
     ByteByByte,
@@ -39,14 +39,18 @@ pub enum Client {
     NeverReads,
 }
 
-/// Each client once.
-pub const CLIENTS: [Client; 5] = [
+static CLIENTS: [Client; 5] = [
     Client::ByteByByte,
     Client::ManyAtOnce,
     Client::LeavesInLine,
     Client::LeavesInReply,
     Client::NeverReads,
 ];
+
+/// Each client once.
+pub fn clients() -> &'static [Client] {
+    &CLIENTS
+}
 
 // Whether nobody listens at a port.
 fn is_free<R: Net<Listener = TcpListener, Stream = TcpStream>>(rt: &R, port: u16) -> bool {
@@ -87,6 +91,13 @@ fn reads_table(stream: &mut TcpStream) -> Option<bool> {
     Some(back == *TABLE)
 }
 
+// The same of one refusal.
+fn reads_refusal(stream: &mut TcpStream) -> Option<bool> {
+    let mut back = [0; REFUSAL.len()];
+    stream.read_exact(&mut back).ok()?;
+    Some(back == *REFUSAL)
+}
+
 fn ask_byte_by_byte(stream: &mut TcpStream) -> Option<bool> {
     for byte in QUERY {
         stream.write_all(&[*byte]).ok()?;
@@ -103,12 +114,11 @@ fn faulty_queries(alloc: Global) -> Option<Vec<u8>> {
     Some(queries)
 }
 
-fn ask_at_once(stream: &mut TcpStream, queries: &[u8]) -> Option<bool> {
-    stream.write_all(queries).ok()?;
+fn ask_at_once(alloc: Global, stream: &mut TcpStream) -> Option<bool> {
+    let queries = faulty_queries(alloc)?;
+    stream.write_all(&queries).ok()?;
     for _ in 0..AT_ONCE {
-        let mut back = [0; REFUSAL.len()];
-        stream.read_exact(&mut back).ok()?;
-        if back != *REFUSAL {
+        if !reads_refusal(stream)? {
             return Some(false);
         }
     }
@@ -127,14 +137,26 @@ fn leave_in_reply(stream: &mut TcpStream) -> Option<bool> {
     Some(back == *b"release")
 }
 
-fn never_read(stream: &mut TcpStream, queries: &[u8]) -> Option<bool> {
+fn never_read(alloc: Global, stream: &mut TcpStream) -> Option<bool> {
+    let queries = faulty_queries(alloc)?;
     stream.set_nonblocking(true).ok()?;
     for _ in 0..MOST_SENDS {
-        if stream.write_all(queries).is_err() {
+        if stream.write_all(&queries).is_err() {
             return Some(true);
         }
     }
     Some(false)
+}
+
+// What a client does with its stream.
+fn act(alloc: Global, stream: &mut TcpStream, client: Client) -> Option<bool> {
+    match client {
+        Client::ByteByByte => ask_byte_by_byte(stream),
+        Client::ManyAtOnce => ask_at_once(alloc, stream),
+        Client::LeavesInLine => leave_in_line(stream),
+        Client::LeavesInReply => leave_in_reply(stream),
+        Client::NeverReads => never_read(alloc, stream),
+    }
 }
 
 /// A whole session of a client, and whether it got what it read.
@@ -143,15 +165,17 @@ pub fn visit<R: Net<Listener = TcpListener, Stream = TcpStream> + AllocGlobal + 
     port: u16,
     client: Client,
 ) -> Option<bool> {
-    let queries = faulty_queries(rt.alloc())?;
     let mut stream = connect(rt, port)?;
-    match client {
-        Client::ByteByByte => ask_byte_by_byte(&mut stream),
-        Client::ManyAtOnce => ask_at_once(&mut stream, &queries),
-        Client::LeavesInLine => leave_in_line(&mut stream),
-        Client::LeavesInReply => leave_in_reply(&mut stream),
-        Client::NeverReads => never_read(&mut stream, &queries),
-    }
+    act(rt.alloc(), &mut stream, client)
+}
+
+// Asks for a table, closes its writing half, and says whether just the table and the end came.
+fn ask_to_the_end(stream: &mut TcpStream) -> Option<bool> {
+    stream.write_all(QUERY).ok()?;
+    stream.shutdown(Shutdown::Write).ok()?;
+    let is_table = reads_table(stream)?;
+    let more = stream.read(&mut [0; 1]).ok()?;
+    Some(is_table && more == 0)
 }
 
 /// A whole session of a client that closes its writing half, and whether it got just its reply and
@@ -161,9 +185,5 @@ pub fn ask<R: Net<Listener = TcpListener, Stream = TcpStream> + Clock>(
     port: u16,
 ) -> Option<bool> {
     let mut stream = connect(rt, port)?;
-    stream.write_all(QUERY).ok()?;
-    stream.shutdown(Shutdown::Write).ok()?;
-    let is_table = reads_table(&mut stream)?;
-    let more = stream.read(&mut [0; 1]).ok()?;
-    Some(is_table && more == 0)
+    ask_to_the_end(&mut stream)
 }

@@ -32,38 +32,70 @@ fn words_of(alloc: Global, command: &str) -> Result<Vec<String>, Memory> {
     Ok(words)
 }
 
-// Runs the command of these arguments, with a counter of its own.
-fn run_words<N: Listen + Send, R: Threads + Wait + Sync, L: Ledger>(
+// Runs the command of these arguments over these files, with a counter of its own.
+fn count<N: Listen + Send, R: Threads + Wait + Sync, L: Ledger>(
     rt: &R,
     alloc: Global,
     words: &[String],
+    files: &mut SureFiles,
     out: &mut MemSink,
     net: &mut Vec<Port<N>>,
     blank: Blank,
-) -> Result<Status, Memory>
+) -> Status
     requires ports { vec_len net.old ≡ MOST_WORKERS + 1 }
     requires fresh { All IsFresh net.old.items }
     requires name { blank.name ≡ L.name }
     requires parts { blank.parts ≡ L.parts }
     requires some { 0 < L.parts }
 {
-    let mut files = small_files(alloc)?;
     let mut steps = Steps::<L>::new(blank);
-    Ok(tablebuilder(rt, alloc, words, &mut files, out, net, &mut steps))
+    tablebuilder(rt, alloc, words, files, out, net, &mut steps)
 }
 
-/// Runs a command, whose arguments one blank parts, and returns how it ended and what it wrote.
-pub fn run_command<N: Listen + Send, R: Threads + Wait + Sync>(
+// Runs the command of these arguments.
+fn run_words<N: Listen + Send, R: Threads + Wait + Sync>(
+    rt: &R,
+    alloc: Global,
+    words: &[String],
+    out: &mut MemSink,
+    net: &mut Vec<Port<N>>,
+) -> Result<Status, Memory>
+    requires ports { vec_len net.old ≡ MOST_WORKERS + 1 }
+    requires fresh { All IsFresh net.old.items }
+{
+    let mut files = small_files(alloc)?;
+    Ok(count::<N, R, Brand>(rt, alloc, words, &mut files, out, net, Blank::new(1)))
+}
+
+// Runs a command, whose arguments one blank parts.
+fn run_command<N: Listen + Send, R: Threads + Wait + Sync>(
     rt: &R,
     alloc: Global,
     command: &str,
+    out: &mut MemSink,
     net: &mut Vec<Port<N>>,
-) -> Result<(Status, MemSink), Memory>
+) -> Result<Status, Memory>
     requires ports { vec_len net.old ≡ MOST_WORKERS + 1 }
     requires fresh { All IsFresh net.old.items }
 {
     let words = words_of(alloc, command)?;
+    run_words(rt, alloc, &words, out, net)
+}
+
+/// Runs a command, whose arguments one blank parts, and returns whether it ends so and writes just
+/// this text.
+pub fn ends_so<N: Listen + Send, R: Threads + Wait + Sync>(
+    rt: &R,
+    alloc: Global,
+    command: &str,
+    net: &mut Vec<Port<N>>,
+    end: Status,
+    text: &[u8],
+) -> Result<bool, Memory>
+    requires ports { vec_len net.old ≡ MOST_WORKERS + 1 }
+    requires fresh { All IsFresh net.old.items }
+{
     let mut out = MemSink::new(alloc, 200)?;
-    let status = run_words::<N, R, Brand>(rt, alloc, &words, &mut out, net, Blank::new(1))?;
-    Ok((status, out))
+    let status = run_command(rt, alloc, command, &mut out, net)?;
+    Ok(status == end && out.taken() == text)
 }

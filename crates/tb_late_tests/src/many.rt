@@ -3,13 +3,12 @@
 ghost use Rattle.std.specs.Prelude.{◌≡◌, ◌<◌, ◌+◌, All, IfOk, vec_len};
 ghost use Rattle.tb_serve.specs.Stages.{IsFresh};
 
-use super::running::{memory_port, serve_from};
+use super::running::{add_port, fill, serves};
 use std::alloc::Global;
-use std::process::Abort;
 use std::sync::Wait;
 use std::test::Fail;
 use std::thread::Threads;
-use tb_base::{Memory, Status};
+use tb_base::Memory;
 use tb_io::MemListen;
 use tb_serve::Port;
 
@@ -19,59 +18,34 @@ const SESSIONS: u32 = 100;
 // The number of the last release.
 const LAST: u32 = 50;
 
-// As many publications, each of one man more.
+// Adds a publication of one man more, whose number has these last digits.
+fn add_edit(bytes: &mut Vec<u8>, digits: &[u8]) -> Result<(), Memory> {
+    bytes.extend_from_slice(b"add 3")?;
+    bytes.extend_from_slice(digits)?;
+    bytes.extend_from_slice(b" 0 SEX=1 AGE=0-15 AREA=E1\npublish\n")?;
+    Ok(())
+}
+
+// As many publications.
 fn edits(alloc: Global) -> Result<Vec<u8>, Memory> {
     let mut bytes = Vec::new(alloc);
     for tens in b'0'..b'5' {
         for ones in b'0'..=b'9' {
-            bytes.extend_from_slice(b"add 3")?;
-            bytes.push(tens)?;
-            bytes.push(ones)?;
-            bytes.extend_from_slice(b" 0 SEX=1 AGE=0-15 AREA=E1\npublish\n")?;
+            add_edit(&mut bytes, &[tens, ones])?;
         }
     }
     Ok(bytes)
 }
 
-// The custodian's port, with one session.
-fn custodian(alloc: Global) -> Result<Port<MemListen>, Memory>
-    ensures { IfOk result IsFresh }
+// Adds the custodian's port, with one session.
+fn add_custodian(alloc: Global, net: &mut Vec<Port<MemListen>>) -> Result<(), Memory>
+    requires few { vec_len net.old < 100 }
+    requires fresh { All IsFresh net.old.items }
+    ensures ports { IfOk result (λ _. vec_len net.new ≡ vec_len net.old + 1) }
+    ensures fresh { IfOk result (λ _. All IsFresh net.new.items) }
 {
-    memory_port(alloc, &edits(alloc)?, 1, false, &[])
-}
-
-// An analyst's port.
-fn analyst(alloc: Global) -> Result<Port<MemListen>, Memory>
-    ensures { IfOk result IsFresh }
-{
-    memory_port(alloc, b"table SEX\ntable SEX\n", SESSIONS, false, &[])
-}
-
-// These ports, and an analyst's after them.
-fn with_analyst(
-    alloc: Global,
-    mut net: Vec<Port<MemListen>>,
-) -> Result<Vec<Port<MemListen>>, Memory>
-    requires few { vec_len net < 10 }
-    requires fresh { All IsFresh net.items }
-    ensures ports { IfOk result (λ more. vec_len more ≡ vec_len net + 1) }
-    ensures fresh { IfOk result (λ more. All IsFresh more.items) }
-{
-    net.push(analyst(alloc)?)?;
-    Ok(net)
-}
-
-// These ports, and four analysts' after them.
-fn with_four(alloc: Global, net: Vec<Port<MemListen>>) -> Result<Vec<Port<MemListen>>, Memory>
-    requires few { vec_len net < 6 }
-    requires fresh { All IsFresh net.items }
-    ensures ports { IfOk result (λ more. vec_len more ≡ vec_len net + 4) }
-    ensures fresh { IfOk result (λ more. All IsFresh more.items) }
-{
-    let one = with_analyst(alloc, net)?;
-    let two = with_analyst(alloc, one)?;
-    let three = with_analyst(alloc, two)?;
-    with_analyst(alloc, three)
+    let edits = edits(alloc)?;
+    add_port(alloc, net, &edits, 1, false, &[])
 }
 
 // The custodian's port and eight analysts'.
@@ -79,10 +53,10 @@ fn ports(alloc: Global) -> Result<Vec<Port<MemListen>>, Memory>
     ensures ports { IfOk result (λ net. vec_len net ≡ 9) }
     ensures fresh { IfOk result (λ net. All IsFresh net.items) }
 {
-    let mut own = Vec::new(alloc);
-    own.push(custodian(alloc)?)?;
-    let five = with_four(alloc, own)?;
-    with_four(alloc, five)
+    let mut net = Vec::new(alloc);
+    add_custodian(alloc, &mut net)?;
+    fill(alloc, &mut net, b"table SEX\ntable SEX\n", SESSIONS, 9)?;
+    Ok(net)
 }
 
 // A digit's value.
@@ -150,6 +124,7 @@ fn never_falls(listener: &MemListen) -> bool {
     listener.back() == SESSIONS as usize
 }
 
+// Whether that is so of the port at this place.
 fn is_right(net: &[Port<MemListen>], place: usize) -> bool {
     match net.get(place) {
         Some(port) => never_falls(&port.listener),
@@ -157,21 +132,31 @@ fn is_right(net: &[Port<MemListen>], place: usize) -> bool {
     }
 }
 
-fn many_tables(rt: &(impl Threads + Wait + Abort + Sync), alloc: Global) -> Result<(), Fail> {
-    let mut net = ports(alloc)?;
-    let (status, out) = serve_from(rt, alloc, 5000, 8, SESSIONS, &mut net)?;
-    assert_eq!(rt; status, Status::Done);
-    for place in 1..9usize {
-        assert!(rt; is_right(&net, place));
+// At how many of the analysts' ports that is so.
+fn right_ports(net: &[Port<MemListen>]) -> u32 {
+    let mut right: u32 = 0;
+    for place in 1..9 {
+        if is_right(net, place) {
+            right = right.saturating_add(1);
+        }
     }
-    let report = b"worker 0 sessions 1\nworker 1 sessions 100\nworker 2 sessions 100\n\
-        worker 3 sessions 100\nworker 4 sessions 100\nworker 5 sessions 100\n\
-        worker 6 sessions 100\nworker 7 sessions 100\nworker 8 sessions 100\nrelease 50\n";
-    assert_eq!(rt; out.taken(), report.as_slice());
-    Ok(())
+    right
+}
+
+const REPORT: &[u8] =
+    b"worker 0 sessions 1\nworker 1 sessions 100\nworker 2 sessions 100\nworker 3 sessions 100\n\
+    worker 4 sessions 100\nworker 5 sessions 100\nworker 6 sessions 100\nworker 7 sessions 100\n\
+    worker 8 sessions 100\nrelease 50\n";
+
+// Whether all sessions are served, and at how many of the analysts' ports no number falls.
+fn many_tables(rt: &(impl Threads + Wait + Sync), alloc: Global) -> Result<(bool, u32), Memory> {
+    let mut net = ports(alloc)?;
+    let served = serves(rt, alloc, 5000, 8, SESSIONS, &mut net, REPORT)?;
+    Ok((served, right_ports(&net)))
 }
 
 #[test]
 fn many_sessions(rt: HostRuntime) -> Result<(), Fail> {
-    many_tables(&rt, rt.alloc())
+    assert_eq!(&rt; many_tables(&rt, rt.alloc())?, (true, 8));
+    Ok(())
 }
