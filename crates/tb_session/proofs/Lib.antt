@@ -14,3 +14,8 @@ mod Cutting
 mod Ends
 mod SoFar
 mod LegalParties
+mod OwnCells
+mod RunSteps
+mod TakeRuns
+mod ReplyTakes
+mod RunLaws

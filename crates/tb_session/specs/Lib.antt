@@ -5,6 +5,7 @@ pub mod ReplyLines
 pub mod Replies
 pub mod Transcripts
 pub mod Laws
+pub mod RunWorlds
 pub mod ReplyTexts
 pub mod Counting
 pub mod Parties

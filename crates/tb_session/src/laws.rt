@@ -1,7 +1,10 @@
-//! Laws of legal transcripts. Each function does nothing, and its contract is a law.
+//! Laws of legal transcripts, and of what the replies of a run of events show. Each function does
+//! nothing, and its contract is a law over the definitions alone.
 
 ghost use Rattle.tb_session.specs.Laws.{MeetingTranscriptsJoin, NumbersNeverFall, OneMoreLine};
 ghost use Rattle.tb_session.specs.Laws.{PublishedStays, TablesNameTheirList};
+ghost use Rattle.tb_session.specs.RunWorlds.{AgreeingRepliesShowTheSame, RepliesAnswerTakes};
+ghost use Rattle.tb_session.specs.RunWorlds.{RepliesShowTheirWorlds};
 
 /// A legal transcript and a line more, with a legal reply, are one.
 pub fn one_more_line()
@@ -26,4 +29,21 @@ pub fn tables_name_their_list()
 /// After the custodian's `published N`, its release is N until it asks to publish again.
 pub fn published_stays()
     ensures { PublishedStays }
+{}
+
+/// In every run of events, each reply with cells answers a take.
+pub fn replies_answer_takes()
+    ensures { RepliesAnswerTakes }
+{}
+
+/// A query's table that is rolled up from a reply's cells shows at each place the text of the
+/// place's own records, of the reply's release.
+pub fn replies_show_their_worlds()
+    ensures { RepliesShowTheirWorlds }
+{}
+
+/// Where two worlds agree at a place, of any two runs with any setups, releases 0, events and
+/// queries, the text that is shown there from the reply's cells is the same.
+pub fn agreeing_replies_show_the_same()
+    ensures { AgreeingRepliesShowTheSame }
 {}

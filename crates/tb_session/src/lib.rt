@@ -6,16 +6,20 @@
 //! `tb_revise` (the custodian's edits), `tb_text` (the table) and `tb_io` (where lines come from,
 //! and where replies go). Its contracts cite `specs/Asks` (what a line asks for), `Replies` (what
 //! the reply to it is), `Transcripts` (which replies are legal) and `Parties` (who asks, and what
-//! an answer says); `laws` cites `Laws`. Those of a session cite `Streams` (what a stream's bytes
+//! an answer says); `laws` cites `Laws`, and `RunWorlds` (what a reply of a run of `tb_core`'s
+//! events shows at a place of a table). Those of a session cite `Streams` (what a stream's bytes
 //! say), `Sessions` (what a session did) and `PartySessions` (whose session).
 //!
 //! Of the proofs, `Leading` leads from what a line asks for to where the party stands then,
-//! `Revising` does so for `publish` and `QueryAnswers` for a query; `Cubed`, `Counts` and `Pieces` say what
-//! a caller of counting owes, `Texts` how lines are put together; `Transcribing`, `Numbers` and
-//! `Publishing` prove the laws. For scripts, `SomeReplies` and `Analysts` have what a run of lines
-//! needs. The loop of a session stands over anything that answers lines: `Cutting` has lines that
-//! are cut off a stream, `Ends` those that end a session, `SoFar` the lines so far and each way to
-//! end after them, and `LegalParties` leads from such a loop to a party's legal replies.
+//! `Revising` does so for `publish` and `QueryAnswers` for a query; `Cubed`, `Counts` and `Pieces`
+//! say what a caller of counting owes, `Texts` how lines are put together; `Transcribing`,
+//! `Numbers` and `Publishing` prove the laws of transcripts. Those of runs are proved by
+//! `RunSteps` (what an event may do), `TakeRuns` (a reply's cells), `ReplyTakes` (the take that it
+//! answers), `OwnCells` (a table from a cube over its plan's variables) and `RunLaws`. For
+//! scripts, `SomeReplies` and `Analysts` have what a run of lines needs. The loop of a session
+//! stands over anything that answers lines: `Cutting` has lines that are cut off a stream, `Ends`
+//! those that end a session, `SoFar` the lines so far and each way to end after them, and
+//! `LegalParties` leads from such a loop to a party's legal replies.
 #![tactic(auto)]
 
 mod answerer;
