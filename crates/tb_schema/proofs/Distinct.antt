@@ -12,7 +12,7 @@ use Rattle.tb_base.proofs.Texts.{same_text, text_itself, text_other_way}
 use Rattle.tb_schema.specs.Names.{place_in}
 use Rattle.tb_schema.proofs.Orders.{less}
 
-either_way : (x y : List ℕ) → bytes_eq x y ≡ bytes_eq y x
+pub either_way : (x y : List ℕ) → bytes_eq x y ≡ bytes_eq y x
 either_way x y = elim (cases_Bool (bytes_eq x y)) [
   | inl t ↦ let e = same_text x y t in rw (t, e) (sym (text_itself y))
   | inr t ↦ t ∙ sym (text_other_way x y t)

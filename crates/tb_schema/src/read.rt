@@ -47,7 +47,8 @@ impl Schema {
     ///
     /// The first fault of the classification refuses it, and else the first of the recodes, with
     /// the number of its record from 1, or 0 for the header. It takes memory for the names, codes
-    /// and labels, and for the group of each category of a recode.
+    /// and labels, for a table in which each variable's codes are looked up, and for the group of
+    /// each category of a recode.
     pub fn read(
         alloc: Global,
         classes: &[u8],
