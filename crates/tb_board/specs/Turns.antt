@@ -6,8 +6,9 @@ use Rattle.tb_core.specs.Takes.{number_of, release_in, IsTaken}
 use Rattle.tb_core.specs.Views.{hit_of}
 use Rattle.tb_board.specs.Holders.{HolderValue, release_seen, IsChainSeen}
 
--- a cube that was found is that of its number, and comes with the batches that lead from there to
--- the release that was taken; with no set none is looked for
+-- a cube that was found is that of its number, over a set that includes the one asked for, and
+-- comes with the batches that lead from there to the release that was taken; with no set none is
+-- looked for
 abbrev pub IsHitFor : HolderValue → Option (List ℕ) → Taken → Type 0
 IsHitFor seen None taken = option_map hit_of taken.hit ≡ None
 IsHitFor seen (Some vars) taken = IsTaken seen.start.shape seen.start.base seen.list vars taken

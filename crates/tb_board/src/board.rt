@@ -2,6 +2,7 @@ ghost use Rattle.std.specs.Prelude.{◌≡◌, ◌<◌, ◌≤◌, All, IfOk, If
 ghost use Rattle.std.specs.Option.{option_copied};
 ghost use Rattle.std.specs.Arc.{arc_value};
 ghost use mathlib.Core.List.{IsPrefix};
+ghost use Rattle.tb_base.specs.declared.var_set.TheConstants.{VARIABLES_IN_PLACE};
 ghost use Rattle.tb_cache.specs.declared.TheConstants.{MOST_ENTRIES};
 ghost use Rattle.tb_core.specs.Desks.{IsCubeAt};
 ghost use Rattle.tb_core.specs.Turns.{AreStats};
@@ -63,8 +64,9 @@ impl<B: Named> Board<B> {
         guard.pass(&self.front)
     }
 
-    /// Takes the current release, and for a set the cube of it that is kept, if there is one, with
-    /// the batches that are missing in it. The pass sees the chain of this turn. It takes memory.
+    /// Takes the current release, and for a set the cube over it that is kept, else one over a
+    /// wider set, if there is one, with the batches that are missing in it. The pass sees the chain
+    /// of this turn. It takes memory.
     pub fn take(
         &self,
         rt: &impl Wait,
@@ -81,10 +83,12 @@ impl<B: Named> Board<B> {
         guard.take(&self.front, pass, vars)
     }
 
-    /// Offers the cube of a release that the pass has seen, to be kept. What becomes of it isn't
-    /// told: no reply depends on it. The pass stays.
+    /// Offers the cube of a release that the pass has seen, over at most
+    /// `tb_base::VARIABLES_IN_PLACE` variables, to be kept. What becomes of it isn't told: no reply
+    /// depends on it. The pass stays.
     pub fn offer(&self, rt: &impl Wait, pass: &mut Pass<Step>, offer: Offer)
         requires name { pass.old.name ≡ B.name }
+        requires few { length offer.vars ≤ VARIABLES_IN_PLACE }
         requires cube { IsCubeAt pass.old.start.shape pass.old.start.base pass.old.list
             offer.vars offer.number (arc_value offer.cube) }
         ensures { pass.new ≡ pass.old }

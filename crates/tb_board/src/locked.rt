@@ -3,6 +3,7 @@
 ghost use Rattle.std.specs.Prelude.{◌≡◌, ◌<◌, ◌≤◌, IfOk, OnOk, OnErr, length};
 ghost use Rattle.std.specs.Option.{option_copied};
 ghost use Rattle.std.specs.Arc.{arc_value};
+ghost use Rattle.tb_base.specs.declared.var_set.TheConstants.{VARIABLES_IN_PLACE};
 ghost use Rattle.tb_cache.specs.declared.TheConstants.{MOST_ENTRIES};
 ghost use Rattle.tb_core.specs.Desks.{IsCubeAt};
 ghost use Rattle.tb_core.specs.Turns.{after_clear, after_look, after_resize, AreStats, IsOffered};
@@ -95,6 +96,7 @@ impl<B: Named> Locked<B> {
     ) -> Offered
         requires front { front.now ≡ B.name }
         requires pass { pass.old.name ≡ B.name }
+        requires few { length offer.vars ≤ VARIABLES_IN_PLACE }
         requires cube { IsCubeAt pass.old.start.shape pass.old.start.base pass.old.list
             offer.vars offer.number (arc_value offer.cube) }
         ensures pass { pass.new ≡ pass.old }

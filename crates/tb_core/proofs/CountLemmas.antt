@@ -19,12 +19,12 @@ use Rattle.tb_core.specs.declared.events.Reply.{Reply}
 use Rattle.tb_core.specs.Callers.{Stage}
 use Rattle.tb_core.specs.Callers.Stage.{Idle, Took, Works}
 use Rattle.tb_core.specs.Desks.{release_at, HasCube, IsRevised}
-use Rattle.tb_core.specs.Fitting.{can_follow, has_cube}
+use Rattle.tb_core.specs.Fitting.{can_ask, can_follow}
 use Rattle.tb_release.specs.Fitting.{edits_fit}
 use Rattle.tb_core.specs.Runs.{run_of, start}
 use Rattle.tb_core.specs.Laws.{bare, bare_by, bare_goes_on, bare_of, bare_published, bare_replied, got, BareState, IsCounted}
 use Rattle.tb_core.proofs.ChainLemmas.{after_all, revised_on}
-use Rattle.tb_core.proofs.FitLemmas.{follow_told, has_told}
+use Rattle.tb_core.proofs.FitLemmas.{ask_told, follow_told}
 use Rattle.tb_release.proofs.FitTests.{fits_all}
 use Rattle.tb_core.proofs.LawLemmas.{bare-run, kept_in_run, IsKept}
 use Rattle.tb_core.proofs.NumberLemmas.{get-push, get-replicate, get-set}
@@ -139,13 +139,13 @@ module _ (shape : List ℕ) (base : ReleaseValue) where
   counted-take b who (Some vars) refused (Some (Took n vs hit)) h = h
   counted-take b who (Some vars) refused (Some (Works n vs to_offer)) h = h
   counted-take b who (Some vars) refused (Some Idle) h =
-      (elim (has_cube b.shape vars)
-      as (λ t. has_cube b.shape vars ≡ t
+      (elim (can_ask b.shape vars)
+      as (λ t. can_ask b.shape vars ≡ t
       → AreCounted shape base (if not t then b else if refused then bare_replied who Memory b else bare_goes_on who (Took (length b.chain) vars None) b)) [
         | false ↦ λ is. h
         | true ↦ λ is. elim refused as (λ r. AreCounted shape base (if r then bare_replied who Memory b else bare_goes_on who (Took (length b.chain) vars None) b)) [
           | true ↦ counted-replied b who Memory (no_cells b) h
-          | false ↦ counted-goes_on b who (Took (length b.chain) vars None) (omega arith, subst (λ (s : List ℕ). HasCube s vars) h.same_shape (has_told b.shape vars is)) h
+          | false ↦ counted-goes_on b who (Took (length b.chain) vars None) (omega arith, subst (λ (s : List ℕ). HasCube s vars) h.same_shape (ask_told b.shape vars is).has) h
         ]
       ]) refl
 

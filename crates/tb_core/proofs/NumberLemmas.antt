@@ -16,7 +16,7 @@ use Rattle.tb_core.specs.declared.events.Reply.{Reply}
 use Rattle.tb_core.specs.Desks.{release_at}
 use Rattle.tb_core.specs.Callers.{Stage}
 use Rattle.tb_core.specs.Callers.Stage.{Idle, Took, Works}
-use Rattle.tb_core.specs.Fitting.{can_follow, has_cube}
+use Rattle.tb_core.specs.Fitting.{can_ask, can_follow}
 use Rattle.tb_release.specs.Fitting.{edits_fit}
 use Rattle.tb_core.specs.Runs.{run_of, start}
 use Rattle.tb_core.specs.Laws.{bare, bare_by, bare_goes_on, bare_of, bare_published, bare_replied, got, BareState, NeverFall}
@@ -174,7 +174,7 @@ rising-take b who (Some vars) refused None at h = h
 rising-take b who (Some vars) refused (Some (Took n vs hit)) at h = h
 rising-take b who (Some vars) refused (Some (Works n vs to_offer)) at h = h
 rising-take b who (Some vars) refused (Some Idle) at h =
-    elim (has_cube b.shape vars)
+    elim (can_ask b.shape vars)
     as (λ t. IsRising (if not t then b else if refused then bare_replied who Memory b else bare_goes_on who (Took (length b.chain) vars None) b)) [
       | false ↦ h
       | true ↦ elim refused as (λ r. IsRising (if r then bare_replied who Memory b else bare_goes_on who (Took (length b.chain) vars None) b)) [

@@ -1,7 +1,8 @@
 -- What was taken from a desk: a release of the chain, and perhaps a cube that leads there.
-use Rattle.std.specs.Prelude.{◌≡◌, ◌≤◌, ℕ, List, drop, take, length, max}
+use Rattle.std.specs.Prelude.{◌≡◌, ◌≤◌, ℕ, true, List, drop, take, length, max}
 use Rattle.std.specs.Prelude.{Option, Some, None, option_map}
 use Rattle.std.specs.Arc.{arc_value}
+use Rattle.tb_base.specs.Sets.{includes_all}
 use Rattle.tb_core.specs.Desks.{IsRevised, release_at}
 use Rattle.tb_core.specs.Turns.{HitValue}
 use Rattle.tb_core.specs.Views.{hit_of}
@@ -19,11 +20,11 @@ release_in taken = arc_value taken.release
 abbrev pub number_of : Taken → ℕ
 number_of taken = (release_in taken).number
 
--- the number of the release whose cube was found, if one was
-abbrev pub found_in : Taken → Option ℕ
-found_in taken = option_map (λ hit. hit.number) taken.hit
+-- the variables of the cube that was found and the number of its release, if one was
+abbrev pub found_in : Taken → Option (List ℕ × ℕ)
+found_in taken = option_map (λ hit. ((hit_of hit).cube.vars, hit.number)) taken.hit
 
--- the cube of release m, for a caller at release n of a chain
+-- the cube of release m over some variables, for a caller at release n of a chain
 abbrev pub hit_to : List ℕ → ReleaseValue → List BatchValue → List ℕ → ℕ → ℕ → HitValue
 hit_to shape base chain vars n m =
     record {
@@ -32,11 +33,13 @@ hit_to shape base chain vars n m =
       pending = drop m (take n chain);
     }
 
--- a cube of no later release was found, or none
+-- a cube of no later release was found, over variables among which those are that were asked for,
+-- or none
 abbrev pub IsHit : List ℕ → ReleaseValue → List BatchValue → List ℕ → ℕ → Option HitValue → Type 0
 IsHit shape base chain vars n None = Unit {0}
 IsHit shape base chain vars n (Some hit) =
-    (hit.number ≤ n) × (hit ≡ hit_to shape base chain vars n hit.number)
+    (hit.number ≤ n) × (includes_all hit.cube.vars vars ≡ true)
+    × (hit ≡ hit_to shape base chain hit.cube.vars n hit.number)
 
 -- what was taken is of the chain, for these variables
 pub record IsTaken (shape : List ℕ) (base : ReleaseValue) (chain : List BatchValue)

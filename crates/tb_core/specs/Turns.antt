@@ -3,7 +3,7 @@ use Rattle.std.specs.Prelude.{◌≡◌, ◌<◌, ◌≤◌, ◌+◌, ◌-◌, �
 use Rattle.std.specs.Prelude.{take, drop, length}
 use Rattle.std.specs.Prelude.{if◌then◌else◌, is_some, nat_le, nat_lt}
 use Rattle.std.specs.Prelude.{Option, Some, None, option_map}
-use Rattle.tb_cache.specs.Recency.{found, looked, put_first}
+use Rattle.tb_cache.specs.Recency.{entry_of, found, looked, put_first}
 use Rattle.tb_cache.specs.declared.TheConstants.{MOST_ENTRIES}
 use Rattle.tb_core.specs.Desks.{DeskValue, release_at}
 use Rattle.tb_core.specs.declared.desk.Offered.{Offered}
@@ -16,7 +16,7 @@ use Rattle.tb_release.specs.Batches.{BatchValue}
 abbrev pub counted : ℕ → ℕ
 counted n = if nat_lt n (2 ^ 64 - 1) then n + 1 else n
 
--- a look for a set brings its entry to the front and is counted, as is finding it; with no set
+-- a look for a set brings what it finds to the front and is counted, as is finding it; with no set
 -- nothing is looked for
 abbrev pub after_look : Option (List ℕ) → DeskValue → DeskValue
 after_look None desk = desk
@@ -43,8 +43,8 @@ abbrev pub after_resize : ℕ → DeskValue → DeskValue
 after_resize capacity desk =
     record desk { entries = take capacity desk.entries; capacity = capacity }
 
--- a cube that was found: the number of its release, its cells, and the batches from there to the
--- current release
+-- a cube that was found: the number of its release, its variables and cells, and the batches from
+-- there to the current release
 pub record HitValue : Type 0 where
   pub number : ℕ
   pub cube : CubeValue
@@ -58,10 +58,14 @@ hit_at desk vars n =
       pending = drop n desk.chain;
     }
 
--- what is found for a set, if one is given
+-- what is found for a set, if one is given: the cube over the set of the entry
 abbrev pub hit_for : Option (List ℕ) → DeskValue → Option HitValue
 hit_for None desk = None
-hit_for (Some vars) desk = option_map (hit_at desk vars) (found vars desk.entries)
+hit_for (Some vars) desk = option_map (λ e. hit_at desk e.0 e.1) (found vars desk.entries)
+
+-- the number of the entry of exactly this set, if it has one
+abbrev pub number_for : List ℕ → List (List ℕ × ℕ) → Option ℕ
+number_for vars entries = option_map (λ e. e.1) (entry_of vars entries)
 
 -- the number of an entry that is no older than n
 abbrev pub no_older : ℕ → Option ℕ → Option ℕ
@@ -72,10 +76,10 @@ no_older n (Some m) = if nat_le n m then Some m else None
 -- no entry of its set is as new; want of memory comes only for a set that has no entry
 abbrev pub IsOffered : DeskValue → List ℕ → ℕ → Offered → DeskValue → Type 0
 IsOffered old vars n Kept new =
-    (no_older n (found vars old.entries) ≡ None) × (new ≡ after_put vars n old)
+    (no_older n (number_for vars old.entries) ≡ None) × (new ≡ after_put vars n old)
 IsOffered old vars n (Older m) new =
-    (no_older n (found vars old.entries) ≡ Some m) × (new ≡ old)
-IsOffered old vars n Memory new = (found vars old.entries ≡ None) × (new ≡ old)
+    (no_older n (number_for vars old.entries) ≡ Some m) × (new ≡ old)
+IsOffered old vars n Memory new = (number_for vars old.entries ≡ None) × (new ≡ old)
 
 abbrev pub stats_of : DeskValue → Stats
 stats_of desk =

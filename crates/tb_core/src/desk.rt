@@ -5,12 +5,12 @@ ghost use Rattle.std.specs.Prelude.{Some, option_map, IfOk, OnOk, OnErr};
 ghost use Rattle.std.specs.Option.{ForSome, option_copied};
 ghost use Rattle.std.specs.Arc.{arc_value};
 ghost use Rattle.tb_base.specs.Records.{AllFit};
-ghost use Rattle.tb_cache.specs.Recency.{found};
+ghost use Rattle.tb_base.specs.declared.var_set.TheConstants.{VARIABLES_IN_PLACE};
 ghost use Rattle.tb_cache.specs.declared.TheConstants.{MOST_ENTRIES};
 ghost use Rattle.tb_core.specs.Desks.{current_of, IsCubeAt, IsSound};
 ghost use Rattle.tb_core.specs.Takes.{IsTaken};
 ghost use Rattle.tb_core.specs.Turns.{after_adoption, after_clear, after_look, after_resize};
-ghost use Rattle.tb_core.specs.Turns.{counted, hit_at, hit_for, no_older as is_no_older};
+ghost use Rattle.tb_core.specs.Turns.{counted, hit_for, no_older as is_no_older, number_for};
 ghost use Rattle.tb_core.specs.Turns.{stats_of, AreStats, IsOffered};
 ghost use Rattle.tb_core.specs.Views.{hit_of};
 ghost use Rattle.tb_release.specs.Batches.{Follows};
@@ -25,8 +25,8 @@ use tb_cache::CubeCache;
 use tb_cube::Cube;
 use tb_release::{Batch, Batches, Release};
 
-/// A cube that was found: that of the numbered release, and the batches from there to the release
-/// that was taken.
+/// A cube that was found, whose variables include those that were asked for: that of the numbered
+/// release, and the batches from there to the release that was taken.
 #[derive(Drop)]
 pub struct Hit {
     pub number: u32,
@@ -173,9 +173,10 @@ impl Desk {
         &self.shape
     }
 
-    /// The current release. For a set it also looks for its cube, brings it to the front and counts
-    /// the look; what is found comes with the batches that are missing, in a list that takes
-    /// memory. After want of memory the desk is as before.
+    /// The current release. For a set it also looks for its cube, or else for the first over a set
+    /// that includes it, brings what it finds to the front and counts the look; what is found comes
+    /// with the batches that are missing, in a list that takes memory. After want of memory the
+    /// desk is as before.
     pub fn take(&mut self, vars: Option<&VarSet>) -> Result<Taken, Memory>
         ensures release { IfOk result (λ taken. arc_value taken.release ≡ current_of self.old) }
         ensures hit { IfOk result (λ taken. option_map hit_of taken.hit
@@ -202,9 +203,9 @@ impl Desk {
     // What is found for a set.
     fn hit(&self, vars: &VarSet) -> Result<Option<Hit>, Memory>
         ensures { IfOk result (λ hit. option_map hit_of hit
-            ≡ option_map (hit_at self.now vars.now) (found vars.now self.now.entries)) }
+            ≡ hit_for (Some vars.now) self.now) }
     {
-        let Some((number, cube)) = self.cache.find(vars) else {
+        let Some((_, number, cube)) = self.cache.find(vars) else {
             return Ok(None);
         };
         Ok(Some(Hit {
@@ -226,7 +227,8 @@ impl Desk {
     /// Offers a cube to be kept. It is kept where no cube of its set is there that is as new. A set
     /// that isn't there takes memory; after want of it the desk is as before.
     pub fn offer(&mut self, offer: Offer) -> Offered
-        requires { IsCubeAt self.old.shape self.old.base self.old.chain
+        requires few { length offer.vars ≤ VARIABLES_IN_PLACE }
+        requires cube { IsCubeAt self.old.shape self.old.base self.old.chain
             offer.vars offer.number (arc_value offer.cube) }
         ensures { IsOffered self.old offer.vars offer.number result self.new }
     {
@@ -291,7 +293,7 @@ impl Desk {
 
     /// The number of the release of the cube of exactly this set, if one is kept. The order stays.
     pub fn peek(&self, vars: &VarSet) -> Option<u32>
-        ensures { result ≡ found vars.now self.now.entries }
+        ensures { result ≡ number_for vars.now self.now.entries }
     {
         self.cache.peek(vars)
     }

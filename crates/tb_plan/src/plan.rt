@@ -1,6 +1,7 @@
 // A query over a schema, worked out once.
 
 ghost use Rattle.std.specs.Prelude.{◌≡◌, ℕ, ◌<◌, ◌≤◌, IfOk, true, length, map, slice_index};
+ghost use Rattle.tb_base.specs.declared.var_set.TheConstants.{VARIABLES_IN_PLACE};
 ghost use Rattle.tb_grid.specs.declared.products.TheConstants.{MOST_CELLS};
 ghost use Rattle.tb_grid.specs.Totals.{AreTotals, WereTotals};
 ghost use Rattle.tb_model.specs.Places.{places_of};
@@ -93,9 +94,11 @@ impl Plan {
         self.axes.totals()
     }
 
-    /// The variables under the dimensions and filters.
+    /// The variables under the dimensions and filters. They stand in place, since a schema has no
+    /// more.
     pub fn vars(&self) -> &VarSet
         ensures vars { result.now ≡ vars_of self.now }
+        ensures few { length result.now ≤ VARIABLES_IN_PLACE }
         ensures plan { IsPlan self.now }
     {
         let _ = &self.axes;

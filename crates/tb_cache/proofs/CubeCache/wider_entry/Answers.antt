@@ -1,0 +1,11 @@
+use Rattle.std.proofs.Common.{rules, ◌∙◌}
+use Rattle.std.proofs.lemmas.Iterator.Consumers.{YieldsList-from_rest}
+use Rattle.std.proofs.lemmas.Iterator.Search.{find_from_yields_List}
+use Rattle.tb_base.specs.Sets.{includes_all}
+use Rattle.tb_cache.proofs.LookLemmas.{find-entry}
+use Rattle.tb_cache.proofs.CubeCache.wider_entry.Goals as goal
+
+pub returns : goal.returns
+returns g c =
+    let es = c.self.inside.lru.entries in
+    rw (← c.self.view_is) (find_from_yields_List (λ e. includes_all e.0 c.args.vars.now) _ _ c.find.result c.find.ensures.ran (YieldsList-from_rest es c.iter.ensures.rest) (λ x b q k. search rules) ∙ find-entry (λ set. includes_all set c.args.vars.now) es)
