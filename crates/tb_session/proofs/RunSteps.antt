@@ -8,7 +8,7 @@ use Rattle.tb_core.specs.declared.events.Outcome.TheVariants.{Got, Memory}
 use Rattle.tb_core.specs.Callers.{Stage}
 use Rattle.tb_core.specs.Callers.Stage.{Idle, Took, Works}
 use Rattle.tb_core.specs.Desks.{release_at}
-use Rattle.tb_core.specs.Fitting.{can_follow, has_cube}
+use Rattle.tb_core.specs.Fitting.{can_ask, can_follow}
 use Rattle.tb_core.specs.Laws.{bare_after, bare_by, bare_goes_on, bare_published, bare_replied, BareState}
 use Rattle.tb_model.specs.Cubes.{cube_of}
 use Rattle.tb_release.specs.declared.edits.Edit.{Edit}
@@ -47,7 +47,7 @@ module _ (P : Event → BareState → Type 0) (b : BareState) (m : Moves P b) wh
   moved-take who (Some vars) refused (Some (Took n vs hit)) at = m.same _
   moved-take who (Some vars) refused (Some (Works n vs to_offer)) at = m.same _
   moved-take who (Some vars) refused (Some Idle) at =
-      elim (has_cube b.shape vars)
+      elim (can_ask b.shape vars)
       as (λ t. P (Take who (Some vars) refused) (if not t then b else if refused then bare_replied who Memory b else bare_goes_on who (Took (length b.chain) vars None) b)) [
         | false ↦ m.same _
         | true ↦ elim refused as (λ r. P (Take who (Some vars) r) (if r then bare_replied who Memory b else bare_goes_on who (Took (length b.chain) vars None) b)) [

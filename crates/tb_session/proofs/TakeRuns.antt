@@ -14,7 +14,7 @@ use Rattle.tb_core.specs.declared.events.Reply.{Reply}
 use Rattle.tb_core.specs.Callers.{Stage}
 use Rattle.tb_core.specs.Callers.Stage.{Idle, Took, Works}
 use Rattle.tb_core.specs.Desks.{release_at, IsRevised}
-use Rattle.tb_core.specs.Fitting.{has_cube}
+use Rattle.tb_core.specs.Fitting.{can_ask}
 use Rattle.tb_core.specs.Laws.{bare, bare_after, bare_by, bare_goes_on, bare_of, bare_replied, got, BareState}
 use Rattle.tb_core.specs.Runs.{after, run_of, start, RunState}
 use Rattle.tb_core.proofs.CountLemmas.{replies_are_counted}
@@ -171,7 +171,7 @@ take_of who vars = Take who (Some vars) false
 
 holds-idle : (who : ℕ) (vars : List ℕ) (b : BareState) → slice_get b.callers who ≡ Some Idle → HoldsOn who vars (take_of who vars) (bare_by b (take_of who vars) (Some Idle))
 holds-idle who vars b at =
-    elim (has_cube b.shape vars) as (λ t. HoldsOn who vars (take_of who vars) (if not t then b else bare_goes_on who (Took (length b.chain) vars None) b)) [
+    elim (can_ask b.shape vars) as (λ t. HoldsOn who vars (take_of who vars) (if not t then b else bare_goes_on who (Took (length b.chain) vars None) b)) [
       | false ↦ λ busy. absurd (busy at)
       | true ↦ λ busy. record { stage = Took (length b.chain) vars None; at = get-same b.callers who Idle (Took (length b.chain) vars None) at; took = refl }
     ]

@@ -32,7 +32,7 @@ use tb_release::Edits;
 use tb_text::Setup;
 
 // Lets the board keep so many cubes.
-fn resize<B: Named>(rt: &impl Wait, board: &Board<B>, capacity: u32) -> Reply
+fn resize<'a, B: Named>(rt: &impl Wait, board: &Board<B>, capacity: u32) -> Reply<'a>
     requires some { 0 < capacity }
     requires few { capacity ≤ MOST_ENTRIES }
     ensures { IsCapacityReply capacity (reply_text result) }
@@ -44,7 +44,7 @@ fn resize<B: Named>(rt: &impl Wait, board: &Board<B>, capacity: u32) -> Reply
 }
 
 // Makes the board forget its cubes.
-fn clear<B: Named>(rt: &impl Wait, board: &Board<B>) -> Reply
+fn clear<'a, B: Named>(rt: &impl Wait, board: &Board<B>) -> Reply<'a>
     ensures { reply_text result ≡ cleared_line }
 {
     board.clear(rt);
@@ -52,16 +52,16 @@ fn clear<B: Named>(rt: &impl Wait, board: &Board<B>) -> Reply
 }
 
 // The reply to an analyst's line.
-fn reply_to_analyst<B: Named, R: Threads + Wait + Sync, G: Gate, L: Ledger>(
+fn reply_to_analyst<'a, B: Named, R: Threads + Wait + Sync, G: Gate, L: Ledger>(
     rt: &R,
     alloc: Global,
-    setup: &Setup,
+    setup: &'a Setup,
     board: &Board<B>,
     pass: &mut Pass<Step>,
     line: &[u8],
     gate: &mut G,
     steps: &mut Steps<L>,
-) -> Reply
+) -> Reply<'a>
     requires few { length line.now ≤ MOST_LINE_BYTES }
     requires own { IsPassOf B.name (shape_of setup.now.schema) pass.old }
     ensures later { IsLater pass.old pass.new }
@@ -77,16 +77,16 @@ fn reply_to_analyst<B: Named, R: Threads + Wait + Sync, G: Gate, L: Ledger>(
 
 // The reply to the custodian's query. Its pass is lent to the turns of it, which can't tell it more
 // than its writer wrote.
-fn answer_own<B: Named, R: Threads + Wait + Sync, G: Gate, L: Ledger>(
+fn answer_own<'a, B: Named, R: Threads + Wait + Sync, G: Gate, L: Ledger>(
     rt: &R,
     alloc: Global,
-    setup: &Setup,
+    setup: &'a Setup,
     board: &Board<B>,
     custodian: &mut Custodian,
     line: &[u8],
     gate: &mut G,
     steps: &mut Steps<L>,
-) -> Reply
+) -> Reply<'a>
     requires few { length line.now ≤ MOST_LINE_BYTES }
     requires front { custodian.old.writer.name ≡ B.name }
     requires fits { custodian.old.writer.start.shape ≡ shape_of setup.now.schema }
@@ -101,17 +101,17 @@ fn answer_own<B: Named, R: Threads + Wait + Sync, G: Gate, L: Ledger>(
 }
 
 // The reply to the custodian's line.
-fn reply_to_custodian<B: Named, R: Threads + Wait + Sync, G: Gate, L: Ledger>(
+fn reply_to_custodian<'a, B: Named, R: Threads + Wait + Sync, G: Gate, L: Ledger>(
     rt: &R,
     alloc: Global,
-    setup: &Setup,
+    setup: &'a Setup,
     board: &Board<B>,
     custodian: &mut Custodian,
     held: &mut Edits,
     line: &[u8],
     gate: &mut G,
     steps: &mut Steps<L>,
-) -> Reply
+) -> Reply<'a>
     requires few { length line.now ≤ MOST_LINE_BYTES }
     requires own { IsCustodianOf B.name (shape_of setup.now.schema) custodian.old held.old }
     ensures own { IsCustodianOf B.name (shape_of setup.now.schema) custodian.new held.new }
@@ -132,16 +132,16 @@ fn reply_to_custodian<B: Named, R: Threads + Wait + Sync, G: Gate, L: Ledger>(
 }
 
 // The reply to a party's line.
-fn reply_to<B: Named, R: Threads + Wait + Sync, G: Gate, L: Ledger>(
+fn reply_to<'a, B: Named, R: Threads + Wait + Sync, G: Gate, L: Ledger>(
     rt: &R,
     alloc: Global,
-    setup: &Setup,
+    setup: &'a Setup,
     board: &Board<B>,
     party: &mut Party,
     line: &[u8],
     gate: &mut G,
     steps: &mut Steps<L>,
-) -> Reply
+) -> Reply<'a>
     requires few { length line.now ≤ MOST_LINE_BYTES }
     requires own { IsPartyOf B.name (shape_of setup.now.schema) party.old }
     ensures own { IsPartyOf B.name (shape_of setup.now.schema) party.new }
@@ -159,11 +159,12 @@ fn reply_to<B: Named, R: Threads + Wait + Sync, G: Gate, L: Ledger>(
     }
 }
 
-/// Writes the reply to one line of a party, in one write. An analyst's query is answered over the
-/// release of the turn in which it is taken; the custodian's over its own current release. It takes
-/// memory for a table, a cube, an edit that is held and the next release; where that is refused,
-/// the reply is `memory`. It waits for the board's lock, and holds none while a cube is built,
-/// advanced or printed.
+/// Writes the reply to one line of a party: a long table piece by piece, any other reply in one
+/// write. An analyst's query is answered over the release of the turn in which it is taken; the
+/// custodian's over its own current release. It takes memory for a table, a cube, an edit that is
+/// held and the next release, all before the first byte; where that is refused, the reply is
+/// `memory`. It waits for the board's lock, and holds none while a cube is built, advanced or
+/// printed.
 pub fn answer<B: Named, K: Sink, G: Gate, L: Ledger>(
     setup: &Setup,
     board: &Board<B>,

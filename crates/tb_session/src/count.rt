@@ -3,6 +3,7 @@
 ghost use Rattle.std.specs.Prelude.{◌≡◌, ◌≢◌, ◌+◌, ◌≤◌, IfOk, List, None, length};
 ghost use Rattle.std.specs.Arc.{arc_value};
 ghost use Rattle.tb_base.specs.Records.{AllFit};
+ghost use Rattle.tb_base.specs.declared.var_set.TheConstants.{VARIABLES_IN_PLACE};
 ghost use Rattle.tb_board.specs.Holders.{release_seen, IsChainSeen};
 ghost use Rattle.tb_core.specs.Desks.{HasCube};
 ghost use Rattle.tb_core.specs.Got.{cube_got};
@@ -37,7 +38,7 @@ use tb_query::Query;
 use tb_release::Release;
 use tb_rollup::roll_into;
 use tb_scan::{empty_cells, put_all, put_totals};
-use tb_text::{Setup, TableText};
+use tb_text::{PreparedTable, Setup};
 
 // The cells of a plan's table over a release, rolled up from the cube of the plan's variables.
 fn roll_up(alloc: Global, cube: &Cube, plan: &Plan, release: &Release) -> Result<Vec<Cell>, Memory>
@@ -93,13 +94,13 @@ fn cube_of<R: Threads + Sync, G: Gate, L: Ledger>(
         ≡ cube_over shape.now vars.now (release_in taken.now).records) }
 {
     if let Some(hit) = &taken.hit {
-        return lead_on(alloc, taken, hit, steps);
+        return lead_on(alloc, vars, taken, hit, steps);
     }
     let cube = build(rt, alloc, shape, &taken.release, vars, gate, steps)?;
     Ok(CubeFor::Made(Arc::new(alloc, cube)?))
 }
 
-// Offers a cube to the board. Where the memory for it is refused, it isn't kept.
+// Offers a cube to the board.
 fn offer<B: Named>(
     rt: &impl Wait,
     board: &Board<B>,
@@ -109,13 +110,13 @@ fn offer<B: Named>(
     cube: Arc<Cube>,
 )
     requires name { pass.old.name ≡ B.name }
+    requires few { length vars.now ≤ VARIABLES_IN_PLACE }
     requires cube { IsCubeAt pass.old.start.shape pass.old.start.base pass.old.list vars.now number
         (arc_value cube) }
     ensures { pass.new ≡ pass.old }
 {
-    if let Ok(vars) = vars.copy() {
-        board.offer(rt, pass, Offer { vars, number, cube });
-    }
+    let vars = vars.copy_in_place();
+    board.offer(rt, pass, Offer { vars, number, cube });
 }
 
 // The cells of a table, and the number of the release over which they were counted.
@@ -219,21 +220,22 @@ fn shape_in(setup: &Setup) -> &Shape
     setup.schema.shape()
 }
 
-/// A query's table over the release that the pass takes. It is rolled up from the cube
-/// of its variables: the one that the board keeps, advanced where it is of an earlier release, or a
-/// new one, for which the records are lent once; a cube that is made is offered to the board. Where
-/// a cube would have too many cells, the table is counted from the records, which are lent once. It
-/// takes memory for the plan, a cube that is made, the cells and the text.
-pub(crate) fn print_table<B: Named, R: Threads + Wait + Sync, G: Gate, L: Ledger>(
+/// A query's table over the release that the pass takes. It is rolled up from the cube of its
+/// variables: the one that the board keeps, narrowed where it has more variables and advanced where
+/// it is of an earlier release, or a new one, for which the records are lent once; a cube that is
+/// made is offered to the board. Where a cube would have too many cells, the table is counted from
+/// the records, which are lent once. It takes memory for the plan, a cube that is made, the cells,
+/// and all that the writing needs.
+pub(crate) fn print_table<'a, B: Named, R: Threads + Wait + Sync, G: Gate, L: Ledger>(
     rt: &R,
     alloc: Global,
-    setup: &Setup,
+    setup: &'a Setup,
     board: &Board<B>,
     pass: &mut Pass<Step>,
     query: &Query,
     gate: &mut G,
     steps: &mut Steps<L>,
-) -> Result<TableText, Memory>
+) -> Result<PreparedTable<'a>, Memory>
     requires over { IsOver setup.now.schema query.now }
     requires own { IsPassOf B.name (shape_of setup.now.schema) pass.old }
     ensures later { IsLater pass.old pass.new }
@@ -246,5 +248,5 @@ pub(crate) fn print_table<B: Named, R: Threads + Wait + Sync, G: Gate, L: Ledger
     let plan = plan_for(alloc, setup, query)?;
     let shape = shape_in(setup);
     let counted = count(rt, alloc, board, shape, &plan, pass, gate, steps)?;
-    TableText::of(alloc, setup, query, counted.number, &counted.cells)
+    PreparedTable::of(alloc, setup, query, counted.number, counted.cells)
 }

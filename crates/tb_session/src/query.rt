@@ -35,16 +35,16 @@ fn read(alloc: Global, setup: &Setup, line: &[u8]) -> Result<Query, QueryFault>
 
 /// The table of a query's line over the release that the pass takes, the line's first fault, or
 /// that the memory was refused.
-pub(crate) fn answer_query<B: Named, R: Threads + Wait + Sync, G: Gate, L: Ledger>(
+pub(crate) fn answer_query<'a, B: Named, R: Threads + Wait + Sync, G: Gate, L: Ledger>(
     rt: &R,
     alloc: Global,
-    setup: &Setup,
+    setup: &'a Setup,
     board: &Board<B>,
     pass: &mut Pass<Step>,
     line: &[u8],
     gate: &mut G,
     steps: &mut Steps<L>,
-) -> Reply
+) -> Reply<'a>
     requires few { length line.now ≤ MOST_LINE_BYTES }
     requires own { IsPassOf B.name (shape_of setup.now.schema) pass.old }
     ensures later { IsLater pass.old pass.new }

@@ -10,15 +10,15 @@ use tb_base::print_number;
 use tb_core::Stats;
 use tb_io::{Sink, Wrote, write_all};
 use tb_rows::FaultName;
-use tb_text::TableText;
+use tb_text::PreparedTable;
 
 /// The reply to a line.
 #[derive(Drop)]
-pub(crate) enum Reply {
+pub(crate) enum Reply<'a> {
     /// There is none.
     Nothing,
     /// A query's table.
-    Table(TableText),
+    Table(PreparedTable<'a>),
     /// A query is refused by its first fault, at a position where it has one.
     Refused(FaultName, Option<u32>),
     /// So many edits are held, with this one.
@@ -130,23 +130,24 @@ fn write_stats<O: Sink>(out: &mut O, stats: &Stats) -> Wrote
     )
 }
 
-impl Reply {
-    /// Writes the reply's text, in one write. It takes no memory.
-    pub(crate) fn write<O: Sink>(&self, out: &mut O) -> Wrote
+impl<'a> Reply<'a> {
+    /// Writes the reply's text: a long table piece by piece, any other in one write. It takes no
+    /// memory.
+    pub(crate) fn write<O: Sink>(self, out: &mut O) -> Wrote
         ensures { IsWritten result (O.faults out.old) (O.faults out.new) (O.taken out.old)
-            (O.taken out.new) (reply_text self.now) }
+            (O.taken out.new) (reply_text self.entry) }
     {
         match self {
             Reply::Nothing => Wrote::All,
             Reply::Table(text) => text.write(out),
-            Reply::Refused(fault, position) => write_refusal(out, fault, *position),
-            Reply::Held(count) => write_number(out, b"held ", *count),
-            Reply::EditRefused(fault) => write_fault(out, b"refused edit ", fault),
-            Reply::Published(number) => write_number(out, b"published ", *number),
-            Reply::BatchRefused(edit, fault) => write_batch_refusal(out, *edit, fault),
-            Reply::Stats(stats) => write_stats(out, stats),
+            Reply::Refused(fault, position) => write_refusal(out, &fault, position),
+            Reply::Held(count) => write_number(out, b"held ", count),
+            Reply::EditRefused(fault) => write_fault(out, b"refused edit ", &fault),
+            Reply::Published(number) => write_number(out, b"published ", number),
+            Reply::BatchRefused(edit, fault) => write_batch_refusal(out, edit, &fault),
+            Reply::Stats(stats) => write_stats(out, &stats),
             Reply::Cleared => out.write(b"cleared\n"),
-            Reply::Capacity(capacity) => write_number(out, b"cache ", *capacity),
+            Reply::Capacity(capacity) => write_number(out, b"cache ", capacity),
             Reply::Memory => out.write(b"memory\n"),
         }
     }

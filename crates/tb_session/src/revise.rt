@@ -18,7 +18,7 @@ use tb_text::Setup;
 
 /// Holds the edit of a line as the last, unless it is refused: by the line's first fault, or since
 /// no more can be held. Where the memory is refused, the edits that are held stay as they are.
-pub(crate) fn hold(alloc: Global, setup: &Setup, held: &mut Edits, line: &[u8]) -> Reply
+pub(crate) fn hold<'a>(alloc: Global, setup: &Setup, held: &mut Edits, line: &[u8]) -> Reply<'a>
     requires few { length line.now ≤ MOST_LINE_BYTES }
     requires fit { All (EditFits (shape_of setup.now.schema)) held.old }
     ensures reply { IsEditReply setup.now line.now held.old (reply_text result)
@@ -43,13 +43,13 @@ pub(crate) fn hold(alloc: Global, setup: &Setup, held: &mut Edits, line: &[u8]) 
 
 /// Publishes the held edits. Where they are published, or refused, none is held any more; where the
 /// memory is refused, all stays as it is.
-pub(crate) fn publish<B: Named>(
+pub(crate) fn publish<'a, B: Named>(
     rt: &impl Wait,
     alloc: Global,
     board: &Board<B>,
     custodian: &mut Custodian,
     held: &mut Edits,
-) -> Reply
+) -> Reply<'a>
     requires own { IsCustodianOf B.name custodian.old.writer.start.shape custodian.old held.old }
     ensures own { IsCustodianOf B.name custodian.old.writer.start.shape custodian.new held.new }
     ensures leads { PublishLeads custodian.old held.old (reply_text result) custodian.new

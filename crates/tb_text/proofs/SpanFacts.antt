@@ -1,7 +1,8 @@
 -- Spans stay inside a text that grows, and their parts stay the same.
-use Rattle.std.proofs.Common.{◌≡◌, ℕ, suc, ◌-◌, ◌≤◌, List, [], ◌∷◌, ◌++◌, length, map, drop, get_or, refl, ap, sym, ◌∙◌, arith, length-append}
+use Rattle.std.proofs.Common.{◌≡◌, ℕ, suc, ◌+◌, ◌-◌, ◌≤◌, ◌<◌, inl, inr, List, [], ◌∷◌, ◌++◌, length, map, drop, get_or, refl, ap, sym, ◌∙◌, arith, length-append}
 use Rattle.std.specs.Prelude.{All}
-use Rattle.std.proofs.lemmas.List.{map-append, take-append-le, drop-append-le, length-drop, drop_at, take_all}
+use Rattle.std.proofs.lemmas.Bool.{cases_lt}
+use Rattle.std.proofs.lemmas.List.{get_or_default, map-append, take-append-le, drop-append-le, length-drop, drop_at, take_all}
 use Rattle.std.proofs.lemmas.List.Elements.{All-push}
 use Rattle.tb_text.specs.declared.spans.Span.{Span}
 use Rattle.tb_text.specs.Spans.{part_at, IsInside, AreParts}
@@ -44,3 +45,14 @@ pub parts_and_one : (text new part : List ℕ) (spans after : List Span) (span :
     → new ≡ text ++ part → span.start ≡ length text → span.end ≡ length new → after ≡ spans ++ span ∷ [] → AreParts new after (parts ++ part ∷ [])
 parts_and_one text new part spans after span parts so_far grown starts ends pushed =
     rw (grown, pushed) (one_more text part spans span parts so_far starts (ends ∙ ap length grown))
+
+-- the longest of one more
+pub most_more : (xs : List (List ℕ)) (i most next len : ℕ) → i < length xs → ((k : ℕ) (d : List ℕ) → k < i → length (get_or xs k d) ≤ most) → len ≡ length (get_or xs i []) → most ≤ next → len ≤ next
+    → (k : ℕ) (d : List ℕ) → k < i + 1 → length (get_or xs k d) ≤ next
+most_more xs i most next len below h long first second k d lt = elim (cases_lt k i) [
+  | inl before ↦ omega (arith, h k d before, first)
+  | inr past ↦
+      let same : k ≡ i = omega (arith, lt, past) in
+      let there : length (get_or xs k d) ≡ len = ap (λ j. length (get_or xs j d)) same ∙ ap length (get_or_default xs i d [] below) ∙ sym long in
+      omega (arith, there, second)
+]

@@ -1,9 +1,10 @@
 // The text of a table.
 
 ghost use Rattle.std.specs.Prelude.{◌≡◌, ◌≤◌, ◌++◌, ◌∷◌, codes, decimal, map};
-ghost use Rattle.std.specs.Prelude.{◌<◌, length, drop, All, IfOk, IfSome, OnOk};
+ghost use Rattle.std.specs.Prelude.{◌<◌, length, drop, All, IfOk, IfSome, OnErr, OnOk};
 ghost use Rattle.std.specs.List.{concat};
 ghost use Rattle.tb_base.specs.declared.people.TheConstants.{MOST_PERSONS};
+ghost use Rattle.tb_io.specs.Taken.{IsWritten};
 ghost use Rattle.tb_model.specs.Perturbations.{pvalue_at};
 ghost use Rattle.tb_model.specs.Schemas.{name_text};
 ghost use Rattle.tb_model.specs.Texts.{heading, line_text, text_of_cells};
@@ -11,32 +12,19 @@ ghost use Rattle.tb_schema.specs.Names.{IsName};
 ghost use Rattle.tb_text.specs.Lines.{before_another};
 
 use crate::bytes::Bytes;
-use crate::fields::{EntryFields, add_plain, all_fields};
-use crate::lines::add_lines;
+use crate::fields::add_plain;
+use crate::prepared::{BUFFER, Prepared};
 use crate::setup::Setup;
 use crate::writing::{begin_record, bytes_from, write_one, writer_after, written_len};
 use std::alloc::Global;
 use tb_base::{Cell, Memory, print_number};
+use tb_io::{Sink, Wrote};
 use tb_query::Query;
 use tb_schema::Schema;
 
-// A shown count of at most 1,001,000 and its line feed.
-const MOST_DIGITS: usize = 8;
-
-// The lines before the first place, roughly.
-const HEAD: usize = 256;
-
-// How many bytes the text has at most, but for long names: an entry stands in one line of so many.
-fn room_for(fields: &[EntryFields], places: usize) -> usize {
-    let mut room = places.saturating_mul(MOST_DIGITS).saturating_add(HEAD);
-    for dimension in fields {
-        if dimension.len() > 0 {
-            let lines = places / dimension.len();
-            room = room.saturating_add(dimension.bytes().saturating_mul(lines));
-        }
-    }
-    room
-}
+// The lines before the first place, at most: eight names of 32 bytes, with commas, and two words
+// and a number.
+const HEAD: usize = 320;
 
 // Adds the first line, with the number of the release.
 fn add_release(text: &mut Bytes, number: u32) -> Result<(), Memory>
@@ -116,6 +104,25 @@ fn add_heading(
     text.push_slice(b"count\n")
 }
 
+/// The lines before the first place, in a text with room for so many bytes more. It takes memory.
+pub(crate) fn head_with_room(
+    alloc: Global,
+    schema: &Schema,
+    query: &Query,
+    number: u32,
+    room: usize,
+) -> Result<Bytes, Memory>
+    requires { All (IsName schema.now) query.now.dimensions }
+    ensures { IfOk result (λ head. head
+        ≡ line_text (codes "release " ++ decimal number) ++ heading schema.now query.now) }
+{
+    let mut head = Bytes::with_room(alloc, room.saturating_add(HEAD))?;
+    add_release(&mut head, number)?;
+    add_heading(alloc, &mut head, schema, query)?;
+    head.reserve(room)?;
+    Ok(head)
+}
+
 /// The text of a query's table at the release of this number, where these are its cells: one for
 /// each of its places in row-major order, each of at most `MOST_PERSONS` persons. It takes memory
 /// for the text, and for the fields of each dimension.
@@ -132,12 +139,31 @@ pub fn table_text(
         ≡ text_of_cells setup.now.schema (pvalue_at setup.now.lines) setup.now.threshold
         query.now number cells.now) }
 {
-    let fields = all_fields(alloc, &setup.schema, query)?;
-    let mut text = Bytes::with_room(alloc, room_for(&fields, cells.len()))?;
-    add_release(&mut text, number)?;
-    add_heading(alloc, &mut text, &setup.schema, query)?;
-    let mut first = Bytes::with_room(alloc, HEAD)?;
-    add_lines(&mut text, setup, &mut first, &fields, cells, 0)?;
-    text.push_slice(b".\n")?;
-    Ok(text.into_vec())
+    let prepared = Prepared::of(alloc, setup, query, number, cells.len(), usize::MAX)?;
+    let text = prepared.text(alloc, cells)?;
+    Ok(text)
+}
+
+/// Writes the text of a query's table, as `table_text` says it, to a sink: in one write where it
+/// is short, else piece by piece. All memory is taken before the first byte: where that is refused,
+/// nothing is written. A write that fails ends the writing.
+pub fn write_table<K: Sink>(
+    alloc: Global,
+    setup: &Setup,
+    query: &Query,
+    number: u32,
+    cells: &[Cell],
+    sink: &mut K,
+) -> Result<Wrote, Memory>
+    requires names { All (IsName setup.now.schema) query.now.dimensions }
+    requires few { All (λ cell. cell.count ≤ MOST_PERSONS) cells.now }
+    ensures written { IfOk result (λ wrote. IsWritten wrote (K.faults sink.old)
+        (K.faults sink.new) (K.taken sink.old) (K.taken sink.new)
+        (text_of_cells setup.now.schema (pvalue_at setup.now.lines) setup.now.threshold
+        query.now number cells.now)) }
+    ensures err { OnErr result (sink.new ≡ sink.old) }
+{
+    let prepared = Prepared::of(alloc, setup, query, number, cells.len(), BUFFER)?;
+    let wrote = prepared.write(cells, sink);
+    Ok(wrote)
 }

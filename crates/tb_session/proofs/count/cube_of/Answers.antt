@@ -15,4 +15,7 @@ returns-in-Some-clause-price g c =
 
 pub returns-in-Some-clause-cube : goal.returns-in-Some-clause-cube
 returns-in-Some-clause-cube g c =
-    let t = c.requires.taken in c.lead_on.ensures.cube c.args.shape.now c.args.vars.now t.0 t.1 t.2
+    let t = c.requires.taken in c.lead_on.ensures.cube c.args.shape.now t.0 t.1 t.2
+
+pub lead_on-requires-clause-taken : goal.lead_on-requires-clause-taken
+lead_on-requires-clause-taken g c = let t = c.requires.taken in (c.args.shape.now, t.0, t.1, c.requires.has, t.2)

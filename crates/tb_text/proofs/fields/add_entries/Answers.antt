@@ -1,6 +1,5 @@
 use Rattle.std.proofs.Common.{◌≡◌, false, true, rules}
 use Rattle.std.specs.Prelude.{codes}
-use Rattle.tb_model.specs.declared.names.Entry.TheVariants as entry
 use Rattle.tb_text.specs.Lines.{before_another}
 use Rattle.tb_text.specs.Spans.{AreParts}
 use Rattle.tb_text.proofs.Dimensions.{category_fields_of, without_total, with_total}

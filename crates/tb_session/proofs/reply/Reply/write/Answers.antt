@@ -1,0 +1,10 @@
+use Rattle.std.proofs.Common.{ap, sym}
+use Rattle.tb_io.proofs.Written.{written_as}
+use Rattle.tb_session.specs.ReplyTexts.{reply_text}
+use Rattle.tb_session.proofs.reply.Reply.write.Goals as goal
+
+pub returns-in-BatchRefused : goal.returns-in-BatchRefused
+returns-in-BatchRefused g c = written_as c.write_batch_refusal.result _ _ _ _ _ _ (ap reply_text (sym c.in-BatchRefused.is)) c.write_batch_refusal.ensures.written
+
+pub returns-in-Stats : goal.returns-in-Stats
+returns-in-Stats g c = written_as c.write_stats.result _ _ _ _ _ _ (ap reply_text (sym c.in-Stats.is)) c.write_stats.ensures.written

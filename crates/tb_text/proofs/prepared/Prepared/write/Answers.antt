@@ -1,0 +1,27 @@
+use Rattle.std.proofs.Common.{◌++◌, ◌∙◌, ℕ, List, [], ap}
+use Rattle.std.specs.Prelude.{codes}
+use Rattle.tb_io.proofs.Written.{written_as}
+use Rattle.tb_model.specs.Perturbations.{pvalue_at}
+use Rattle.tb_model.specs.Texts.{line_text}
+use Rattle.tb_text.specs.Lines.{end_of, lines_under}
+use Rattle.tb_text.specs.PreparedTables.{PreparedValue, prepared_text}
+use Rattle.tb_text.proofs.Passes.{last_write, cut_write}
+use Rattle.tb_text.proofs.prepared.Prepared.write.Goals as goal
+
+pub returns-in-Ok : goal.returns-in-Ok
+returns-in-Ok g c =
+    let inside = c.self.inside in
+    let end = end_of (pvalue_at inside.setup.now.lines) inside.setup.now.threshold in
+    written_as c.finish.result _ _ _ _ _ _
+    (ap (λ (fs : List (List (List ℕ))). (inside.waiting ++ lines_under end [] fs c.args.cells.now) ++ line_text (codes ".")) c.deref.ensures.value
+    ∙ ap (λ (p : PreparedValue). prepared_text p c.args.cells.now) c.self.view_is)
+    (last_write _ _ _ _ _ _ _ _ _ _ c.in-Ok.ensures.on c.finish.ensures.written)
+
+pub returns : goal.returns
+returns g c =
+    let inside = c.self.inside in
+    let end = end_of (pvalue_at inside.setup.now.lines) inside.setup.now.threshold in
+    written_as _ _ _ _ _ _ _
+    (ap (λ (fs : List (List (List ℕ))). (inside.waiting ++ lines_under end [] fs c.args.cells.now) ++ line_text (codes ".")) c.deref.ensures.value
+    ∙ ap (λ (p : PreparedValue). prepared_text p c.args.cells.now) c.self.view_is)
+    (cut_write _ _ _ _ _ _ c.in-Err.ensures.cut)

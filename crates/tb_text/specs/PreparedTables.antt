@@ -1,0 +1,20 @@
+-- What is made of a table before it is written.
+use Rattle.std.specs.Prelude.{ℕ, List, [], ◌++◌, codes}
+use Rattle.tb_base.specs.declared.cells.Cell.{Cell}
+use Rattle.tb_model.specs.Perturbations.{pvalue_at}
+use Rattle.tb_model.specs.Setups.{SetupValue}
+use Rattle.tb_model.specs.Texts.{line_text}
+use Rattle.tb_text.specs.Lines.{end_of, lines_under}
+
+-- the lines before the first place, and the fields of each dimension, over a setup
+pub record PreparedValue : Type 0 where
+  pub setup : SetupValue
+  pub head : List ℕ
+  pub fields : List (List (List ℕ))
+
+-- the text of a table with these cells
+abbrev pub prepared_text : PreparedValue → List Cell → List ℕ
+prepared_text p cells =
+    (p.head
+    ++ lines_under (end_of (pvalue_at p.setup.lines) p.setup.threshold) [] p.fields cells)
+    ++ line_text (codes ".")
