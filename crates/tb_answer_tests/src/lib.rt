@@ -1,5 +1,5 @@
 //! Tests of lines that are answered over a board: the worked scripts, a cube that is built while
-//! another caller is answered, and a sink that fails.
+//! another caller is answered, a cube of more variables, and a sink that fails.
 #![tactic(auto)]
 
 #[cfg(test)]
@@ -12,3 +12,5 @@ mod making;
 mod scripts;
 #[cfg(test)]
 mod sinks;
+#[cfg(test)]
+mod wider;

@@ -1,4 +1,4 @@
-// A run of events with ample memory, worked by hand.
+// Runs of events with ample memory, worked by hand.
 
 use std::alloc::Global;
 use std::test::Fail;
@@ -7,9 +7,11 @@ use tb_core::{Cells, Event, Offered, Offers, Outcome, Ran, Replies, Reply, run};
 use tb_release::{Edit, Edits};
 use tb_small_values::{release, schema};
 
-// A caller takes the cube over AREA, or the custodian drops a person.
+// A caller takes the cube over AREA, over SEX or over both, or the custodian drops a person.
 enum Deed {
     Take,
+    TakeSex,
+    TakeBoth,
     Work,
     Offer,
     Answer,
@@ -40,6 +42,36 @@ fn deeds() -> &'static [(Deed, u32)] {
     &DEEDS
 }
 
+// The cube over SEX and AREA is kept. 104 leaves, and AREA is asked for: that cube is narrowed, and
+// is one batch behind. 103 and 102 leave, and SEX is asked for: that cube is narrowed once more,
+// and is three batches behind. Each is kept over its own variables, so the other caller finds the
+// last as it is, and has nothing to offer.
+static WIDE_DEEDS: [(Deed, u32); 19] = [
+    (Deed::TakeBoth, 0),
+    (Deed::Work, 0),
+    (Deed::Offer, 0),
+    (Deed::Answer, 0),
+    (Deed::Drop, 104),
+    (Deed::Take, 1),
+    (Deed::Work, 1),
+    (Deed::Offer, 1),
+    (Deed::Answer, 1),
+    (Deed::Drop, 103),
+    (Deed::Drop, 102),
+    (Deed::TakeSex, 0),
+    (Deed::Work, 0),
+    (Deed::Offer, 0),
+    (Deed::Answer, 0),
+    (Deed::TakeSex, 1),
+    (Deed::Work, 1),
+    (Deed::Offer, 1),
+    (Deed::Answer, 1),
+];
+
+fn wide_deeds() -> &'static [(Deed, u32)] {
+    &WIDE_DEEDS
+}
+
 // A caller, the number of its release, and its cells: 200 + 100 = 300, and 300 - 256 = 44.
 type Want = (u32, u32, &'static [(u32, u8)]);
 
@@ -51,6 +83,17 @@ static REPLIES: [Want; 3] = [
 
 fn wanted() -> &'static [Want] {
     &REPLIES
+}
+
+static WIDE_REPLIES: [Want; 4] = [
+    (0, 0, &[(2, 44), (1, 20), (0, 0), (1, 7)]),
+    (1, 1, &[(2, 44), (1, 20)]),
+    (0, 3, &[(1, 200), (0, 0)]),
+    (1, 3, &[(1, 200), (0, 0)]),
+];
+
+fn wanted_widely() -> &'static [Want] {
+    &WIDE_REPLIES
 }
 
 fn are_cells(cells: &Cells, want: &[(u32, u8)]) -> bool {
@@ -96,13 +139,19 @@ fn are_offers(offers: &Offers) -> bool {
         && *offers.at(2) == Offered::Kept
 }
 
-fn take_of(alloc: Global, who: u32) -> Result<Event, Memory> {
-    let vars = VarSet::of(alloc, &[2])?;
-    Ok(Event::Take {
+fn are_all_kept(offers: &Offers) -> bool {
+    offers.len() == 3
+        && *offers.at(0) == Offered::Kept
+        && *offers.at(1) == Offered::Kept
+        && *offers.at(2) == Offered::Kept
+}
+
+fn take_of(who: u32, vars: VarSet) -> Event {
+    Event::Take {
         who,
         vars: Some(vars),
         refused: false,
-    })
+    }
 }
 
 fn publish_of(alloc: Global, person: u32) -> Result<Event, Memory> {
@@ -118,7 +167,9 @@ fn publish_of(alloc: Global, person: u32) -> Result<Event, Memory> {
 
 fn event_of(alloc: Global, deed: &Deed, who: u32) -> Result<Event, Memory> {
     match deed {
-        Deed::Take => take_of(alloc, who),
+        Deed::Take => Ok(take_of(who, VarSet::of(alloc, &[2])?)),
+        Deed::TakeSex => Ok(take_of(who, VarSet::of(alloc, &[0])?)),
+        Deed::TakeBoth => Ok(take_of(who, VarSet::of(alloc, &[0, 2])?)),
         Deed::Work => Ok(Event::Work {
             who,
             refused: false,
@@ -152,8 +203,20 @@ fn is_right(alloc: Global) -> Result<bool, Memory> {
     Ok(are_wanted(&ran.replies, wanted()) && are_offers(&ran.offers))
 }
 
+fn is_right_widely(alloc: Global) -> Result<bool, Memory> {
+    let events = events_of(alloc, wide_deeds())?;
+    let ran = ran_of(alloc, &events)?;
+    Ok(are_wanted(&ran.replies, wanted_widely()) && are_all_kept(&ran.offers))
+}
+
 #[test]
 fn late_cube(rt: HostRuntime) -> Result<(), Fail> {
     assert!(rt; is_right(rt.alloc())?);
+    Ok(())
+}
+
+#[test]
+fn wider_cube(rt: HostRuntime) -> Result<(), Fail> {
+    assert!(rt; is_right_widely(rt.alloc())?);
     Ok(())
 }

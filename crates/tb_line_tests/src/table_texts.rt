@@ -2,15 +2,19 @@
 
 ghost use Rattle.std.specs.Prelude.{◌≤◌, All, IfOk};
 ghost use Rattle.tb_base.specs.declared.people.TheConstants.{MOST_PERSONS};
+ghost use Rattle.tb_schema.specs.Names.{IsName};
 
+use crate::counting::CountingSink;
 use crate::making::schema_of;
 use std::alloc::Global;
 use std::test::Fail;
 use tb_base::{Cell, MOST_PERSONS, Memory};
+use tb_io::{MemSink, Wrote};
 use tb_ptable::PTable;
-use tb_query::{MOST_QUERY_BYTES, read_query};
+use tb_query::{MOST_QUERY_BYTES, Query, read_query};
+use tb_schema::Schema;
 use tb_small::{CLASSES, PTABLE, RECODES};
-use tb_text::{Setup, table_text};
+use tb_text::{Setup, table_text, write_table};
 
 struct Row {
     name: &'static str,
@@ -140,24 +144,78 @@ fn setup_of(alloc: Global, row: &Row) -> Result<Setup, Memory> {
     })
 }
 
+// The query of a line. One that isn't read fails the test: it is told as want of memory.
+fn query_of(alloc: Global, schema: &Schema, line: &[u8]) -> Result<Query, Memory>
+    ensures { IfOk result (λ query. All (IsName schema.now) query.dimensions) }
+{
+    if line.len() > MOST_QUERY_BYTES {
+        return Err(Memory);
+    }
+    match read_query(alloc, schema, line) {
+        Ok(query) => Ok(query),
+        Err(_) => Err(Memory),
+    }
+}
+
 // Whether a row's query prints the row's text.
 fn prints(alloc: Global, setup: &Setup, row: &Row, cells: &[Cell]) -> Result<bool, Memory>
     requires { All (λ cell. cell.count ≤ MOST_PERSONS) cells.now }
 {
-    if row.query.len() > MOST_QUERY_BYTES {
-        return Ok(false);
-    }
-    let Ok(query) = read_query(alloc, &setup.schema, row.query) else {
-        return Ok(false);
-    };
+    let query = query_of(alloc, &setup.schema, row.query)?;
     let text = table_text(alloc, setup, &query, row.number, cells)?;
     Ok(text.as_slice() == row.text)
+}
+
+// Whether a row's text is written in one write, by a sink that has room for it.
+fn writes(alloc: Global, setup: &Setup, row: &Row, cells: &[Cell]) -> Result<bool, Memory>
+    requires { All (λ cell. cell.count ≤ MOST_PERSONS) cells.now }
+{
+    let query = query_of(alloc, &setup.schema, row.query)?;
+    let mut sink = CountingSink::new(alloc, row.text.len())?;
+    let wrote = write_table(alloc, setup, &query, row.number, cells, &mut sink)?;
+    Ok(wrote == Wrote::All && sink.taken() == row.text && sink.writes() == 1)
+}
+
+// Whether a sink of so many bytes takes the first ones of a row's text, and then fails.
+fn is_cut(
+    alloc: Global,
+    setup: &Setup,
+    query: &Query,
+    row: &Row,
+    cells: &[Cell],
+    bound: usize,
+) -> Result<bool, Memory>
+    requires names { All (IsName setup.now.schema) query.now.dimensions }
+    requires few { All (λ cell. cell.count ≤ MOST_PERSONS) cells.now }
+{
+    let mut sink = MemSink::new(alloc, bound)?;
+    let wrote = write_table(alloc, setup, query, row.number, cells, &mut sink)?;
+    let fits = row.text.len().min(bound);
+    let all = wrote == Wrote::All;
+    Ok(all == (fits == row.text.len()) && sink.taken() == &row.text[..fits])
+}
+
+// Whether that is so for each number of bytes below 200.
+fn is_cut_anywhere(alloc: Global, setup: &Setup, row: &Row, cells: &[Cell]) -> Result<bool, Memory>
+    requires { All (λ cell. cell.count ≤ MOST_PERSONS) cells.now }
+{
+    let query = query_of(alloc, &setup.schema, row.query)?;
+    for bound in 0..200 {
+        if !is_cut(alloc, setup, &query, row, cells, bound)? {
+            return Ok(false);
+        }
+    }
+    Ok(true)
 }
 
 fn is_so(alloc: Global, row: &Row) -> Result<bool, Memory> {
     let setup = setup_of(alloc, row)?;
     let cells = few_cells(alloc, row.cells)?;
-    prints(alloc, &setup, row, &cells)
+    Ok(
+        prints(alloc, &setup, row, &cells)?
+            && writes(alloc, &setup, row, &cells)?
+            && is_cut_anywhere(alloc, &setup, row, &cells)?,
+    )
 }
 
 #[test]
@@ -165,5 +223,69 @@ fn worked_tables(rt: HostRuntime) -> Result<(), Fail> {
     for row in rows() {
         assert!(&rt; is_so(rt.alloc(), row)?, "{}", row.name);
     }
+    Ok(())
+}
+
+const DIGITS: &[u8] = b"0123456789";
+
+// Adds the lines of a variable of a hundred categories.
+fn add_hundred(classes: &mut Vec<u8>, name: &[u8]) -> Result<(), Memory> {
+    for ten in DIGITS {
+        for one in DIGITS {
+            classes.extend_from_slice(name)?;
+            classes.push(*ten)?;
+            classes.push(*one)?;
+            classes.extend_from_slice(b",\n")?;
+        }
+    }
+    Ok(())
+}
+
+// The setup of two variables of a hundred categories each.
+fn large_setup(alloc: Global) -> Result<Setup, Memory> {
+    let mut classes = Vec::from_slice(alloc, b"variable,code,label\n")?;
+    add_hundred(&mut classes, b"A,")?;
+    add_hundred(&mut classes, b"B,")?;
+    let schema = schema_of(alloc, &classes, None)?;
+    let Ok(ptable) = PTable::read(alloc, PTABLE) else {
+        return Err(Memory);
+    };
+    Ok(Setup {
+        schema,
+        ptable,
+        threshold: 0,
+    })
+}
+
+// Counts of so many cells.
+fn many_counts(alloc: Global, cells: u32) -> Result<Vec<(u32, u8)>, Memory> {
+    let mut counts = Vec::new(alloc);
+    for count in 0..cells {
+        counts.push((count, 0))?;
+    }
+    Ok(counts)
+}
+
+// Whether the text of a table of 10,000 places, which is longer than the buffer, is written in
+// several writes of at most 64 KiB.
+fn is_in_pieces(alloc: Global, setup: &Setup, cells: &[Cell]) -> Result<bool, Memory>
+    requires { All (λ cell. cell.count ≤ MOST_PERSONS) cells.now }
+{
+    let query = query_of(alloc, &setup.schema, b"table A by B")?;
+    let text = table_text(alloc, setup, &query, 0, cells)?;
+    let mut sink = CountingSink::new(alloc, text.len())?;
+    let wrote = write_table(alloc, setup, &query, 0, cells, &mut sink)?;
+    let same = sink.taken() == text.as_slice();
+    let long = text.len() > 65_536;
+    let several = sink.writes() > 1 && sink.longest() <= 65_536;
+    Ok(wrote == Wrote::All && same && long && several)
+}
+
+#[test]
+fn long_table(rt: HostRuntime) -> Result<(), Fail> {
+    let setup = large_setup(rt.alloc())?;
+    let counts = many_counts(rt.alloc(), 10_000)?;
+    let cells = few_cells(rt.alloc(), &counts)?;
+    assert!(&rt; is_in_pieces(rt.alloc(), &setup, &cells)?);
     Ok(())
 }

@@ -10,7 +10,7 @@ struct Script {
     replies: &'static [u8],
 }
 
-static SCRIPTS: [Script; 14] = [
+static SCRIPTS: [Script; 17] = [
     Script {
         name: "totals_are_cells_of_their_own",
         lines: b"a table SEX with totals\n",
@@ -112,6 +112,38 @@ static SCRIPTS: [Script; 14] = [
         replies: b"cache 256\ncache 1\nrefused 2 Syntax 1\nrefused 2 Syntax 1\n\
             refused 2 Syntax 1\nrefused 2 Syntax 1\nrefused 2 Syntax 1\n\
             stats release 0 looks 0 hits 0 entries 0 capacity 1\n",
+    },
+    // SEX comes from the cube over AGE and SEX, and is kept beside it.
+    Script {
+        name: "a_wider_cube",
+        lines: b"a table AGE by SEX\na table SEX\ncustodian stats\n",
+        replies: b"release 0\nAGE,SEX,count\n0-15,1,1\n0-15,2,0\n16-64,1,1\n16-64,2,2\n\
+            65+,1,1\n65+,2,0\n.\nrelease 0\nSEX,count\n1,1\n2,2\n.\n\
+            stats release 0 looks 2 hits 1 entries 2 capacity 64\n",
+    },
+    // The cube over AREA and SEX is one release behind where SEX is made of it, and three where AREA
+    // is: at release 3 E1 has the keys 100 and 7, and E2 the key 20.
+    Script {
+        name: "wider_cubes_that_are_behind",
+        lines: b"a table AREA by SEX\ncustodian drop 104\ncustodian publish\na table SEX\n\
+            custodian add 104 7 SEX=2 AGE=65+ AREA=E1\ncustodian publish\ncustodian drop 101\n\
+            custodian publish\na table AREA\ncustodian stats\n",
+        replies: b"release 0\nAREA,SEX,count\nE1,1,2\nE1,2,0\nE2,1,1\nE2,2,2\n.\nheld 1\n\
+            published 1\nrelease 1\nSEX,count\n1,1\n2,0\n.\nheld 1\npublished 2\nheld 1\n\
+            published 3\nrelease 3\nAREA,count\nE1,2\nE2,1\n.\n\
+            stats release 3 looks 3 hits 2 entries 3 capacity 64\n",
+    },
+    // Of two wider cubes the more recent one is found for SEX, so the other has to go.
+    Script {
+        name: "the_first_of_two_wider_cubes",
+        lines: b"custodian cache 2\na table AREA by SEX\na table AGE by SEX\na table SEX\n\
+            a table AGE by SEX\na table AREA by SEX\ncustodian stats\n",
+        replies: b"cache 2\nrelease 0\nAREA,SEX,count\nE1,1,2\nE1,2,0\nE2,1,1\nE2,2,2\n.\n\
+            release 0\nAGE,SEX,count\n0-15,1,1\n0-15,2,0\n16-64,1,1\n16-64,2,2\n65+,1,1\n\
+            65+,2,0\n.\nrelease 0\nSEX,count\n1,1\n2,2\n.\n\
+            release 0\nAGE,SEX,count\n0-15,1,1\n0-15,2,0\n16-64,1,1\n16-64,2,2\n65+,1,1\n\
+            65+,2,0\n.\nrelease 0\nAREA,SEX,count\nE1,1,2\nE1,2,0\nE2,1,1\nE2,2,2\n.\n\
+            stats release 0 looks 5 hits 2 entries 2 capacity 2\n",
     },
     // The most recent ones stay.
     Script {

@@ -1,0 +1,5 @@
+use Rattle.tb_answer_tests.proofs.wider.wider_cube_needs_no_gate.Given as goal
+
+-- the front of the opening
+abbrev pub ghosts-asks_over : goal.ghosts-asks_over
+ghosts-asks_over g a = record { name = a.opening.name }

@@ -1,0 +1,73 @@
+// A cube of more variables is kept, so that nothing is built for a table over fewer of them.
+
+ghost use Rattle.std.specs.Prelude.{◌≡◌};
+ghost use Rattle.tb_model.specs.Schemas.{shape_of};
+ghost use Rattle.tb_session.specs.Parties.{IsPartyOf};
+
+use super::asking::ask_all;
+use super::making::{analyst, opening, setup};
+use std::alloc::Global;
+use std::marker::Brand;
+use std::sync::Wait;
+use std::test::Fail;
+use std::thread::Threads;
+use tb_board::{Board, Named, Opening};
+use tb_build::Gate;
+use tb_io::MemSink;
+use tb_session::Party;
+use tb_text::Setup;
+
+// A gate that counts how often it is reached.
+#[derive(Drop)]
+struct Counted {
+    times: u32,
+}
+
+impl Gate for Counted {
+    fn reach(&mut self) {
+        self.times = self.times.saturating_add(1);
+    }
+}
+
+const REPLIES: &[u8] = b"release 0\nAREA,SEX,count\nE1,1,2\nE1,2,0\nE2,1,1\nE2,2,2\n.\n\
+    release 0\nSEX,count\n1,1\n2,2\n.\n";
+
+// Whether a caller is answered so, and is at the gate for the first table alone.
+fn asks<B: Named, R: Threads + Wait + Sync>(
+    rt: &R,
+    alloc: Global,
+    setup: &Setup,
+    board: &Board<B>,
+    mut party: Party,
+) -> Option<bool>
+    requires own { IsPartyOf B.name (shape_of setup.now.schema) party }
+{
+    let mut gate = Counted { times: 0 };
+    let mut sink = MemSink::new(alloc, 200).ok()?;
+    let lines = "table AREA by SEX\ntable SEX";
+    let all = ask_all(rt, alloc, setup, board, &mut party, lines, &mut sink, &mut gate);
+    Some(all && gate.times == 1 && sink.taken() == REPLIES)
+}
+
+// The same over a new board.
+fn asks_over<B: Named, R: Threads + Wait + Sync>(
+    rt: &R,
+    alloc: Global,
+    setup: &Setup,
+    opening: Opening,
+) -> bool
+    requires name { opening.name ≡ B.name }
+    requires shape { opening.start.shape ≡ shape_of setup.now.schema }
+{
+    let (board, mut custodian) = Board::<B>::new(opening);
+    let party = analyst(rt, setup, &board, &mut custodian);
+    asks(rt, alloc, setup, &board, party) == Some(true)
+}
+
+#[test]
+fn wider_cube_needs_no_gate(rt: HostRuntime) -> Result<(), Fail> {
+    let setup = setup(rt.alloc())?;
+    let opening = opening(rt.alloc(), &setup)?;
+    assert!(rt; asks_over::<Brand, _>(&rt, rt.alloc(), &setup, opening));
+    Ok(())
+}
