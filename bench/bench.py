@@ -49,6 +49,9 @@ def query_over(names):
 
 
 ALL_SETS = tuple(query_over(names) for names in SETS)
+# Ten tables over some of the four variables, and one over three.
+TEN_SUBSETS = ALL_SETS[:10]
+OF_THREE = "AREA by AGE by SEX"
 
 
 class Batch(typing.NamedTuple):
@@ -121,6 +124,8 @@ RUNS, LOADING_RUNS, LONG_RUNS = 5, 15, 3
 # variables of five categories, each of which makes another cube of as many cells.
 TURNS = 31
 FIVES = ("TENURE", "SECOND", "THIRD", "FOURTH")
+# How often what comes from a wider cube is asked in a script, and such scripts are run in turn.
+ROUNDS, WIDER_TURNS = 50, 11
 PROGRAM, PLAIN = "program", "baseline"
 # The program, and an earlier one, on one processor; and the plain one with threads.
 ALONE, EARLIER, THREADS = "program-alone", "earlier-alone", "baseline-threads"
@@ -341,6 +346,46 @@ def seconds_behind(batch, program, folder):
         without, with_tables = (seconds_of(words, f"{folder}/turn.out") for words in runs)
         differences.append((with_tables - without) / (BATCHES * len(tables)))
     return statistics.median(differences)
+
+
+def table_lines(queries):
+    return [f"a table {query}\n" for query in queries]
+
+
+def seconds_each(program, folder, before, lines):
+    """What some lines take in a round, run by run: each round has other lines before them, and the
+    same rounds without them are run in turn."""
+    words = []
+    for name, asked in (("without", before), ("with", before + lines)):
+        script = f"{folder}/rounds-{name}.txt"
+        with open(script, "w", encoding="ascii") as out:
+            out.writelines(asked * ROUNDS)
+        words.append(words_of(program, folder, script))
+    differences = []
+    for _ in range(WIDER_TURNS):
+        without, with_lines = (seconds_of(each, f"{folder}/rounds.out") for each in words)
+        differences.append((with_lines - without) / ROUNDS)
+    return statistics.median(differences)
+
+
+def wider(program, folder):
+    """What tables take whose cubes come from a kept one of more variables, beside cold ones."""
+    clear = ["custodian clear\n"]
+    of_three, of_four = clear + table_lines([OF_THREE]), clear + table_lines(OF_FOUR)
+    sex, margins = table_lines(["SEX"]), table_lines(["AREA by SEX"])
+    ten = table_lines(TEN_SUBSETS)
+    first = seconds_each(program, folder, of_three, sex)
+    cold = seconds_each(program, folder, [], clear + sex)
+    what = f"`table SEX` after {OF_THREE}, {first * 1e3:.3f} ms, beside a cold one, {cold * 1e3:.3f} ms"
+    yield (what, first / cold, 0.05)
+    subsets = seconds_each(program, folder, of_four, ten)
+    each_cold = [line for table in ten for line in (*clear, table)]
+    ten_cold = seconds_each(program, folder, [], each_cold)
+    times = f"{subsets * 1e3:.3f} ms beside {ten_cold * 1e3:.3f} ms"
+    yield (f"ten tables over subsets of a kept cube of four variables, beside cold ones, {times}", subsets / ten_cold, 0.1)
+    narrowed = seconds_each(program, folder, of_four, margins)
+    kept_again = seconds_each(program, folder, of_four + margins, margins)
+    yield ("a cube of 101,000 cells narrowed to 200, ms", (narrowed - kept_again) * 1e3, 0.3)
 
 
 def summary_of(path):
@@ -565,6 +610,7 @@ def main(program, baseline, earlier=None):
             measure(case, programs, folder)
         lanes = measure_lanes(programs[PROGRAM], f"{top}/{LARGE}-{ASCENDING}")
         published = list(publications(programs, f"{top}/{LARGE}-{ASCENDING}"))
+        from_wider = list(wider(programs[PROGRAM], f"{top}/{LARGE}-{ASCENDING}"))
         widen(f"{top}/{SMALL}-{ASCENDING}", f"{top}/wide")
         behind = {
             batch: seconds_behind(batch, programs[PROGRAM], f"{top}/wide")
@@ -583,6 +629,8 @@ def main(program, baseline, earlier=None):
     print_rows(kept(further, behind))
     print()
     print_rows(published)
+    print()
+    print_rows(from_wider)
     print()
     print_rows(threads(further, lanes))
     print()

@@ -101,6 +101,14 @@ a table AREA by SEX with totals
 a table AREA by SEX with totals
 custodian stats
 """),
+    "a wider cube that is behind": ("script", """
+a table AREA by SEX
+custodian drop 104
+custodian publish
+a table SEX
+a table AREA
+custodian stats
+"""),
     "many edits, some of one person": ("script", """
 custodian drop 101
 custodian drop 102
