@@ -9,4 +9,5 @@ pub mod Persons
 pub mod Records
 pub mod Sets
 pub mod Statuses
+pub mod Tallies
 pub mod Words

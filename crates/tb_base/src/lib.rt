@@ -4,15 +4,17 @@
 //!
 //! It stands on nothing but `smallvec` and `itoa`. Its contracts cite `specs/Cells` (a cell is the
 //! count and the key sum of some records), `Parts` (its two numbers, each summed modulo its own),
-//! `Records`, `Codes` (how a record's numbers are kept), `Persons`, `Sets`, `Numbers`, `Statuses`,
-//! `Bytes` and `Words` (text, blanks, and the words of a line); `Lists` and `OneAnswer` (a text
-//! that is read has exactly one answer) serve the crates above. Cells are summed here alone.
+//! `Tallies` (what stands at one place of a column), `Records`, `Codes` (how a record's numbers are
+//! kept), `Persons`, `Sets`, `Numbers`, `Statuses`, `Bytes` and `Words` (text, blanks, and the
+//! words of a line); `Lists` and `OneAnswer` (a text that is read has exactly one answer) serve the
+//! crates above. Cells are summed here alone.
 //!
 //! Lemmas for the crates above: `proofs/CellLemmas` (how a cell changes with its records),
 //! `CellsBy` (the same of the cells of several groups), `PartLemmas` (the two numbers of cells, and
-//! sums modulo a number), `PersonLemmas`, `WordLemmas` (the words taken from the front of a line),
-//! `OnlyAnswer` (what is returned for a text), `AllThere` and `Options` (values that may be
-//! missing) and `Texts` (texts that are compared).
+//! sums modulo a number), `TallyLemmas` (records that are put in by tallies of chunks),
+//! `PersonLemmas`, `WordLemmas` (the words taken from the front of a line), `OnlyAnswer` (what is
+//! returned for a text), `AllThere` and `Options` (values that may be missing) and `Texts` (texts
+//! that are compared).
 #![tactic(auto)]
 
 mod bytes;
@@ -25,6 +27,7 @@ mod records;
 mod shape;
 mod status;
 mod steps;
+mod tallies;
 mod var_set;
 mod words;
 
@@ -38,5 +41,6 @@ pub use records::Record;
 pub use shape::Shape;
 pub use status::Status;
 pub use steps::{Steps, charge};
+pub use tallies::{CHUNK, MOST_TALLIED, add_tallies, tally, write_keys};
 pub use var_set::{VARIABLES_IN_PLACE, VarSet};
 pub use words::first_word;
