@@ -1,3 +1,4 @@
 pub mod Scans
 pub mod Used
 pub mod Holding
+pub mod Stepping

@@ -1,5 +1,6 @@
 -- What records add to the cells of a plan's places without Total.
-use Rattle.std.specs.Prelude.{◌≡◌, ◌+◌, ◌%◌, ◌==◌, ◌<◌, ℕ, cond, List, length}
+use Rattle.std.specs.Prelude.{◌≡◌, ◌+◌, ◌-◌, ◌%◌, ◌^◌, ◌==◌, ◌<◌, ℕ, cond}
+use Rattle.std.specs.Prelude.{min, List, length, map}
 use Rattle.std.specs.List.{sum_by}
 use Rattle.tb_base.specs.declared.cells.Cell.{Cell}
 use Rattle.tb_base.specs.declared.records.Record.{Record}
@@ -24,3 +25,7 @@ abbrev pub Hold : PlanValue → List Cell → List Record → Type 0
 Hold plan cells records =
     (p : Part) (i : ℕ) → i < length cells
     → part_at p cells i % modulus p ≡ added plan p records i % modulus p
+
+-- the numbers to which records lead, as far as a u32 goes
+abbrev pub numbers_of : PlanValue → List Record → List ℕ
+numbers_of plan records = map (λ r. min (number_at plan (category_at r)) (2 ^ 32 - 1)) records

@@ -7,11 +7,13 @@
 //! `specs/Scanning` (what records add at a place without Total).
 //!
 //! Lemmas: `proofs/Scans` (the cells of a table from what records add at each number), `Holding`
-//! (cells that hold some records) and `Used` (the steps of the variables that a plan uses).
+//! (cells that hold some records), `Used` (the steps of the variables that a plan uses) and
+//! `Stepping` (the numbers of a chunk of records, worked out a variable at a time).
 #![tactic(auto)]
 
 mod put;
 mod scan;
+mod tallied;
 
 pub use put::put_all;
 pub use scan::{empty_cells, put_totals, scan_into};

@@ -10,7 +10,8 @@ ghost use Rattle.tb_plan.specs.Plans.{vars_of};
 ghost use Rattle.tb_plan.specs.Steps.{number_at, step_at, steps_of};
 ghost use Rattle.tb_scan.specs.Scanning.{ArePut, Hold};
 
-use tb_base::{Cell, Record};
+use crate::tallied::put_by_tallies;
+use tb_base::{Cell, MOST_TALLIED, Record};
 use tb_plan::Plan;
 
 // Puts a record into the cell of a number; past the cells it does nothing.
@@ -25,8 +26,8 @@ fn put_at(cells: &mut [Cell], number: usize, one: &Record)
     }
 }
 
-// The variable at a place among those that a plan uses, and its steps.
-fn used(plan: &Plan, j: usize) -> (u16, &[u32])
+/// The variable at a place among those that a plan uses, and its steps.
+pub fn used(plan: &Plan, j: usize) -> (u16, &[u32])
     requires { j < length (vars_of plan.now) }
     ensures variable { result.0 ≡ slice_index (vars_of plan.now) j }
     ensures there { result.0 < length plan.now.shape }
@@ -36,9 +37,9 @@ fn used(plan: &Plan, j: usize) -> (u16, &[u32])
     (v, plan.steps(v))
 }
 
-// The step of a record's category of a variable, where these are the variable's steps in the plan.
+/// The step of a record's category of a variable, where these are the variable's steps in the plan.
 #[inline]
-fn step_of(plan: &Plan, v: u16, steps: &[u32], one: &Record) -> usize
+pub fn step_of(plan: &Plan, v: u16, steps: &[u32], one: &Record) -> usize
     requires there { v < length plan.now.shape }
     requires steps { steps.now ≡ steps_of plan.now v }
     requires fits { Fits plan.now.shape one.now }
@@ -130,7 +131,9 @@ pub fn put_all(plan: &Plan, piece: &[Record], cells: &mut [Cell])
         → Hold plan.now cells.new (before ++ piece.now) }
 {
     let used = plan.vars().len();
-    if used == 1 {
+    if cells.len() <= MOST_TALLIED {
+        put_by_tallies(plan, piece, cells);
+    } else if used == 1 {
         put_by_one(plan, piece, cells);
     } else if used == 2 {
         put_by_two(plan, piece, cells);
