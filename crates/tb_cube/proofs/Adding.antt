@@ -1,5 +1,5 @@
 -- Records that are put in one after another are merged.
-use Rattle.std.proofs.Common.{◌≡◌, ℕ, ◌+◌, ◌*◌, ◌<◌, ◌≤◌, ◌-◌, ◌^◌, Bool, List, [], ◌∷◌, length, map, drop, get_or, set, refl, ap, sym, subst, ◌∙◌, inl, inr, arith}
+use Rattle.std.proofs.Common.{◌≡◌, ℕ, ◌+◌, ◌*◌, ◌<◌, ◌≤◌, ◌-◌, ◌^◌, Bool, true, List, [], ◌∷◌, length, map, drop, get_or, set, refl, ap, sym, subst, ◌∙◌, inl, inr, arith}
 use Rattle.std.specs.Prelude.{◌==◌, bytes_eq, replicate, All}
 use Rattle.std.specs.List.{filter}
 use Rattle.std.proofs.lemmas.Bool.Decides.{eqb_tells}
@@ -90,7 +90,8 @@ map-same y (x ∷ xs) = ap (λ ys. y ∷ ys) (map-same y xs)
 pub cube-empty : (shape vars : List ℕ) (n : ℕ) → n ≡ cell_count shape vars → replicate n empty_cell ≡ cube_of shape vars []
 cube-empty shape vars n e = ap (λ k. replicate k empty_cell) (e ∙ sym (length-lists shape vars)) ∙ map-same empty_cell (category_lists shape vars)
 
-pub made-cube : (shape shape' vars vars' : List ℕ) (cells cells' : List Cell) → shape ≡ shape' → vars ≡ vars' → cells ≡ cells' → ◌≡◌ {A = CubeValue} (record { shape = shape; vars = vars; cells = cells }) (record { shape = shape'; vars = vars'; cells = cells' })
+pub made-cube : (shape shape' vars vars' : List ℕ) (cells cells' : List Cell) → shape ≡ shape' → vars ≡ vars' → cells ≡ cells'
+    → ◌≡◌ {A = CubeValue} (record { shape = shape; vars = vars; cells = cells; dense = true }) (record { shape = shape'; vars = vars'; cells = cells'; dense = true })
 made-cube shape shape' vars vars' cells cells' s v c = rw (s, v, c) refl
 
 -- what holds of each element holds of the one at a place

@@ -104,6 +104,11 @@ held-merged old other new ours theirs is shape vars held held' =
     let theirs-are : other.cells ≡ cube_of old.shape old.vars theirs = held' ∙ ap (λ s. cube_of s other.vars theirs) shape ∙ ap (λ vs. cube_of old.shape vs theirs) vars in
     held-added old new ours theirs (is ∙ ap (merged_with old) theirs-are) held
 
+-- a cube stays dense
+pub dense-taken : (gone : Option Record) (cube : CubeValue) → (taken_out gone cube).dense ≡ cube.dense
+dense-taken None cube = refl
+dense-taken (Some r) cube = refl
+
 -- one cell of a cube as it is kept is changed, at the place of a record's categories
 module _ (kept now : CubeValue) (view : kept ≡ now) (r : Record) (place : ℕ) (at : place ≡ place_of now.shape now.vars (category_at r))
     (within : place < length now.cells) (cell : Cell) (is : cell ≡ get_or kept.cells place cell) where

@@ -1,5 +1,5 @@
 -- The place of a record's cell in a cube, and its number by the axes.
-use Rattle.std.proofs.Common.{◌≡◌, ℕ, ◌+◌, ◌*◌, ◌/◌, ◌%◌, ◌<◌, ◌≤◌, List, [], ◌∷◌, length, map, get_or, refl, ap, sym, ◌∙◌, arith}
+use Rattle.std.proofs.Common.{◌≡◌, ℕ, zero, suc, ◌+◌, ◌*◌, ◌/◌, ◌%◌, ◌<◌, ◌≤◌, List, [], ◌∷◌, length, drop, map, get_or, refl, ap, sym, ◌∙◌, arith}
 use Rattle.std.specs.Prelude.{◌==◌, bytes_eq, slice_index, All}
 use Rattle.std.specs.List.{range_with_len, AllByRecursion}
 use Rattle.std.proofs.lemmas.Nat.{mul-add-lt}
@@ -37,6 +37,18 @@ number-place shape (v ∷ vs) at below few =
     let whole : cells_over shape vs ≡ m = omega arith in
     sum_by-cons (λ (a : Axis). at a.variable * a.stride) (record { variable = v; stride = cells_over shape vs }) (axes_of shape vs)
     ∙ rw (whole, number-place shape vs at below.1 (omega arith)) refl
+
+-- the axis of each variable
+pub length-axes : (shape vars : List ℕ) → length (axes_of shape vars) ≡ length vars
+length-axes shape [] = refl
+length-axes shape (v ∷ vs) = ap suc (length-axes shape vs)
+
+pub stride-at : (shape vars : List ℕ) (j : ℕ) (d : Axis) → j < length vars → (get_or (axes_of shape vars) j d).stride ≡ cells_over shape (drop (j + 1) vars)
+stride-at shape [] j d below = absurd (omega arith)
+stride-at shape (v ∷ vs) zero d below = refl
+stride-at shape (v ∷ vs) (suc j) d below =
+    let next : suc j + 1 ≡ suc (j + 1) = omega arith in
+    rw next (stride-at shape vs j d (omega arith))
 
 lengths : (shape vars : List ℕ) → map length (map (λ v. range_with_len 0 (slice_index shape v)) vars) ≡ map (slice_index shape) vars
 lengths shape [] = refl

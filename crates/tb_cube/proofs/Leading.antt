@@ -16,11 +16,11 @@ use Rattle.tb_grid.proofs.Sums.{eq-swap}
 use Rattle.tb_grid.proofs.Factors.{at-least}
 use Rattle.tb_cube.specs.Axes.{axes_of}
 use Rattle.tb_cube.specs.Cubes.{cell_count, place_of}
-use Rattle.tb_cube.specs.Narrowing.{forks_of, steps_of, stride_in}
+use Rattle.tb_cube.specs.Narrowing.{forks_of, steps_of, stride_in, AreRuns}
 use Rattle.tb_cube.specs.Walks.{count_of, Fork}
 use Rattle.tb_cube.proofs.Grid.{list-test}
 use Rattle.tb_cube.proofs.Lists.{Distinct, NotIn, FitsList, category-below}
-use Rattle.tb_cube.proofs.Walks.{lead, lists_of}
+use Rattle.tb_cube.proofs.Walks.{lead, lists_of, second-factor}
 
 -- the forks of a walk over some variables among fewer
 abbrev pub forks_to : List ℕ → List ℕ → List ℕ → List Fork
@@ -37,6 +37,18 @@ lists-of-forks shape fewer vars = ap row_major (same-sizes shape fewer vars)
 pub count-of-forks : (shape fewer vars : List ℕ) → count_of (forks_to shape fewer vars) ≡ cell_count shape vars
 count-of-forks shape fewer [] = refl
 count-of-forks shape fewer (v ∷ vs) = ap (λ n. slice_index shape v * n) (count-of-forks shape fewer vs)
+
+-- each category of a variable has as many cells as the variables after it have lists
+pub runs-of-steps : (shape fewer vars : List ℕ) → 0 < cell_count shape vars → cell_count shape vars ≤ MOST_CELLS → AreRuns (steps_of shape (axes_of shape fewer) vars)
+runs-of-steps shape fewer [] some few = tt
+runs-of-steps shape fewer (v ∷ vs) some few =
+    let n : ℕ = slice_index shape v in
+    let m : ℕ = cell_count shape vs in
+    let swap : 0 < m * n = omega (arith, some) in
+    let after : 0 < m = second-factor n m some in
+    let less : m ≤ n * m = at-least n m (second-factor m n swap) in
+    let whole : cells_over shape vs ≡ m = omega (arith, less, few) in
+    (whole ∙ sym (count-of-forks shape fewer vs), omega (arith, whole, after), runs-of-steps shape fewer vs after (omega (arith, less, few)))
 
 -- with no variable nothing leads on
 lead-none : (shape vars cs : List ℕ) → lead (forks_to shape [] vars) cs ≡ 0

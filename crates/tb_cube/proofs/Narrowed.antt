@@ -81,14 +81,14 @@ whole-steps cube fewer steps all whole are from =
 pub narrowed-held : (cube : CubeValue) (fewer : List ℕ) (records : List Record) → IsWhole cube → includes_all cube.vars fewer ≡ true → All (Fits cube.shape) records → Holds cube records
     → narrowed_to fewer cube ≡ cube_over cube.shape fewer records
 narrowed-held cube fewer records whole among fit held =
-    ap (λ (cells : List Cell). record cube { vars = fewer; cells = cells })
+    ap (λ (cells : List Cell). record cube { vars = fewer; cells = cells; dense = true })
     (ap (narrowed cube.shape cube.vars fewer) held
     ∙ narrowed-cube_of cube.shape cube.vars fewer records (all-fit cube.shape cube.vars records whole.there fit) (includes-each cube.vars fewer among))
 
 -- what is made of them is a cube
 pub cube-made : (cube : CubeValue) (fewer shape vars : List ℕ) (cells : List Cell) (axes : List Axis) → IsWhole cube → IsStrictlyIncreasing fewer → includes_all cube.vars fewer ≡ true
     → shape ≡ cube.shape → vars ≡ fewer → axes ≡ axes_of cube.shape fewer → length cells ≡ cell_count cube.shape fewer → cell_count cube.shape fewer ≤ MOST_CELLS
-    → IsCube (record { shape = shape; vars = vars; cells = cells }) axes
+    → IsCube (record { shape = shape; vars = vars; cells = cells; dense = true }) axes
 cube-made cube fewer shape vars cells axes whole ascending among same same' are size few =
     rw (same, same', are) (record {
       whole = record {

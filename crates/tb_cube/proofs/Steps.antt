@@ -11,7 +11,7 @@ use Rattle.tb_cube.specs.Walks.{spread, Fork, StandsAt}
 use Rattle.tb_cube.proofs.Walks.{spread-end}
 
 abbrev pub no_step : Step
-no_step = record { count = 0; stride = 0 }
+no_step = record { count = 0; run = 0; stride = 0 }
 
 -- the fork of a step
 abbrev pub fork_of : Step → Fork

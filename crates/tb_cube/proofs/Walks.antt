@@ -62,6 +62,24 @@ sum-shift f a (suc n) = rw (sum_by-cons f (a + 1) (range_with_len (a + 1 + 1) n)
 pub sum-next : (f : ℕ → ℕ) (n : ℕ) → sum_by f (range_with_len 0 (n + 1)) ≡ sum_by f (range_with_len 0 n) + f n
 sum-next f n = let z : 0 + n ≡ n = omega arith in sum-more f 0 n ∙ ap (λ j. sum_by f (range_with_len 0 n) + f j) z
 
+-- a range in two parts, and in rows
+sum-join : (f : ℕ → ℕ) (a m : ℕ) → sum_by f (range_with_len 0 (m + a)) ≡ sum_by f (range_with_len 0 m) + sum_by (λ r. f (m + r)) (range_with_len 0 a)
+sum-join f zero m = let e : m + 0 ≡ m = omega arith in rw e (omega arith)
+sum-join f (suc a) m =
+    let e : m + suc a ≡ m + a + 1 = omega arith in
+    let s : suc a ≡ a + 1 = omega arith in
+    let left : sum_by f (range_with_len 0 (m + suc a)) ≡ sum_by f (range_with_len 0 (m + a)) + f (m + a) = ap (λ j. sum_by f (range_with_len 0 j)) e ∙ sum-next f (m + a) in
+    let right : sum_by (λ r. f (m + r)) (range_with_len 0 (suc a)) ≡ sum_by (λ r. f (m + r)) (range_with_len 0 a) + f (m + a) = ap (λ j. sum_by (λ r. f (m + r)) (range_with_len 0 j)) s ∙ sum-next (λ r. f (m + r)) a in
+    left ∙ ap (λ x. x + f (m + a)) (sum-join f a m) ∙ (let turn : sum_by f (range_with_len 0 m) + sum_by (λ r. f (m + r)) (range_with_len 0 a) + f (m + a) ≡ sum_by f (range_with_len 0 m) + (sum_by (λ r. f (m + r)) (range_with_len 0 a) + f (m + a)) = omega arith in turn) ∙ ap (λ x. sum_by f (range_with_len 0 m) + x) (sym right)
+
+pub sum-rows : (f : ℕ → ℕ) (n m : ℕ) → sum_by f (range_with_len 0 (n * m)) ≡ sum_by (λ c. sum_by (λ r. f (c * m + r)) (range_with_len 0 m)) (range_with_len 0 n)
+sum-rows f zero m = let e : 0 * m ≡ 0 = omega arith in ap (λ j. sum_by f (range_with_len 0 j)) e
+sum-rows f (suc n) m =
+    let row : ℕ → ℕ = λ c. sum_by (λ r. f (c * m + r)) (range_with_len 0 m) in
+    let e : suc n * m ≡ n * m + m = omega arith in
+    let s : suc n ≡ n + 1 = omega arith in
+    ap (λ j. sum_by f (range_with_len 0 j)) e ∙ sum-join f m (n * m) ∙ ap (λ x. x + row n) (sum-rows f n m) ∙ sym (ap (λ j. sum_by row (range_with_len 0 j)) s ∙ sum-next row n)
+
 -- a cell to which a cell with this sum is added
 pub sum-added : (p : Part) (old new sum : Cell) (x : ℕ) → part p new ≡ (part p old + part p sum) % modulus p
     → part p sum % modulus p ≡ x % modulus p → part p new % modulus p ≡ (part p old + x) % modulus p

@@ -1,5 +1,5 @@
 -- The number of a record's cell, as a sum of one term for each variable.
-use Rattle.std.specs.Prelude.{◌≡◌, ◌*◌, ◌<◌, ℕ, List, [], ◌∷◌, length, All}
+use Rattle.std.specs.Prelude.{◌≡◌, ◌*◌, ◌<◌, ℕ, List, [], ◌∷◌, length, map, All}
 use Rattle.std.specs.Prelude.{slice_index_or, slice_set}
 use Rattle.std.specs.List.{sum_by}
 use Rattle.tb_base.specs.declared.cells.Cell.{Cell}
@@ -18,6 +18,10 @@ axes_of shape (v ∷ vs) = record { variable = v; stride = cells_over shape vs }
 -- the number of some categories' cell
 abbrev pub number_by : List Axis → (ℕ → ℕ) → ℕ
 number_by axes at = sum_by (λ a. at a.variable * a.stride) axes
+
+-- the numbers of the records' cells
+abbrev pub numbers_by : List Axis → List Record → List ℕ
+numbers_by axes records = map (λ r. number_by axes (category_at r)) records
 
 -- the cells with records put in one after another
 abbrev pub with_all : List Axis → List Cell → List Record → List Cell

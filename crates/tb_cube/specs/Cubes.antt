@@ -1,5 +1,6 @@
 -- A cube as it is seen, the records that it holds, and what becomes of it.
 use Rattle.std.specs.Prelude.{◌≡◌, ◌+◌, ◌*◌, ◌<◌, ◌≤◌, ℕ, if◌then◌else◌}
+use Rattle.std.specs.Prelude.{◌&&◌, Bool, true, not}
 use Rattle.std.specs.Prelude.{List, [], ◌∷◌, length, map, zip, All}
 use Rattle.std.specs.Prelude.{slice_index, slice_index_or, slice_set, bytes_eq}
 use Rattle.std.specs.Prelude.{Option, Some, None}
@@ -12,12 +13,15 @@ use Rattle.tb_base.specs.Records.{category_at, Fits}
 use Rattle.tb_grid.specs.declared.products.TheConstants.{MOST_CELLS}
 use Rattle.tb_model.specs.Cubes.{category_lists, cube_of, narrowed}
 use Rattle.tb_model.specs.RowMajor.{product}
+use Rattle.tb_cube.specs.Packing.{filled, is_sparse}
 
--- a shape, some of its variables, and a cell for each list of their categories, in row-major order
+-- a shape, some of its variables, and a cell for each list of their categories, in row-major order;
+-- and whether all cells are kept, the empty ones too
 pub record CubeValue : Type 0 where
   pub shape : List ℕ
   pub vars : List ℕ
   pub cells : List Cell
+  pub dense : Bool
 
 -- how many cells a cube over some variables has
 abbrev pub cell_count : List ℕ → List ℕ → ℕ
@@ -26,7 +30,7 @@ cell_count shape vars = product (map (slice_index shape) vars)
 -- the cube of some records over some variables
 abbrev pub cube_over : List ℕ → List ℕ → List Record → CubeValue
 cube_over shape vars records =
-    record { shape = shape; vars = vars; cells = cube_of shape vars records }
+    record { shape = shape; vars = vars; cells = cube_of shape vars records; dense = true }
 
 -- a cube holds these records and no others: its cells are those of the definitions' cube
 abbrev pub Holds : CubeValue → List Record → Type 0
@@ -35,7 +39,23 @@ Holds cube records = cube.cells ≡ cube_of cube.shape cube.vars records
 -- a cube over fewer of its variables: each cell merges those that agree with it on them
 abbrev pub narrowed_to : List ℕ → CubeValue → CubeValue
 narrowed_to fewer cube =
-    record cube { vars = fewer; cells = narrowed cube.shape cube.vars fewer cube.cells }
+    record cube {
+      vars = fewer;
+      cells = narrowed cube.shape cube.vars fewer cube.cells;
+      dense = true;
+    }
+
+-- a cube with the same cells, of which all are kept
+abbrev pub unpacked : CubeValue → CubeValue
+unpacked cube = record cube { dense = true }
+
+-- a cube with the same cells, of which the empty ones aren't kept where three in four are empty
+abbrev pub packed : CubeValue → CubeValue
+packed cube = record cube { dense = cube.dense && not (is_sparse cube.cells) }
+
+-- how many cells are kept
+abbrev pub kept_count : CubeValue → ℕ
+kept_count cube = if cube.dense then length cube.cells else filled cube.cells
 
 -- a cube with each of its cells merged with one
 abbrev pub merged_with : CubeValue → List Cell → CubeValue

@@ -1,5 +1,5 @@
-ghost use Rattle.std.specs.Prelude.{◌≡◌, List, [], ◌++◌, ◌+◌, ◌<◌, ◌≤◌, All, IfOk, length};
-ghost use Rattle.std.specs.Prelude.{slice_index_or, true};
+ghost use Rattle.std.specs.Prelude.{◌≡◌, List, [], ◌++◌, ◌+◌, ◌<◌, ◌≤◌, All, IfOk, drop, length};
+ghost use Rattle.std.specs.Prelude.{slice_index_or, true, false, MatchOption, OnErr, OnOk};
 ghost use Rattle.std.specs.List.{sum_by};
 ghost use Rattle.std.specs.Option.{ForSome, option_copied, option_to_list};
 ghost use Rattle.tb_base.specs.declared.people.TheConstants.{MOST_PERSONS};
@@ -8,14 +8,17 @@ ghost use Rattle.tb_base.specs.Cells.{empty_cell};
 ghost use Rattle.tb_base.specs.Records.{category_at, AllFit, Fits};
 ghost use Rattle.tb_base.specs.Sets.{includes_all};
 ghost use Rattle.tb_grid.specs.declared.products.TheConstants.{MOST_CELLS};
+ghost use Rattle.tb_grid.specs.Products.{cells_over as cells_over_vars};
 ghost use Rattle.tb_model.specs.Cubes.{cube_of};
-ghost use Rattle.tb_cube.specs.Cubes.{cell_count, cube_over, merged_at, merged_with, narrowed_to};
-ghost use Rattle.tb_cube.specs.Cubes.{place_of, put_in, taken_out, CanPutIn, CanTakeOut, HasRoom};
-ghost use Rattle.tb_cube.specs.Cubes.{Holds, IsWhole};
+ghost use Rattle.tb_cube.specs.Cubes.{cell_count, cube_over, kept_count, merged_at, merged_with};
+ghost use Rattle.tb_cube.specs.Cubes.{narrowed_to, packed, place_of, put_in, taken_out, unpacked};
+ghost use Rattle.tb_cube.specs.Cubes.{CanPutIn, CanTakeOut, HasRoom, Holds, IsWhole};
+ghost use Rattle.tb_cube.specs.Packing.{kept_from};
 
 use crate::axes::{Axis, axes_of, number_of};
 use crate::merging::merge_all;
 use crate::narrowing::{narrowed_cells, steps_of};
+use crate::packing::{Form, KeptCell, filled_in, kept_of};
 use crate::putting::put_all;
 use std::alloc::Global;
 use std::marker::Model;
@@ -26,25 +29,28 @@ use tb_grid::cells_over;
 /// row-major order, so that the last variable's categories change fastest. A cell counts the
 /// records with its categories, and has their key sum.
 ///
-/// Only `zero`, `copy` and `narrow` take memory.
+/// A cube is dense, with all its cells in one list, or packed: then the empty cells aren't kept.
+/// Calls that change cells, and `as_slice`, want a dense cube.
+///
+/// Only `zero`, `copy`, `pack` and `narrow` take memory.
 #[derive(Drop)]
 pub struct Cube {
+    alloc: Global,
     shape: Shape,
     vars: VarSet,
     axes: Vec<Axis>,
-    cells: Vec<Cell>,
+    form: Form,
 }
 
 impl Model for Cube {
     ghost use Rattle.tb_cube.specs.Cubes.{CubeValue};
-    ghost use Rattle.tb_cube.specs.Axes.{IsCube};
+    ghost use Rattle.tb_cube.specs.Forms.{seen_as, IsKeptCube};
 
     ghost Value = { CubeValue };
 
-    ghost view = { λ c. record { shape = c.shape; vars = c.vars; cells = c.cells.items } };
+    ghost view = { λ c. seen_as c.shape c.vars c.form };
 
-    ghost invariant = { λ c. IsCube
-        (record { shape = c.shape; vars = c.vars; cells = c.cells.items }) c.axes.items };
+    ghost invariant = { λ c. IsKeptCube c.shape c.vars c.axes.items c.form };
 }
 
 impl Cube {
@@ -58,15 +64,17 @@ impl Cube {
         let axes = axes_of(alloc, shape, vars)?;
         let cells = vec![in alloc; Cell::empty(); cells_over(shape, vars, 0)]?;
         Ok(Cube {
+            alloc,
             shape: shape.copy()?,
             vars: vars.copy()?,
             axes,
-            cells,
+            form: Form::Dense(cells),
         })
     }
 
     /// Puts each record of a piece into the cell of its categories.
     pub fn add_all(&mut self, piece: &[Record])
+        requires dense { self.old.dense ≡ true }
         requires fit { AllFit self.old.shape piece.now }
         requires room { All (λ c. c.count + length piece.now ≤ MOST_PERSONS) self.old.cells }
         ensures cells { self.new
@@ -75,8 +83,10 @@ impl Cube {
         ensures held { (before : List AnyRecord) → Holds self.old before
             → Holds self.new (before ++ piece.now) }
     {
-        know_cells(&self.cells);
-        put_all(&mut self.cells, &self.axes, piece);
+        if let Form::Dense(cells) = &mut self.form {
+            know_cells(cells);
+            put_all(cells, &self.axes, piece);
+        }
     }
 
     // The place of the cell of a record's categories.
@@ -86,35 +96,42 @@ impl Cube {
         ensures cube { IsWhole self.now }
         ensures there { result < length self.now.cells }
     {
-        let _ = &self.cells;
+        let _ = &self.form;
         number_of(&self.axes, one)
     }
 
     // Takes a record, if there is one, out of the cell of its categories.
     fn take_out(&mut self, gone: Option<&Record>)
-        requires { ForSome (option_copied gone) (CanTakeOut self.old) }
+        requires dense { self.old.dense ≡ true }
+        requires can { ForSome (option_copied gone) (CanTakeOut self.old) }
         ensures { self.new ≡ taken_out (option_copied gone.entry) self.old }
     {
         if let Some(gone) = gone {
             let place = self.place_for(gone);
-            self.cells[place].take_out(gone.key);
+            if let Form::Dense(cells) = &mut self.form {
+                cells[place].take_out(gone.key);
+            }
         }
     }
 
     // Puts a record, if there is one, into the cell of its categories.
     fn put(&mut self, new: Option<&Record>)
-        requires { ForSome (option_copied new) (CanPutIn self.old) }
+        requires dense { self.old.dense ≡ true }
+        requires can { ForSome (option_copied new) (CanPutIn self.old) }
         ensures { self.new ≡ put_in (option_copied new.entry) self.old }
     {
         if let Some(new) = new {
             let place = self.place_for(new);
-            self.cells[place].put(new.key);
+            if let Form::Dense(cells) = &mut self.form {
+                cells[place].put(new.key);
+            }
         }
     }
 
     /// Takes the record before a change out, if there is one, and puts the record after it in, if
     /// there is one.
     pub fn apply(&mut self, before: Option<&Record>, after: Option<&Record>)
+        requires dense { self.old.dense ≡ true }
         requires before { ForSome (option_copied before) (CanTakeOut self.old) }
         requires after { ForSome (option_copied after)
             (CanPutIn (taken_out (option_copied before) self.old)) }
@@ -132,6 +149,8 @@ impl Cube {
 
     /// Merges each cell with the other cube's at its place.
     pub fn merge(&mut self, other: &Cube)
+        requires dense { self.old.dense ≡ true }
+        requires other { other.now.dense ≡ true }
         requires shape { other.now.shape ≡ self.old.shape }
         requires vars { other.now.vars ≡ self.old.vars }
         requires room { HasRoom self.old other.now }
@@ -140,18 +159,23 @@ impl Cube {
         ensures held { (ours theirs : List AnyRecord) → Holds self.old ours
             → Holds other.now theirs → Holds self.new (ours ++ theirs) }
     {
-        merge_all(&mut self.cells, &other.cells);
+        if let Form::Dense(cells) = &mut self.form {
+            merge_all(cells, other.form.as_slice());
+        }
     }
 
     /// Merges one cell, at a place, with another, so that a cube may be merged in steps.
     #[inline]
     pub fn merge_at(&mut self, place: usize, cell: Cell)
+        requires dense { self.old.dense ≡ true }
         requires place { place < length self.old.cells }
         requires room { (slice_index_or self.old.cells place empty_cell).count + cell.count
             ≤ MOST_PERSONS }
         ensures { self.new ≡ merged_at self.old place cell }
     {
-        self.cells[place].add(cell);
+        if let Form::Dense(cells) = &mut self.form {
+            cells[place].add(cell);
+        }
     }
 
     /// How many cells there are.
@@ -160,7 +184,21 @@ impl Cube {
         ensures cube { IsWhole self.now }
     {
         let _ = &self.vars;
-        self.cells.len()
+        self.form.count()
+    }
+
+    /// Whether the cube is dense.
+    pub fn is_dense(&self) -> bool
+        ensures { result ≡ self.now.dense }
+    {
+        self.form.is_dense()
+    }
+
+    /// How many cells are kept: all of a dense cube, else those that aren't empty.
+    pub fn kept(&self) -> usize
+        ensures { result ≡ kept_count self.now }
+    {
+        self.form.kept()
     }
 
     /// The cell at a place.
@@ -169,17 +207,26 @@ impl Cube {
         requires { place < length self.now.cells }
         ensures { result ≡ slice_index_or self.now.cells place empty_cell }
     {
-        self.cells[place]
+        self.form.cell(place)
     }
 
-    /// All the cells.
+    /// All the cells, of a dense cube.
     #[inline]
     pub fn as_slice(&self) -> &[Cell]
+        requires { self.now.dense ≡ true }
         ensures cells { result.now ≡ self.now.cells }
         ensures cube { IsWhole self.now }
     {
         let _ = &self.vars;
-        &self.cells
+        self.form.as_slice()
+    }
+
+    /// The cells of a packed cube that aren't empty, in order of place.
+    pub fn kept_cells(&self) -> Option<&[KeptCell]>
+        ensures { MatchOption result (self.now.dense ≡ true)
+            (λ kept. (self.now.dense ≡ false) × (kept.now ≡ kept_from 0 self.now.cells)) }
+    {
+        self.form.kept_cells()
     }
 
     /// The variables.
@@ -187,28 +234,58 @@ impl Cube {
         ensures vars { result.now ≡ self.now.vars }
         ensures cube { IsWhole self.now }
     {
-        let _ = &self.cells;
+        let _ = &self.form;
         &self.vars
+    }
+
+    /// How many cells each category of the variable at a place among the cube's has beside each list
+    /// of categories before it.
+    #[inline]
+    pub fn run(&self, j: usize) -> usize
+        requires { j < length self.now.vars }
+        ensures { result ≡ cells_over_vars self.now.shape (drop (j + 1) self.now.vars) }
+    {
+        let _ = &self.form;
+        self.axes[j].stride as usize
     }
 
     /// How many categories each variable of the classification has.
     pub fn shape(&self) -> &Shape
         ensures { result.now ≡ self.now.shape }
     {
-        let _ = &self.cells;
+        let _ = &self.form;
         &self.shape
     }
 
-    /// An equal cube. It takes memory for the cells.
+    /// A dense cube with the same cells. It takes memory for them.
     pub fn copy(&self) -> Result<Cube, Memory>
-        ensures { IfOk result (λ cube. cube ≡ self.now) }
+        ensures { IfOk result (λ cube. cube ≡ unpacked self.now) }
     {
+        let cells = self.form.copy(self.alloc)?;
         Ok(Cube {
+            alloc: self.alloc,
             shape: self.shape.copy()?,
             vars: self.vars.copy()?,
             axes: self.axes.clone()?,
-            cells: self.cells.clone()?,
+            form: Form::Dense(cells),
         })
+    }
+
+    /// Packs a dense cube of whose cells at most a quarter aren't empty; any other stays as it is.
+    /// It takes memory for the cells that aren't empty, and where there is none the cube stays.
+    pub fn pack(&mut self) -> Result<(), Memory>
+        ensures ok { OnOk result (self.new ≡ packed self.old) }
+        ensures err { OnErr result (self.new ≡ self.old) }
+    {
+        if let Form::Dense(cells) = &self.form {
+            let filled = filled_in(cells);
+            if 4 * filled <= cells.len() {
+                let long = cells.len();
+                let kept = kept_of(self.alloc, cells, filled)?;
+                self.form = Form::Packed { long, kept };
+            }
+        }
+        Ok(())
     }
 }
 
@@ -230,11 +307,12 @@ pub fn narrow(alloc: Global, cube: &Cube, vars: &VarSet) -> Result<Cube, Memory>
     let axes = axes_of(alloc, &cube.shape, vars)?;
     let steps = steps_of(alloc, &cube.shape, &cube.vars, &axes)?;
     let long = cells_over(&cube.shape, vars, 0);
-    let cells = narrowed_cells(alloc, &cube.cells, &steps, long)?;
+    let cells = narrowed_cells(alloc, &cube.form, &steps, long)?;
     Ok(Cube {
+        alloc,
         shape: cube.shape.copy()?,
         vars: vars.copy()?,
         axes,
-        cells,
+        form: Form::Dense(cells),
     })
 }

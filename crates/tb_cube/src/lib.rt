@@ -2,22 +2,27 @@
 //!
 //! It stands on `tb_base`, `tb_model` and `tb_grid`. A cube is made of no record; records are put
 //! in a piece at a time, one by one, or by merging another cube's cells, and can be taken out
-//! again. A cube over fewer variables is made of the cells alone. Its contracts cite
-//! `Cubes.cube_of` and `narrowed` of `tb_model` (the cells of some records, and those over fewer
-//! variables), and here `specs/Cubes` (what a cube is seen as, which records it holds, and what
-//! becomes of its cells).
+//! again. A cube over fewer variables is made of the cells alone. A cube few of whose cells count
+//! any record can be packed, so that it keeps these alone. Its contracts cite `Cubes.cube_of` and
+//! `narrowed` of `tb_model` (the cells of some records, and those over fewer variables), and here
+//! `specs/Cubes` (what a cube is seen as, which records it holds, and what becomes of its cells)
+//! and `specs/Packing` (which cells a packed cube keeps).
 //!
 //! Lemmas: `proofs/Grid` (the number of a record's cell), `Adding` (records that are put in),
-//! `Changes` (one that is put in or taken out), `Leading` and `Narrowed` (cells over fewer
-//! variables); for the crates above `Walks` (what a walk over cells adds at a number), `Lists` (the
-//! lists of categories, and merges by a test of them) and `Holding` (what a caller knows of a cube
-//! that holds some records).
+//! `Tallied` (the same by tallies), `Changes` (one that is put in or taken out), `Leading` and
+//! `Narrowed` (cells over fewer variables), `Packed` (what is kept gives the cells back); for the
+//! crates above `Walks` (what a walk over cells adds at a number), `Kept` (the same from the kept
+//! cells alone), `Lists` (the lists of categories, and merges by a test of them) and `Holding` (what
+//! a caller knows of a cube that holds some records).
 #![tactic(auto)]
 
 mod axes;
 mod cube;
 mod merging;
 mod narrowing;
+mod packing;
 mod putting;
+mod tallying;
 
 pub use cube::{Cube, narrow};
+pub use packing::KeptCell;

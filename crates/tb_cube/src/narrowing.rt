@@ -1,24 +1,28 @@
 // The cells over fewer variables: a cube's cells are walked once, variable by variable, and each is
 // added to the cell to which its categories lead. A variable that isn't among the fewer leads
-// nowhere.
+// nowhere. Of packed cells those that are kept are added, each by its place.
 
 ghost use Rattle.std.specs.Prelude.{◌≡◌, ℕ, ◌+◌, ◌*◌, ◌%◌, ◌<◌, ◌≤◌, List, [], ◌∷◌, All, IfOk};
-ghost use Rattle.std.specs.Prelude.{drop, length};
+ghost use Rattle.std.specs.Prelude.{drop, length, min};
 ghost use Rattle.tb_base.specs.Cells.{empty_cell};
 ghost use Rattle.tb_base.specs.Parts.{modulus, part_at, Part};
 ghost use Rattle.tb_grid.specs.declared.products.TheConstants.{MOST_CELLS};
-ghost use Rattle.tb_cube.specs.Narrowing.{forks_of, steps_of as steps_over, stride_in};
-ghost use Rattle.tb_cube.specs.Walks.{count_of, spread, StandsAt};
+ghost use Rattle.tb_cube.specs.Forms.{cells_of, AreKept};
+ghost use Rattle.tb_cube.specs.Narrowing.{forks_of, steps_of as steps_over, stride_in, AreRuns};
+ghost use Rattle.tb_cube.specs.Walks.{count_of, kept_spread, led_to, spread, StandsAt};
 
 use crate::axes::Axis;
+use crate::packing::{Form, KeptCell};
 use std::alloc::Global;
 use tb_base::{Cell, Memory, Shape, VarSet, know_cells};
+use tb_grid::cells_over;
 
-/// A variable's number of categories, and how many cells over the fewer variables one of them leads
-/// on.
+/// A variable's number of categories, how many cells of the cube each of them has beside the
+/// categories before, and how many cells over the fewer variables one of them leads on.
 #[derive(Clone, Copy)]
 pub struct Step {
     pub count: u16,
+    pub run: u32,
     pub stride: u32,
 }
 
@@ -48,8 +52,9 @@ pub fn steps_of(
     for j in 0..vars.len() {
         let v = vars.at(j);
         let count = shape.at(v as usize);
+        let run = cells_over(shape, vars, j + 1) as u32;
         let stride = stride_of(axes, v);
-        steps.push(Step { count, stride })?;
+        steps.push(Step { count, run, stride })?;
     }
     Ok(steps)
 }
@@ -123,36 +128,98 @@ fn add_cells(all: &[Cell], steps: &[Step], cells: &mut [Cell])
     add_from(all, steps, cells, 0, 0, 0);
 }
 
+// The number to which a place leads, as far as it is below a limit.
+#[inline]
+fn number_at(steps: &[Step], place: u32, limit: usize) -> usize
+    requires runs { AreRuns steps.now }
+    requires few { limit ≤ MOST_CELLS }
+    ensures { min result limit ≡ min (led_to (forks_of steps.now) place) limit }
+{
+    let mut number = 0;
+    let mut rest = place;
+    for step in steps {
+        number += (rest / step.run) as usize * step.stride as usize;
+        rest %= step.run;
+        if number >= limit {
+            return number;
+        }
+    }
+    number
+}
+
+// Adds each kept cell at the number to which its place leads. What leads past all cells is left
+// out: there is none.
+fn add_kept(kept: &[KeptCell], steps: &[Step], cells: &mut [Cell])
+    requires runs { AreRuns steps.now }
+    requires few { length cells.old ≤ MOST_CELLS }
+    ensures { (p : Part) (i : ℕ) → i < length cells.old
+        → part_at p cells.new i % modulus p
+        ≡ (part_at p cells.old i + kept_spread (forks_of steps.now) p kept.now i) % modulus p }
+{
+    for one in kept {
+        let number = number_at(steps, one.place, cells.len());
+        if number < cells.len() {
+            cells[number].add(one.cell);
+        }
+    }
+}
+
+// Adds each cell, in either form, at the number to which its categories lead.
+fn add_form(form: &Form, steps: &[Step], cells: &mut [Cell])
+    requires kept { AreKept form.now }
+    requires whole { length (cells_of form.now) ≡ count_of (forks_of steps.now) }
+    requires small { length (cells_of form.now) ≤ MOST_CELLS }
+    requires runs { 0 < length (cells_of form.now) → AreRuns steps.now }
+    requires few { length cells.old ≤ MOST_CELLS }
+    ensures { (p : Part) (i : ℕ) → i < length cells.old
+        → part_at p cells.new i % modulus p
+        ≡ (part_at p cells.old i
+        + spread (forks_of steps.now) (part_at p (cells_of form.now)) 0 0 i) % modulus p }
+{
+    match form {
+        Form::Dense(all) => add_cells(all, steps, cells),
+        Form::Packed { long, kept } => {
+            if *long > 0 {
+                add_kept(kept, steps, cells);
+            }
+        }
+    }
+}
+
 // The same into cells that are empty.
-fn fill(all: &[Cell], steps: &[Step], cells: &mut [Cell])
-    requires whole { length all.now ≡ count_of (forks_of steps.now) }
-    requires small { length all.now ≤ MOST_CELLS }
+fn fill(form: &Form, steps: &[Step], cells: &mut [Cell])
+    requires kept { AreKept form.now }
+    requires whole { length (cells_of form.now) ≡ count_of (forks_of steps.now) }
+    requires small { length (cells_of form.now) ≤ MOST_CELLS }
+    requires runs { 0 < length (cells_of form.now) → AreRuns steps.now }
     requires few { length cells.old ≤ MOST_CELLS }
     requires empty { All (λ c. c ≡ empty_cell) cells.old }
     ensures { (p : Part) (i : ℕ) → i < length cells.old
         → part_at p cells.new i
-        ≡ spread (forks_of steps.now) (part_at p all.now) 0 0 i % modulus p }
+        ≡ spread (forks_of steps.now) (part_at p (cells_of form.now)) 0 0 i % modulus p }
 {
-    add_cells(all, steps, cells);
+    add_form(form, steps, cells);
     know_cells(cells);
 }
 
 /// So many cells, at each of which the cells that lead there are summed. It takes memory for them.
 pub fn narrowed_cells(
     alloc: Global,
-    all: &[Cell],
+    form: &Form,
     steps: &[Step],
     long: usize,
 ) -> Result<Vec<Cell>, Memory>
-    requires whole { length all.now ≡ count_of (forks_of steps.now) }
-    requires small { length all.now ≤ MOST_CELLS }
+    requires kept { AreKept form.now }
+    requires whole { length (cells_of form.now) ≡ count_of (forks_of steps.now) }
+    requires small { length (cells_of form.now) ≤ MOST_CELLS }
+    requires runs { 0 < length (cells_of form.now) → AreRuns steps.now }
     requires few { long ≤ MOST_CELLS }
     ensures many { IfOk result (λ cells. length cells.items ≡ long) }
     ensures sums { IfOk result (λ cells. (p : Part) (i : ℕ) → i < long
         → part_at p cells.items i
-        ≡ spread (forks_of steps.now) (part_at p all.now) 0 0 i % modulus p) }
+        ≡ spread (forks_of steps.now) (part_at p (cells_of form.now)) 0 0 i % modulus p) }
 {
     let mut cells = vec![in alloc; Cell::empty(); long]?;
-    fill(all, steps, &mut cells);
+    fill(form, steps, &mut cells);
     Ok(cells)
 }

@@ -6,7 +6,8 @@ ghost use Rattle.tb_grid.specs.declared.products.TheConstants.{MOST_CELLS};
 ghost use Rattle.tb_cube.specs.Axes.{LeadsBelow, with_all};
 
 use crate::axes::{Axis, number_of, offset_of};
-use tb_base::{Cell, Record};
+use crate::tallying::put_by_tallies;
+use tb_base::{Cell, MOST_TALLIED, Record};
 
 // Puts the records of a piece in, whatever the number of variables.
 fn put_by_any(cells: &mut [Cell], axes: &[Axis], piece: &[Record])
@@ -79,7 +80,9 @@ pub fn put_all(cells: &mut [Cell], axes: &[Axis], piece: &[Record])
     requires room { All (λ c. c.count + length piece.now < 2 ^ 32) cells.old }
     ensures { cells.new ≡ with_all axes.now cells.old piece.now }
 {
-    if axes.len() == 1 {
+    if cells.len() <= MOST_TALLIED {
+        put_by_tallies(cells, axes, piece);
+    } else if axes.len() == 1 {
         put_by_one(cells, axes, piece);
     } else if axes.len() == 2 {
         put_by_two(cells, axes, piece);

@@ -1,4 +1,4 @@
-use Rattle.std.proofs.Common.{◌≡◌, List, ap, sym, subst, refl, ◌∙◌, arith, All}
+use Rattle.std.proofs.Common.{◌≡◌, List, true, false, length, ap, sym, subst, refl, ◌∙◌, arith, All}
 use Rattle.std.specs.Vec.{with_items}
 use Rattle.std.proofs.lemmas.List.{with_items_is}
 use Rattle.tb_base.specs.declared.cells.Cell.{Cell}
@@ -7,31 +7,44 @@ use Rattle.tb_base.specs.Records.{Fits}
 use Rattle.tb_model.specs.Cubes.{cube_of}
 use Rattle.tb_base.specs.Parts.Part.{keys}
 use Rattle.tb_cube.specs.declared.axes.Axis.{Axis}
+use Rattle.tb_cube.specs.declared.packing.Form.{Form}
+use Rattle.tb_cube.specs.declared.packing.Form.TheVariants.{Dense}
+use Rattle.tb_cube.specs.Forms.{cells_of, is_dense, seen_as}
 use Rattle.tb_cube.specs.Cubes.{CubeValue}
-use Rattle.tb_cube.specs.Axes.{with_all}
+use Rattle.tb_cube.specs.Axes.{with_all, IsCube}
 use Rattle.tb_cube.proofs.Adding.{all-lead, put-cube, AreKeys}
 use Rattle.tb_cube.proofs.Changes.{held-added}
 use Rattle.tb_cube.proofs.cube.Cube.add_all.Goals as goal
+use Rattle.tb_cube.proofs.cube.Cube.add_all.Goals.{in-Dense, in_default}
 
 pub put_all-requires-clause-lead : goal.put_all-requires-clause-lead
 put_all-requires-clause-lead c =
-    let cube : CubeValue = record { shape = c.self.inside.shape; vars = c.self.inside.vars; cells = c.self.inside.cells.items } in
+    let cube : CubeValue = seen_as c.self.inside.shape c.self.inside.vars c.self.inside.form in
     let fit : All (Fits c.self.inside.shape) c.args.piece.now = subst (λ (v : CubeValue). All (Fits v.shape) c.args.piece.now) (sym c.self.view_is) c.requires.fit in
-    rw (c.deref_mut.ensures.value, c.deref-2.ensures.value) (all-lead cube c.self.inside.axes.items c.args.piece.now c.self.invariant fit)
+    let long : length cube.cells ≡ length c.in-Dense.cells.items = ap (λ (f : Form). length (cells_of f)) c.in-Dense.is in
+    rw (c.deref_mut.ensures.value, c.deref-in-Dense.ensures.value, ← long) (all-lead cube c.self.inside.axes.items c.args.piece.now c.self.invariant.cube fit)
 
 pub returns-clause-cells : goal.returns-clause-cells
 returns-clause-cells c =
-    let cube : CubeValue = record { shape = c.self.inside.shape; vars = c.self.inside.vars; cells = c.self.inside.cells.items } in
-    let fit : All (Fits c.self.inside.shape) c.args.piece.now = subst (λ (v : CubeValue). All (Fits v.shape) c.args.piece.now) (sym c.self.view_is) c.requires.fit in
-    let are : AreKeys c.self.inside.cells.items = λ i below. rw (← c.deref.ensures.value) (c.know_cells.ensures keys i (rw c.deref.ensures.value below)) in
-    let made : c.put_all.new.cells ≡ merged_all c.self.inside.cells.items (cube_of c.self.inside.shape c.self.inside.vars c.args.piece.now) =
-    c.put_all.ensures
-    ∙ ap (λ (axes : List Axis). with_all axes c.deref_mut.result.now c.args.piece.now) c.deref-2.ensures.value
-    ∙ ap (λ (cells : List Cell). with_all c.self.inside.axes.items cells c.args.piece.now) c.deref_mut.ensures.value
-    ∙ put-cube cube c.self.inside.axes.items c.args.piece.now c.self.invariant are fit in
-    let items : (with_items c.self.inside.cells c.put_all.new.cells).items ≡ merged_all c.self.inside.cells.items (cube_of c.self.inside.shape c.self.inside.vars c.args.piece.now) =
-    with_items_is c.self.inside.cells c.put_all.new.cells (omega (arith, c.put_all.auto.cells, c.deref_mut.ensures.len)) ∙ made in
-    rw (← c.self.view_is, items) refl
+    elim c.match-self.branch [
+      | in-Dense w ↦
+          let cube : CubeValue = seen_as c.self.inside.shape c.self.inside.vars (Dense w.in-Dense.cells) in
+          let items : List Cell = w.in-Dense.cells.items in
+          let is : IsCube cube c.self.inside.axes.items = subst (λ (f : Form). IsCube (seen_as c.self.inside.shape c.self.inside.vars f) c.self.inside.axes.items) w.in-Dense.is c.self.invariant.cube in
+          let fit : All (Fits c.self.inside.shape) c.args.piece.now = subst (λ (v : CubeValue). All (Fits v.shape) c.args.piece.now) (sym c.self.view_is) c.requires.fit in
+          let are : AreKeys items = λ i below. rw (← w.deref.ensures.value) (w.know_cells.ensures keys i (rw w.deref.ensures.value below)) in
+          let made : w.put_all.new.cells ≡ merged_all items (cube_of c.self.inside.shape c.self.inside.vars c.args.piece.now) =
+          w.put_all.ensures
+          ∙ ap (λ (axes : List Axis). with_all axes w.deref_mut.result.now c.args.piece.now) w.deref-in-Dense.ensures.value
+          ∙ ap (λ (cells : List Cell). with_all c.self.inside.axes.items cells c.args.piece.now) w.deref_mut.ensures.value
+          ∙ put-cube cube c.self.inside.axes.items c.args.piece.now is are fit in
+          let all : (with_items w.in-Dense.cells w.put_all.new.cells).items ≡ merged_all items (cube_of c.self.inside.shape c.self.inside.vars c.args.piece.now) =
+          with_items_is w.in-Dense.cells w.put_all.new.cells (omega (arith, w.put_all.auto.cells, w.deref_mut.ensures.len)) ∙ made in
+          rw (w.self-inside-is, ← c.self.view_is, w.in-Dense.is, all) refl
+      | in_default w ↦
+          let clash : false ≡ true = sym (ap is_dense w.in_default.is) ∙ ap (λ (v : CubeValue). v.dense) c.self.view_is ∙ c.requires.dense in
+          absurd (let none : ⊥ = cc in none)
+    ]
 
 pub returns-clause-held : goal.returns-clause-held
 returns-clause-held c = λ before held. held-added c.args.self.now _ before c.args.piece.now (returns-clause-cells c) held
