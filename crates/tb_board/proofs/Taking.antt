@@ -9,7 +9,7 @@ use Rattle.tb_core.specs.Turns.{hit_for}
 use Rattle.tb_core.specs.Views.{hit_of}
 use Rattle.tb_core.specs.declared.desk.Taken.{Taken}
 use Rattle.tb_core.proofs.TakeLemmas.{current_fits, taken_is}
-use Rattle.tb_cube.specs.Cubes.{CubeValue, cube_over}
+use Rattle.tb_cube.specs.Cubes.{CubeValue, cube_over, unpacked}
 use Rattle.tb_front.specs.Holders.{Name}
 use Rattle.tb_model.specs.Releases.{ReleaseValue}
 use Rattle.tb_release.specs.Chains.{release_after}
@@ -39,7 +39,7 @@ taken_at pass name desk vars taken is sound release hit = subst (λ (h : HolderV
 
 -- the cube of the release that was taken may be offered with its number
 pub may_offer : (seen : HolderValue) (asked : Option (List ℕ)) (taken : Taken) (vars : List ℕ) (n : ℕ) (cube : CubeValue) → IsTakenAt seen asked taken → n ≡ number_of taken
-    → cube ≡ cube_over seen.start.shape vars (release_in taken).records → IsCubeAt seen.start.shape seen.start.base seen.list vars n cube
+    → unpacked cube ≡ cube_over seen.start.shape vars (release_in taken).records → IsCubeAt seen.start.shape seen.start.base seen.list vars n cube
 may_offer seen asked taken vars n cube t is cube_is =
     let number : n ≡ length seen.list = is ∙ t.number in
     let long : length seen.list ≤ n = omega (arith, number) in

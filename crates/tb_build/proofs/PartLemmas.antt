@@ -1,5 +1,5 @@
 -- Parts of a list of records, and of those that are lent in pieces.
-use Rattle.std.proofs.Common.{◌≡◌, ◌∙◌, sym, ap, subst, refl, ℕ, zero, suc, ◌+◌, ◌-◌, ◌*◌, ◌<◌, ◌≤◌, List, [], ◌∷◌, ◌++◌, length, length-append, length-take, length-drop, map, take, drop, get_or, append-nil, append_assoc, add-one, inl, inr, arith}
+use Rattle.std.proofs.Common.{◌≡◌, ◌∙◌, sym, ap, subst, refl, ℕ, zero, suc, ◌+◌, ◌-◌, ◌*◌, ◌<◌, ◌≤◌, true, List, [], ◌∷◌, ◌++◌, length, length-append, length-take, length-drop, map, take, drop, get_or, append-nil, append_assoc, add-one, inl, inr, arith}
 use Rattle.std.specs.Prelude.{All, Result, Ok, Err, IfOk, MatchResult, Contains}
 use Rattle.std.specs.List.{AllZip, range_with_len}
 use Rattle.std.specs.declared.vec.Vec.{Vec}
@@ -82,7 +82,7 @@ records-more ps i h = ap (λ n. records_in (take n ps)) (add-one i) ∙ records-
 -- a cube with the records of a list merged in
 merged-more : (shape vars : List ℕ) (xs ys : List Record) → merged_with (cube_over shape vars xs) (cube_of shape vars ys) ≡ cube_over shape vars (xs ++ ys)
 merged-more shape vars xs ys =
-    ap (λ (cells : List Cell). let c : CubeValue = record { shape = shape; vars = vars; cells = cells } in c) (sym (cube_of-append shape vars xs ys))
+    ap (λ (cells : List Cell). let c : CubeValue = record { shape = shape; vars = vars; cells = cells; dense = true } in c) (sym (cube_of-append shape vars xs ys))
 
 -- the walk over one piece more
 pub walked-on : (cube next : CubeValue) (shape vars : List ℕ) (ps : List (List Record)) (i before from to : ℕ) (piece : List Record)

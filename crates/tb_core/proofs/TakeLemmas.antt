@@ -12,7 +12,7 @@ use Rattle.tb_base.specs.Sets.{includes_all}
 use Rattle.tb_cache.specs.Recency.{found}
 use Rattle.tb_cache.proofs.KeptLemmas.{all_found}
 use Rattle.tb_cache.proofs.LookLemmas.{found-wide}
-use Rattle.tb_cube.specs.Cubes.{CubeValue, Holds, cell_count, cube_over}
+use Rattle.tb_cube.specs.Cubes.{CubeValue, Holds, cell_count, cube_over, unpacked}
 use Rattle.tb_grid.specs.declared.products.TheConstants.{MOST_CELLS}
 use Rattle.tb_model.specs.Cubes.{cube_of}
 use Rattle.tb_model.specs.Releases.{ReleaseValue}
@@ -83,7 +83,7 @@ module _ (shape : List ℕ) (base : ReleaseValue) (chain : List BatchValue) (var
   pub record IsFound (hit : Hit) : Type 0 where
     pub low : hit.number ≤ number_of taken
     pub wide : includes_all (arc_value hit.cube).vars vars ≡ true
-    pub cube : arc_value hit.cube ≡ cube_over shape (arc_value hit.cube).vars (release_at base chain hit.number).records
+    pub cube : unpacked (arc_value hit.cube) ≡ cube_over shape (arc_value hit.cube).vars (release_at base chain hit.number).records
     pub pending : hit.pending ≡ drop hit.number (take (number_of taken) chain)
 
   pub is_found : (hit : Hit) → taken.hit ≡ Some hit → IsFound hit
@@ -100,7 +100,7 @@ module _ (shape : List ℕ) (base : ReleaseValue) (chain : List BatchValue) (var
   found_as hit is = ap (option_map (λ (h : Hit). ((hit_of h).cube.vars, h.number))) is
 
   -- it is the release's own where it is over these variables and of that release
-  pub own_cube : (hit : Hit) → taken.hit ≡ Some hit → (arc_value hit.cube).vars ≡ vars → hit.number ≡ number_of taken → arc_value hit.cube ≡ cube_over shape vars (release_in taken).records
+  pub own_cube : (hit : Hit) → taken.hit ≡ Some hit → (arc_value hit.cube).vars ≡ vars → hit.number ≡ number_of taken → unpacked (arc_value hit.cube) ≡ cube_over shape vars (release_in taken).records
   own_cube hit is own same =
       let f = is_found hit is in
       f.cube ∙ ap (λ (vs : List ℕ). cube_over shape vs (release_at base chain hit.number).records) own
@@ -191,7 +191,7 @@ module _ (shape : List ℕ) (base : ReleaseValue) (chain : List BatchValue) (var
   cost_anew is = ap (λ (o : Option Hit). cost_by (release_in taken) (option_map hit_of o)) is
 
   -- the release's cube is one of the chain
-  pub cube_taken : (cube : CubeValue) → cube ≡ cube_over shape vars (release_in taken).records → IsCubeAt shape base chain vars (number_of taken) cube
+  pub cube_taken : (cube : CubeValue) → unpacked cube ≡ cube_over shape vars (release_in taken).records → IsCubeAt shape base chain vars (number_of taken) cube
   cube_taken cube is = record { there = t.there; counted = is ∙ ap (λ (r : ReleaseValue). cube_over shape vars r.records) t.release_is }
 
   -- ---- whether what was found is the cube itself
@@ -201,7 +201,7 @@ module _ (shape : List ℕ) (base : ReleaseValue) (chain : List BatchValue) (var
   pub new_by : (hit : Hit) (b : Bool) → taken.hit ≡ Some hit → IsOwn hit b → is_new (number_of taken) vars (found_in taken) ≡ not b
   new_by hit b is own = ap (is_new (number_of taken) vars) (found_as hit is) ∙ ap not own
 
-  pub cube_kept : (hit : Hit) → taken.hit ≡ Some hit → IsOwn hit true → arc_value hit.cube ≡ cube_over shape vars (release_in taken).records
+  pub cube_kept : (hit : Hit) → taken.hit ≡ Some hit → IsOwn hit true → unpacked (arc_value hit.cube) ≡ cube_over shape vars (release_in taken).records
   cube_kept hit is own =
       let both = own_told (number_of taken) vars ((hit_of hit).cube.vars, hit.number) own in own_cube hit is both.0 both.1
 

@@ -6,7 +6,7 @@ use Rattle.std.specs.Coded.{Coded, code_by, coded×, coded_list, coded_ℕ}
 use Rattle.tb_base.specs.Records.{AllFit}
 use Rattle.tb_cache.specs.Recency.{CacheValue, numbers_of}
 use Rattle.tb_cache.specs.declared.TheConstants.{MOST_ENTRIES}
-use Rattle.tb_cube.specs.Cubes.{CubeValue, cube_over}
+use Rattle.tb_cube.specs.Cubes.{CubeValue, cube_over, unpacked}
 pub use Rattle.tb_delta.specs.Counting.{HasCube}
 use Rattle.tb_model.specs.Releases.{ReleaseValue, release_code}
 use Rattle.tb_release.specs.Batches.{BatchValue, batch_code}
@@ -34,11 +34,11 @@ release_at base chain n = release_after base (take n chain)
 abbrev pub current_of : DeskValue → ReleaseValue
 current_of desk = release_after desk.base desk.chain
 
--- it is the cube at release n of the chain, counted from scratch
+-- it is the cube at release n of the chain, counted from scratch, be it packed or not
 pub record IsCubeAt (shape : List ℕ) (base : ReleaseValue) (chain : List BatchValue)
     (vars : List ℕ) (n : ℕ) (cube : CubeValue) : Type 0 where
   pub there : n ≤ length chain
-  pub counted : cube ≡ cube_over shape vars (release_at base chain n).records
+  pub counted : unpacked cube ≡ cube_over shape vars (release_at base chain n).records
 
 -- release 0 and a chain on it, whose records fit the shape
 pub record IsRevised (shape : List ℕ) (base : ReleaseValue) (chain : List BatchValue) : Type 0 where

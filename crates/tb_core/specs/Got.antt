@@ -4,12 +4,12 @@ use Rattle.std.specs.Prelude.{List, Option, Some, None}
 use Rattle.std.specs.Arc.{arc_value}
 use Rattle.tb_core.specs.declared.cubes.CubeFor.{CubeFor}
 use Rattle.tb_core.specs.declared.cubes.CubeFor.TheVariants.{Kept, Made}
-use Rattle.tb_cube.specs.Cubes.{CubeValue}
+use Rattle.tb_cube.specs.Cubes.{CubeValue, unpacked}
 
--- the cube
+-- the cube, with all its cells
 abbrev pub cube_got : CubeFor → CubeValue
-cube_got (Kept cube) = arc_value cube
-cube_got (Made cube) = arc_value cube
+cube_got (Kept cube) = unpacked (arc_value cube)
+cube_got (Made cube) = unpacked cube
 
 -- whether it was made, so that it may be offered
 abbrev pub is_made : CubeFor → Bool

@@ -2,7 +2,6 @@
 
 ghost use Rattle.std.specs.Prelude.{◌≡◌, ◌↔◌, ◌+◌, ◌≤◌, ℕ, List, [], true, false, length};
 ghost use Rattle.std.specs.Prelude.{Some, IfOk, OnOk};
-ghost use Rattle.std.specs.Arc.{arc_value};
 ghost use Rattle.tb_base.specs.declared.people.TheConstants.{MOST_PERSONS};
 ghost use Rattle.tb_base.specs.declared.records.Record.{Record};
 ghost use Rattle.tb_base.specs.Records.{AllFit};
@@ -13,7 +12,7 @@ ghost use Rattle.tb_core.specs.Got.{cube_got, is_made, is_new, is_own as is_the_
 ghost use Rattle.tb_core.specs.Takes.{cost_of, cube_price, found_in, number_of, release_in};
 ghost use Rattle.tb_core.specs.Takes.{IsTaken};
 ghost use Rattle.tb_core.specs.Views.{hit_of};
-ghost use Rattle.tb_cube.specs.Cubes.{cell_count, cube_over, Holds};
+ghost use Rattle.tb_cube.specs.Cubes.{cell_count, cube_over, unpacked, Holds};
 ghost use Rattle.tb_grid.specs.declared.products.TheConstants.{MOST_CELLS};
 ghost use Rattle.tb_model.specs.Releases.{ReleaseValue};
 ghost use Rattle.tb_release.specs.Batches.{BatchValue};
@@ -33,13 +32,13 @@ use tb_release::Batches;
 #[derive(Drop)]
 pub enum CubeFor {
     Kept(Arc<Cube>),
-    Made(Arc<Cube>),
+    Made(Cube),
 }
 
 impl CubeFor {
     /// The cube.
-    pub fn cube(&self) -> &Arc<Cube>
-        ensures { arc_value result.now ≡ cube_got self.now }
+    pub fn cube(&self) -> &Cube
+        ensures { unpacked result.now ≡ cube_got self.now }
     {
         match self {
             CubeFor::Kept(cube) => cube,
@@ -71,7 +70,7 @@ pub fn cube_for<L: Ledger>(
         return lead_on(alloc, vars, taken, hit, steps);
     }
     let cube = count_all(alloc, shape, vars, &taken.release, steps)?;
-    Ok(CubeFor::Made(Arc::new(alloc, cube)?))
+    Ok(CubeFor::Made(cube))
 }
 
 /// The cube over some variables of the release that was taken, by the one that was found for them:
@@ -105,7 +104,7 @@ pub fn lead_on<L: Ledger>(
     }
     let mut cube = copy_over(alloc, &hit.cube, vars)?;
     advance_along(&mut cube, &hit.pending, steps);
-    Ok(CubeFor::Made(Arc::new(alloc, cube)?))
+    Ok(CubeFor::Made(cube))
 }
 
 // Whether a cube that was found is that of a numbered release over some variables.

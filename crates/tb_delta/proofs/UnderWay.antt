@@ -34,7 +34,7 @@ begins start release batch can = record {
   sound = can.sound;
   possible = can.follows.can.possible;
   theirs = can.follows.theirs;
-  are = of-held start release.records can.holds;
+  are = of-held start release.records can.dense can.holds;
   leads = refl;
 }
 
@@ -53,7 +53,7 @@ step_of start release batch change more cube now (edit ∷ edits) there fits sou
     let those : more ≡ changes_of (edited now edit) edits = cc in
     let here : CubeValue = cube_over start.shape start.vars now.records in
     let made : Makes here (change_of now edit) (edited now edit).records =
-    makes here (change_of now edit) now.records (edited now edit).records (spot now edit sound possible.0) there (subst (ChangeFits start.shape) this fits) refl in
+    makes here (change_of now edit) now.records (edited now edit).records (spot now edit sound possible.0) there (subst (ChangeFits start.shape) this fits) refl refl in
     let next : changed now change ≡ edited now edit = ap (changed now) this ∙ changed-change_of now edit sound.distinct possible.0 in record {
       can = subst (λ (c : CubeValue). CanMake c change) (sym are) (subst (CanMake here) (sym this) made.can);
       goes = λ new is. record {

@@ -26,7 +26,7 @@ fn make(cube: &mut Cube, change: &Change)
 ///
 /// The counter rises by how many changes there are. It takes no memory.
 pub fn advance<L: Ledger>(cube: &mut Cube, batch: &Batch, steps: &mut Steps<L>)
-    // The cube is that of some release, and the batch follows it.
+    // The cube is dense and that of some release, and the batch follows it.
     requires release { (release : ReleaseValue) × CanAdvance cube.old batch.now release }
     requires fit { All (ChangeFits cube.old.shape) batch.now.changes }
     // Of whatever release it was, it is that of the release after it.

@@ -1,20 +1,33 @@
 -- The loop over the categories of a variable of the cube, on the way down to the last that the plan uses.
-use Rattle.std.proofs.Common.{◌≡◌, ℕ, ◌+◌, ◌*◌, ◌%◌, ◌<◌, List, length, drop, get_or, ap, sym, ◌∙◌, arith}
+use Rattle.std.proofs.Common.{◌≡◌, ℕ, ◌+◌, ◌*◌, ◌%◌, ◌<◌, ◌≤◌, List, length, drop, get_or, ap, sym, ◌∙◌, arith}
 use Rattle.std.specs.Prelude.{slice_index, All}
 use Rattle.std.specs.List.{sum_by, range_with_len}
 use Rattle.tb_grid.specs.declared.products.TheConstants.{MOST_CELLS}
-use Rattle.tb_cube.specs.Cubes.{CubeValue}
+use Rattle.tb_query.specs.declared.limits.TheConstants.{MOST_PLACES}
+use Rattle.tb_cube.specs.Cubes.{CubeValue, IsWhole}
 use Rattle.tb_base.proofs.PartLemmas.{add-more, nothing}
 use Rattle.tb_plan.specs.Plans.{PlanValue}
 use Rattle.tb_plan.specs.Steps.{step_at}
 use Rattle.tb_rollup.specs.Rolling.{spread, Stands}
 use Rattle.tb_cube.proofs.Walks.{sum-next}
-use Rattle.tb_rollup.proofs.Spread.{level-at, spread-more, spread-past, Level}
+use Rattle.tb_rollup.proofs.Spread.{count_of, level-at, spread-more, spread-past, Level}
 
 -- a variable of the cube is one of its shape
 pub there-in : (cube : CubeValue) (vars : List ℕ) (j v : ℕ) → All (λ w. w < length cube.shape) cube.vars → vars ≡ cube.vars
     → v ≡ get_or vars j 0 → j < length cube.vars → v < length cube.shape
 there-in cube vars j v there same at below = rw (at, same) (there j 0 below)
+
+-- a roll-up begins before the first variable
+pub stands-start : (cube : CubeValue) (plan : PlanValue) (cells : ℕ) → IsWhole cube → cube.shape ≡ plan.shape → 0 < length cube.cells → 0 < cells → cells ≤ MOST_PLACES
+    → length cube.cells ≡ count_of plan cube.vars → Stands cube plan cells 0 0 0
+stands-start cube plan cells whole shape full some few long = record {
+  shape = shape;
+  whole = omega (arith, long);
+  some = omega (arith, long, full);
+  small = whole.few;
+  low = some;
+  few = few;
+}
 
 -- the loop stands before the variable j of the cube, which is v and has n categories
 pub record Descent (cube : CubeValue) (plan : PlanValue) (cells j k base v n : ℕ) : Type 0 where

@@ -4,4 +4,5 @@ pub mod Descent
 pub mod Own
 pub mod Spread
 pub mod Tables
+pub mod ToCome
 pub mod Zipped

@@ -10,7 +10,7 @@ use Rattle.tb_plan.specs.Plans.{PlanValue, DimensionValue, ConditionValue, uses,
 use Rattle.tb_plan.specs.Steps.{dimension_step, filter_step, step_at}
 use Rattle.tb_cube.specs.Cubes.{cell_count}
 use Rattle.tb_cube.specs.Walks.{count_of as count_by}
-use Rattle.tb_cube.proofs.Walks.{inside-row, room-row, second-factor, spread-end, spread-more as one-fork, spread-none as none-none, spread-past as past-none, sum-next}
+use Rattle.tb_cube.proofs.Walks.{inside-row, room-row, second-factor, spread-end, spread-more as one-fork, spread-none as none-none, spread-past as past-none, sum-rows}
 use Rattle.tb_rollup.specs.Rolling.{forks_of, spread, AreUnused}
 
 -- how many cells a cube over some variables has
@@ -47,23 +47,6 @@ spread-more plan v vs f k base i = one-fork (record { count = slice_index plan.s
 -- a number past a place adds nothing there
 pub spread-past : (plan : PlanValue) (vs : List ℕ) (f : ℕ → ℕ) (k base i : ℕ) → i < base → spread plan vs f k base i ≡ 0
 spread-past plan vs f k base i past = past-none (forks_of plan vs) f k base i past
-
-sum-join : (f : ℕ → ℕ) (a m : ℕ) → sum_by f (range_with_len 0 (m + a)) ≡ sum_by f (range_with_len 0 m) + sum_by (λ r. f (m + r)) (range_with_len 0 a)
-sum-join f zero m = let e : m + 0 ≡ m = omega arith in rw e (omega arith)
-sum-join f (suc a) m =
-    let e : m + suc a ≡ m + a + 1 = omega arith in
-    let s : suc a ≡ a + 1 = omega arith in
-    let left : sum_by f (range_with_len 0 (m + suc a)) ≡ sum_by f (range_with_len 0 (m + a)) + f (m + a) = ap (λ j. sum_by f (range_with_len 0 j)) e ∙ sum-next f (m + a) in
-    let right : sum_by (λ r. f (m + r)) (range_with_len 0 (suc a)) ≡ sum_by (λ r. f (m + r)) (range_with_len 0 a) + f (m + a) = ap (λ j. sum_by (λ r. f (m + r)) (range_with_len 0 j)) s ∙ sum-next (λ r. f (m + r)) a in
-    left ∙ ap (λ x. x + f (m + a)) (sum-join f a m) ∙ (let turn : sum_by f (range_with_len 0 m) + sum_by (λ r. f (m + r)) (range_with_len 0 a) + f (m + a) ≡ sum_by f (range_with_len 0 m) + (sum_by (λ r. f (m + r)) (range_with_len 0 a) + f (m + a)) = omega arith in turn) ∙ ap (λ x. sum_by f (range_with_len 0 m) + x) (sym right)
-
-pub sum-rows : (f : ℕ → ℕ) (n m : ℕ) → sum_by f (range_with_len 0 (n * m)) ≡ sum_by (λ c. sum_by (λ r. f (c * m + r)) (range_with_len 0 m)) (range_with_len 0 n)
-sum-rows f zero m = let e : 0 * m ≡ 0 = omega arith in ap (λ j. sum_by f (range_with_len 0 j)) e
-sum-rows f (suc n) m =
-    let row : ℕ → ℕ = λ c. sum_by (λ r. f (c * m + r)) (range_with_len 0 m) in
-    let e : suc n * m ≡ n * m + m = omega arith in
-    let s : suc n ≡ n + 1 = omega arith in
-    ap (λ j. sum_by f (range_with_len 0 j)) e ∙ sum-join f m (n * m) ∙ ap (λ x. x + row n) (sum-rows f n m) ∙ sym (ap (λ j. sum_by row (range_with_len 0 j)) s ∙ sum-next row n)
 
 -- variables that aren't used make one run
 pub spread-unused : (plan : PlanValue) (vs : List ℕ) (f : ℕ → ℕ) (k base i : ℕ) → AreUnused plan vs

@@ -1,9 +1,12 @@
 -- What a roll-up adds at each place, variable by variable.
-use Rattle.std.specs.Prelude.{◌≡◌, ◌+◌, ◌*◌, ◌==◌, ◌<◌, ◌≤◌, ℕ, cond, false}
-use Rattle.std.specs.Prelude.{List, [], ◌∷◌, length, drop, slice_index}
+use Rattle.std.specs.Prelude.{◌≡◌, ◌+◌, ◌*◌, ◌%◌, ◌==◌, ◌<◌, ◌≤◌, ℕ, cond, false, nat_lt}
+use Rattle.std.specs.Prelude.{if◌then◌else◌, List, [], ◌∷◌, length, drop, slice_index}
 use Rattle.std.specs.List.{sum_by, range_with_len}
 use Rattle.tb_cube.specs.Cubes.{cell_count, CubeValue}
-use Rattle.tb_cube.specs.Walks.{spread as spread_by, Fork}
+use Rattle.tb_base.specs.declared.cells.Cell.{Cell}
+use Rattle.tb_base.specs.Parts.{modulus, part_at, Part}
+use Rattle.tb_cube.specs.declared.packing.KeptCell.{KeptCell}
+use Rattle.tb_cube.specs.Walks.{kept_spread, led_to, spread as spread_by, Fork}
 use Rattle.tb_grid.specs.declared.products.TheConstants.{MOST_CELLS}
 use Rattle.tb_plan.specs.Plans.{PlanValue, uses}
 use Rattle.tb_plan.specs.Steps.{step_at, steps_of}
@@ -53,3 +56,37 @@ pub record Stands (cube : CubeValue) (plan : PlanValue) (cells j k base : ℕ) :
   pub small : length cube.cells ≤ MOST_CELLS
   pub low : base < cells
   pub few : cells ≤ MOST_PLACES
+
+-- kept cells in order of place, from a first place on and below another
+abbrev pub AreBetween : ℕ → ℕ → List KeptCell → Type 0
+AreBetween from to [] = Unit {0}
+AreBetween from to (k ∷ ks) = (from ≤ k.place) × (k.place < to) × AreBetween (k.place + 1) to ks
+
+-- of kept cells in order those before a place, and those from it on
+abbrev pub kept_before : ℕ → List KeptCell → List KeptCell
+kept_before end [] = []
+kept_before end (k ∷ ks) = if nat_lt k.place end then k ∷ kept_before end ks else []
+
+abbrev pub kept_after : ℕ → List KeptCell → List KeptCell
+kept_after end [] = []
+kept_after end (k ∷ ks) = if nat_lt k.place end then kept_after end ks else k ∷ ks
+
+-- kept cells were added to a table's cells, each at the number to which its place leads, up to some
+-- that are left
+abbrev pub AreAdded :
+    PlanValue → List ℕ → List KeptCell → List Cell → List KeptCell → List Cell → Type 0
+AreAdded plan vars kept old left new =
+    (p : Part) (i : ℕ) → i < length old
+    → (part_at p new i + kept_spread (forks_of plan vars) p left i) % modulus p
+    ≡ (part_at p old i + kept_spread (forks_of plan vars) p kept i) % modulus p
+
+-- where a roll-up of a packed cube stands: with these kept cells to come
+pub record StandsBefore (cube : CubeValue) (plan : PlanValue) (cells j k base : ℕ)
+    (kept : List KeptCell) : Type 0 where
+  pub stands : Stands cube plan cells j k base
+  pub leads :
+      (r : ℕ) → r < cell_count plan.shape (drop j cube.vars)
+      → led_to (forks_of plan cube.vars) (k * cell_count plan.shape (drop j cube.vars) + r)
+      ≡ base + led_to (forks_of plan (drop j cube.vars)) r
+  pub to_come :
+      AreBetween (k * cell_count plan.shape (drop j cube.vars)) (length cube.cells) kept

@@ -1,10 +1,10 @@
-// A cube walked once, variable by variable, down to the last one that the plan uses. The steps of
-// the categories add up to the number of a place, and what is past all places fails a filter.
+// A dense cube walked once, variable by variable, down to the last one that the plan uses. The
+// steps of the categories add up to the number of a place, and what is past all places fails a
+// filter.
 
-ghost use Rattle.std.specs.Prelude.{◌≡◌, ℕ, ◌+◌, ◌-◌, ◌%◌, ◌<◌, ◌≤◌, List, false, true, All};
-ghost use Rattle.std.specs.Prelude.{drop, length, slice_index, MatchOption};
+ghost use Rattle.std.specs.Prelude.{◌≡◌, ℕ, ◌+◌, ◌-◌, ◌%◌, ◌<◌, ◌≤◌, List, true, All};
+ghost use Rattle.std.specs.Prelude.{drop, length};
 ghost use Rattle.std.specs.List.{sum_by};
-ghost use Rattle.std.specs.Option.{IfSome};
 ghost use Rattle.tb_base.specs.declared.people.TheConstants.{MOST_PERSONS};
 ghost use Rattle.tb_base.specs.declared.records.Record.{Record};
 ghost use Rattle.tb_base.specs.Cells.{empty_cell};
@@ -16,58 +16,22 @@ ghost use Rattle.tb_model.specs.Cubes.{rolled_up};
 ghost use Rattle.tb_model.specs.Places.{cells_of};
 ghost use Rattle.tb_model.specs.Queries.{QueryValue};
 ghost use Rattle.tb_model.specs.Schemas.{SchemaValue};
-ghost use Rattle.tb_plan.specs.Plans.{place_count, plan_of, uses, vars_of};
-ghost use Rattle.tb_plan.specs.Steps.{steps_of};
+ghost use Rattle.tb_plan.specs.Plans.{place_count, plan_of, vars_of};
 ghost use Rattle.tb_query.specs.declared.limits.TheConstants.{MOST_PLACES};
-ghost use Rattle.tb_rollup.specs.Rolling.{spread, AreUnused, IsLast, Stands};
+ghost use Rattle.tb_rollup.specs.Rolling.{spread, IsLast, Stands};
 
+use crate::packed::roll_packed;
 use crate::runs::add_runs;
+use crate::steps::{Last, last_used, next, steps_if_used};
 use tb_base::{Cell, know_cells};
 use tb_cube::Cube;
-use tb_grid::cells_over;
 use tb_plan::Plan;
-
-/// The last variable of a cube that a plan uses: its place among the cube's variables, the steps of
-/// its categories, and how many cells each category has.
-#[derive(Clone, Copy)]
-struct Last<'a> {
-    at: usize,
-    steps: &'a [u32],
-    run: usize,
-}
-
-// The steps of a variable's categories, if the plan uses it.
-#[inline]
-fn steps_if_used(plan: &Plan, v: u16) -> Option<&[u32]>
-    requires { v < length plan.now.shape }
-    ensures { MatchOption result (uses plan.now v ≡ false)
-        (λ steps. steps.now ≡ steps_of plan.now v) }
-{
-    if plan.uses(v) {
-        Some(plan.steps(v))
-    } else {
-        None
-    }
-}
-
-// The number after a category, where these are its variable's steps.
-#[inline]
-fn next(steps: Option<&[u32]>, c: usize, base: usize) -> usize
-    requires category { IfSome steps (λ s. c < length s.now) }
-    requires few { base ≤ MOST_PLACES }
-    ensures { MatchOption steps.entry (result ≡ base)
-        (λ s. result ≡ base + slice_index s.now c) }
-{
-    match steps {
-        Some(steps) => base + steps[c] as usize,
-        None => base,
-    }
-}
 
 // Adds each cell of the cube whose categories before the last variable have the place k, where
 // those categories lead to `base`. What leads past all places is left out.
 #[inline]
 fn roll_last(cube: &Cube, plan: &Plan, last: &Last, cells: &mut [Cell], k: usize, base: usize)
+    requires dense { cube.now.dense ≡ true }
     requires last { IsLast plan.now cube.now.vars last.now.at last.now.steps.now last.now.run }
     requires stands { Stands cube.now plan.now (length cells.old) last.now.at k base }
     ensures { (p : Part) (i : ℕ) → i < length cells.old
@@ -91,6 +55,7 @@ fn roll_rows(
     k: usize,
     base: usize,
 )
+    requires dense { cube.now.dense ≡ true }
     requires last { IsLast plan.now cube.now.vars last.now.at last.now.steps.now last.now.run }
     requires depth { j + 1 ≡ last.now.at }
     requires stands { Stands cube.now plan.now (length cells.old) j k base }
@@ -121,6 +86,7 @@ fn roll_from(
     k: usize,
     base: usize,
 )
+    requires dense { cube.now.dense ≡ true }
     requires last { IsLast plan.now cube.now.vars last.now.at last.now.steps.now last.now.run }
     requires depth { j < last.now.at }
     requires stands { Stands cube.now plan.now (length cells.old) j k base }
@@ -145,20 +111,32 @@ fn roll_from(
     }
 }
 
-// How many of the cube's variables there are up to the last that the plan uses.
-fn used_part(cube: &Cube, plan: &Plan) -> usize
-    ensures within { result ≤ length cube.now.vars }
-    ensures last { 0 < result → uses plan.now (slice_index cube.now.vars (result - 1)) ≡ true }
-    ensures rest { AreUnused plan.now (drop result cube.now.vars) }
+// Adds each cell of a dense cube at the number to which it leads.
+fn roll_dense(cube: &Cube, plan: &Plan, cells: &mut [Cell])
+    requires dense { cube.now.dense ≡ true }
+    requires shape { cube.now.shape ≡ plan.now.shape }
+    requires full { 0 < length cube.now.cells }
+    requires some { 0 < length cells.old }
+    requires few { length cells.old ≤ MOST_PLACES }
+    ensures { (p : Part) (i : ℕ) → i < length cells.old
+        → part_at p cells.new i % modulus p
+        ≡ (part_at p cells.old i
+        + spread plan.now cube.now.vars (part_at p cube.now.cells) 0 0 i) % modulus p }
 {
-    let mut part = cube.vars().len();
-    while part > 0 && !plan.uses(cube.vars().at(part - 1)) {
-        part -= 1;
+    // Its clause tells that the cube is whole.
+    let long = cube.cells();
+    let Some(last) = last_used(cube, plan) else {
+        add_runs(cube.as_slice(), 0, &[0], long, 0, cells);
+        return;
+    };
+    if last.at == 0 {
+        roll_last(cube, plan, &last, cells, 0, 0);
+    } else {
+        roll_from(cube, plan, &last, cells, 0, 0, 0);
     }
-    part
 }
 
-// Adds each cell of the cube at the number to which it leads.
+// Adds each cell of the cube, in either form, at the number to which it leads.
 fn roll(cube: &Cube, plan: &Plan, cells: &mut [Cell])
     requires shape { cube.now.shape ≡ plan.now.shape }
     requires some { 0 < length cells.old }
@@ -171,21 +149,9 @@ fn roll(cube: &Cube, plan: &Plan, cells: &mut [Cell])
     if cube.cells() == 0 {
         return;
     }
-    let part = used_part(cube, plan);
-    let run = cells_over(cube.shape(), cube.vars(), part);
-    if part == 0 {
-        add_runs(cube.as_slice(), 0, &[0], run, 0, cells);
-        return;
-    }
-    let last = Last {
-        at: part - 1,
-        steps: plan.steps(cube.vars().at(part - 1)),
-        run,
-    };
-    if last.at == 0 {
-        roll_last(cube, plan, &last, cells, 0, 0);
-    } else {
-        roll_from(cube, plan, &last, cells, 0, 0, 0);
+    match cube.kept_cells() {
+        None => roll_dense(cube, plan, cells),
+        Some(kept) => roll_packed(cube, plan, kept, cells),
     }
 }
 

@@ -1,14 +1,13 @@
 // A query's table over the release that a pass takes.
 
 ghost use Rattle.std.specs.Prelude.{◌≡◌, ◌≢◌, ◌+◌, ◌≤◌, IfOk, List, None, length};
-ghost use Rattle.std.specs.Arc.{arc_value};
 ghost use Rattle.tb_base.specs.Records.{AllFit};
 ghost use Rattle.tb_base.specs.declared.var_set.TheConstants.{VARIABLES_IN_PLACE};
 ghost use Rattle.tb_board.specs.Holders.{release_seen, IsChainSeen};
 ghost use Rattle.tb_core.specs.Desks.{HasCube};
 ghost use Rattle.tb_core.specs.Got.{cube_got};
 ghost use Rattle.tb_core.specs.Takes.{cube_price, release_in, IsTaken};
-ghost use Rattle.tb_cube.specs.Cubes.{cube_over};
+ghost use Rattle.tb_cube.specs.Cubes.{cube_over, unpacked};
 ghost use Rattle.tb_core.specs.Desks.{IsCubeAt};
 ghost use Rattle.tb_front.specs.Holders.{IsLater};
 ghost use Rattle.tb_model.specs.Places.{cells_of};
@@ -42,7 +41,8 @@ use tb_text::{PreparedTable, Setup};
 
 // The cells of a plan's table over a release, rolled up from the cube of the plan's variables.
 fn roll_up(alloc: Global, cube: &Cube, plan: &Plan, release: &Release) -> Result<Vec<Cell>, Memory>
-    requires cube { cube.now ≡ cube_over plan.now.shape (vars_of plan.now) release.now.records }
+    requires cube { unpacked cube.now
+        ≡ cube_over plan.now.shape (vars_of plan.now) release.now.records }
     requires fit { AllFit plan.now.shape release.now.records }
     ensures cells { (schema : SchemaValue) (query : QueryValue) → plan.now ≡ plan_of schema query
         → IfOk result (λ cells. cells.items ≡ cells_of schema query release.now.records) }
@@ -97,26 +97,41 @@ fn cube_of<R: Threads + Sync, G: Gate, L: Ledger>(
         return lead_on(alloc, vars, taken, hit, steps);
     }
     let cube = build(rt, alloc, shape, &taken.release, vars, gate, steps)?;
-    Ok(CubeFor::Made(Arc::new(alloc, cube)?))
+    Ok(CubeFor::Made(cube))
 }
 
-// Offers a cube to the board.
+// Packs a cube where that pays. Where the memory for it is refused, the cube stays as it is.
+fn pack(cube: &mut Cube)
+    ensures { unpacked cube.new ≡ unpacked cube.old }
+{
+    match cube.pack() {
+        Ok(()) => {}
+        Err(_) => {}
+    }
+}
+
+// Offers a cube to the board, packed where that pays. Where the memory for what holds it is refused,
+// it isn't kept.
 fn offer<B: Named>(
     rt: &impl Wait,
+    alloc: Global,
     board: &Board<B>,
     pass: &mut Pass<Step>,
     vars: &VarSet,
     number: u32,
-    cube: Arc<Cube>,
+    mut cube: Cube,
 )
     requires name { pass.old.name ≡ B.name }
     requires few { length vars.now ≤ VARIABLES_IN_PLACE }
     requires cube { IsCubeAt pass.old.start.shape pass.old.start.base pass.old.list vars.now number
-        (arc_value cube) }
+        cube }
     ensures { pass.new ≡ pass.old }
 {
-    let vars = vars.copy_in_place();
-    board.offer(rt, pass, Offer { vars, number, cube });
+    pack(&mut cube);
+    if let Ok(cube) = Arc::new(alloc, cube) {
+        let vars = vars.copy_in_place();
+        board.offer(rt, pass, Offer { vars, number, cube });
+    }
 }
 
 // The cells of a table, and the number of the release over which they were counted.
@@ -152,7 +167,7 @@ fn count_by_cube<B: Named, R: Threads + Wait + Sync, G: Gate, L: Ledger>(
     let number = taken.release.number();
     match got {
         CubeFor::Kept(_cube) => {}
-        CubeFor::Made(cube) => offer(rt, board, pass, plan.vars(), number, cube),
+        CubeFor::Made(cube) => offer(rt, alloc, board, pass, plan.vars(), number, cube),
     }
     Ok(Counted { number, cells })
 }
@@ -223,7 +238,7 @@ fn shape_in(setup: &Setup) -> &Shape
 /// A query's table over the release that the pass takes. It is rolled up from the cube of its
 /// variables: the one that the board keeps, narrowed where it has more variables and advanced where
 /// it is of an earlier release, or a new one, for which the records are lent once; a cube that is
-/// made is offered to the board. Where a cube would have too many cells, the table is counted from
+/// made is packed where that pays and offered to the board. Where a cube would have too many cells, the table is counted from
 /// the records, which are lent once. It takes memory for the plan, a cube that is made, the cells,
 /// and all that the writing needs.
 pub(crate) fn print_table<'a, B: Named, R: Threads + Wait + Sync, G: Gate, L: Ledger>(

@@ -9,6 +9,9 @@ use Rattle.tb_build.proofs.PartLemmas.{All-between, records-more, room-for, walk
 use Rattle.std.proofs.Common.{length-append, ◌∙◌}
 use Rattle.tb_build.proofs.walking.walk.Goals as goal
 
+pub add_all-requires-clause-dense : goal.add_all-requires-clause-dense
+add_all-requires-clause-dense c = ap (λ (cube : CubeValue). cube.dense) c.loop-i.invariant.cube
+
 pub add_all-requires-clause-fit : goal.add_all-requires-clause-fit
 add_all-requires-clause-fit c =
     let shape : c.loop-i.cube.shape ≡ c.args.cube.now.shape = ap (λ (cube : CubeValue). cube.shape) c.loop-i.invariant.cube in

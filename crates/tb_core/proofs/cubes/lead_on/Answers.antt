@@ -2,6 +2,7 @@ use Rattle.std.proofs.Common.{◌≡◌, true, false, ◌∙◌, ap, refl, sym, 
 use Rattle.tb_core.specs.Desks.{release_at}
 use Rattle.tb_core.specs.Got.{is_own}
 use Rattle.tb_core.specs.Views.{hit_of}
+use Rattle.tb_cube.specs.Cubes.{unpacked}
 use Rattle.tb_model.specs.Releases.{ReleaseValue}
 use Rattle.tb_core.proofs.TakeLemmas.{can_follow_on, copied, cost_kept, cube_kept, few_cells, holds_some, follows_on, new_by, none_missing, own_by, wide_found}
 use Rattle.tb_core.proofs.cubes.lead_on.Goals as goal
@@ -19,7 +20,7 @@ pub returns-then-is_own-clause-cube : goal.returns-then-is_own-clause-cube
 returns-then-is_own-clause-cube g c = λ shape base chain t.
     let number = c.number.ensures ∙ ap (λ (r : ReleaseValue). r.number) c.deref.ensures in
     let own = ap (λ n. is_own n c.args.vars.now ((hit_of c.args.hit.now).cube.vars, c.args.hit.now.number)) (sym number) ∙ sym c.if-is_own.ensures in
-    c.in_ok-try_clone.ensures ∙ cube_kept shape base chain c.args.vars.now c.args.taken.now t c.args.hit.now c.requires.hit own
+    ap unpacked c.in_ok-try_clone.ensures ∙ cube_kept shape base chain c.args.vars.now c.args.taken.now t c.args.hit.now c.requires.hit own
 
 pub returns-then-is_own-clause-made : goal.returns-then-is_own-clause-made
 returns-then-is_own-clause-made g c =
@@ -61,9 +62,8 @@ pub returns-clause-cube : goal.returns-clause-cube
 returns-clause-cube g c = λ shape base chain t.
     let same = copied shape base chain c.args.vars.now c.args.taken.now t c.args.hit.now c.deref-2.result.now c.in_ok-cube.cube c.requires.hit c.deref-2.ensures c.in_ok-cube.ensures in
     let can = can_follow_on shape base chain c.args.vars.now c.args.taken.now t c.args.hit.now c.in_ok-cube.cube c.requires.hit same in
-    c.in_ok-new.ensures.ok
-    ∙ follows_on shape base chain c.args.vars.now c.args.taken.now t c.args.hit.now c.in_ok-cube.cube c.advance_along.new.cube c.requires.hit same
-    (c.advance_along.ensures.cube (release_at base chain c.args.hit.now.number) can)
+    ap unpacked (follows_on shape base chain c.args.vars.now c.args.taken.now t c.args.hit.now c.in_ok-cube.cube c.advance_along.new.cube c.requires.hit same
+    (c.advance_along.ensures.cube (release_at base chain c.args.hit.now.number) can))
 
 pub returns-clause-made : goal.returns-clause-made
 returns-clause-made g c =

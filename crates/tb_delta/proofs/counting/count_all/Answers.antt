@@ -8,6 +8,9 @@ use Rattle.tb_cube.specs.Cubes.{CubeValue, cube_over}
 use Rattle.tb_delta.proofs.Pieces.{All-piece, cube-room, pieces-fit}
 use Rattle.tb_delta.proofs.counting.count_all.Goals as goal
 
+pub add_all-requires-clause-dense : goal.add_all-requires-clause-dense
+add_all-requires-clause-dense g c = ap (λ (cube : CubeValue). cube.dense) c.loop-i.invariant
+
 pub add_all-requires-clause-room : goal.add_all-requires-clause-room
 add_all-requires-clause-room g c =
     let lent = c.lend-lent.result in

@@ -94,4 +94,4 @@ roll_from-requires t c =
     c.vars.result.now c.shape.result.now below c.requires.stands c.vars.ensures.vars c.shape.ensures c.at-v.ensures c.at-n.ensures in
     let stands = stands-next c.args.cube.now c.args.plan.now (length c.args.cells.now) c.args.j c.args.k c.args.base c.at-v.result
     c.at-n.result d c.loop-c.c c.next-to.result (length c.loop-c.cells) c.loop-c-test.true c.loop-c.auto.cells c.if-to-cells.true in
-    (omega (arith, c.requires.depth), (c.requires.last, (omega (arith, c.requires.depth, c.if-j-last.false), stands)))
+    (omega (arith, c.requires.depth), (c.requires.dense, (c.requires.last, (omega (arith, c.requires.depth, c.if-j-last.false), stands))))

@@ -97,4 +97,4 @@ roll_last-requires c =
     c.vars.result.now c.shape.result.now below c.requires.stands c.vars.ensures.vars c.shape.ensures c.at-v.ensures c.at-n.ensures in
     let stands = stands-next c.args.cube.now c.args.plan.now (length c.args.cells.now) c.args.j c.args.k c.args.base c.at-v.result
     c.at-n.result d c.loop-c.c c.next-to.result (length c.loop-c.cells) c.loop-c-test.true c.loop-c.auto.cells c.if-to-cells.true in
-    record { last = c.requires.last; stands = subst (λ a. Stands c.args.cube.now c.args.plan.now (length c.loop-c.cells) a (c.args.k * c.at-n.result + c.loop-c.c) c.next-to.result) c.requires.depth stands }
+    record { dense = c.requires.dense; last = c.requires.last; stands = subst (λ a. Stands c.args.cube.now c.args.plan.now (length c.loop-c.cells) a (c.args.k * c.at-n.result + c.loop-c.c) c.next-to.result) c.requires.depth stands }

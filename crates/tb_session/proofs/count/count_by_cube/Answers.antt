@@ -1,10 +1,9 @@
 use Rattle.std.proofs.Common.{◌≡◌, ◌∙◌, ap, sym, List, ℕ, Some}
-use Rattle.std.specs.Arc.{arc_value}
 use Rattle.tb_board.specs.Starts.{StartValue}
 use Rattle.tb_board.proofs.Taking.{may_offer, taken_for}
 use Rattle.tb_core.specs.Got.{cube_got}
 use Rattle.tb_core.specs.Takes.{number_of, release_in}
-use Rattle.tb_cube.specs.Cubes.{cube_over}
+use Rattle.tb_cube.specs.Cubes.{cube_over, unpacked}
 use Rattle.tb_session.proofs.Cubed.{has-cube}
 use Rattle.tb_session.proofs.count.count_by_cube.Goals as goal
 
@@ -25,10 +24,10 @@ offer-requires-clause-cube g c =
     let taken = c.in_ok-taken.taken in
     let shape : seen.start.shape ≡ c.args.shape.now = ap (λ (s : StartValue). s.shape) c.in_ok-taken.ensures.later.base ∙ c.requires.own.fits in
     let vars : c.vars-2.result.now ≡ c.vars-in-Made.result.now = c.vars-2.ensures.vars ∙ sym c.vars-in-Made.ensures.vars in
-    let number : c.number-number.result ≡ number_of taken = c.number-number.ensures ∙ ap (λ r. r.number) c.deref-3.ensures in
-    let cube : arc_value c.in-Made.cube ≡ cube_over seen.start.shape c.vars-in-Made.result.now (release_in taken).records =
+    let number : c.number-number.result ≡ number_of taken = c.number-number.ensures ∙ ap (λ r. r.number) c.deref-2.ensures in
+    let cube : unpacked c.in-Made.cube ≡ cube_over seen.start.shape c.vars-in-Made.result.now (release_in taken).records =
     sym (ap cube_got c.in-Made.is)
     ∙ c.in_ok-got.ensures.cube
     ∙ ap (λ (s : List ℕ). cube_over s c.vars-2.result.now (release_in taken).records) (sym shape)
     ∙ ap (λ (vs : List ℕ). cube_over seen.start.shape vs (release_in taken).records) vars in
-    may_offer seen (Some c.vars.result.now) taken c.vars-in-Made.result.now c.number-number.result (arc_value c.in-Made.cube) c.in_ok-taken.ensures.taken number cube
+    may_offer seen (Some c.vars.result.now) taken c.vars-in-Made.result.now c.number-number.result c.in-Made.cube c.in_ok-taken.ensures.taken number cube

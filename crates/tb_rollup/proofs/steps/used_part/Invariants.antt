@@ -1,6 +1,6 @@
 use Rattle.std.proofs.Common.{◌≤◌, length, drop}
 use Rattle.tb_rollup.specs.Rolling.{AreUnused}
-use Rattle.tb_rollup.proofs.walk.used_part.Given as goal
+use Rattle.tb_rollup.proofs.steps.used_part.Given as goal
 
 abbrev pub invariant-loop-part : goal.invariant-loop-part
 invariant-loop-part l = record {
