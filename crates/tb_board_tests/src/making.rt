@@ -1,6 +1,7 @@
 // The opening of a board over the small setup, edits, and a set of variables.
 
-ghost use Rattle.std.specs.Prelude.{◌≡◌, All, IfOk};
+ghost use Rattle.std.specs.Prelude.{◌≡◌, ◌≤◌, All, IfOk, length};
+ghost use Rattle.tb_base.specs.declared.var_set.TheConstants.{VARIABLES_IN_PLACE};
 ghost use Rattle.tb_core.specs.Desks.{HasCube};
 ghost use Rattle.tb_model.specs.Schemas.{shape_of};
 ghost use Rattle.tb_release.specs.Laws.{EditFits};
@@ -35,7 +36,8 @@ pub fn leaving(alloc: Global, shape: &Shape, person: u32) -> Result<Edits, Memor
 
 // The set of the first two variables, over which there is a cube.
 pub fn first_two(alloc: Global, shape: &Shape) -> Result<VarSet, Memory>
-    ensures { IfOk result (HasCube shape.now) }
+    ensures has { IfOk result (HasCube shape.now) }
+    ensures few { IfOk result (λ vars. length vars ≤ VARIABLES_IN_PLACE) }
 {
     let vars = VarSet::of(alloc, &[0, 1])?;
     if shape.len() < 2 || cells_over(shape, &vars, 0) > MOST_CELLS {

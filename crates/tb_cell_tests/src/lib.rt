@@ -12,6 +12,10 @@ mod cubes;
 #[cfg(test)]
 mod event_runs;
 #[cfg(test)]
+mod packed_cubes;
+#[cfg(test)]
 mod pages;
 #[cfg(test)]
 mod recency_lists;
+#[cfg(test)]
+mod tallies;

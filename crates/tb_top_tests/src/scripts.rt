@@ -10,7 +10,7 @@ struct Script {
     replies: &'static [u8],
 }
 
-static SCRIPTS: [Script; 17] = [
+static SCRIPTS: [Script; 18] = [
     Script {
         name: "totals_are_cells_of_their_own",
         lines: b"a table SEX with totals\n",
@@ -121,8 +121,8 @@ static SCRIPTS: [Script; 17] = [
             65+,1,1\n65+,2,0\n.\nrelease 0\nSEX,count\n1,1\n2,2\n.\n\
             stats release 0 looks 2 hits 1 entries 2 capacity 64\n",
     },
-    // The cube over AREA and SEX is one release behind where SEX is made of it, and three where AREA
-    // is: at release 3 E1 has the keys 100 and 7, and E2 the key 20.
+    // The cube over AREA and SEX is one release behind where SEX is made of it, and three where
+    // AREA is: at release 3 E1 has the keys 100 and 7, and E2 the key 20.
     Script {
         name: "wider_cubes_that_are_behind",
         lines: b"a table AREA by SEX\ncustodian drop 104\ncustodian publish\na table SEX\n\
@@ -132,6 +132,21 @@ static SCRIPTS: [Script; 17] = [
             published 1\nrelease 1\nSEX,count\n1,1\n2,0\n.\nheld 1\npublished 2\nheld 1\n\
             published 3\nrelease 3\nAREA,count\nE1,2\nE2,1\n.\n\
             stats release 3 looks 3 hits 2 entries 3 capacity 64\n",
+    },
+    // At release 1 three of twelve cells count a person, so their cube is packed: SEX is made of
+    // it, it is found again, and at release 2 it is one batch behind.
+    Script {
+        name: "a_packed_cube",
+        lines: b"custodian drop 104\ncustodian publish\na table AREA by AGE by SEX\na table SEX\n\
+            a table AREA where AGE in (65+) and SEX in (1)\ncustodian drop 102\n\
+            custodian publish\na table AREA where AGE in (16-64) and SEX in (1)\n\
+            custodian stats\n",
+        replies: b"held 1\npublished 1\nrelease 1\nAREA,AGE,SEX,count\nE1,0-15,1,1\nE1,0-15,2,0\n\
+            E1,16-64,1,1\nE1,16-64,2,0\nE1,65+,1,0\nE1,65+,2,0\nE2,0-15,1,0\nE2,0-15,2,0\n\
+            E2,16-64,1,0\nE2,16-64,2,0\nE2,65+,1,1\nE2,65+,2,0\n.\nrelease 1\nSEX,count\n\
+            1,1\n2,0\n.\nrelease 1\nAREA,count\nE1,0\nE2,1\n.\nheld 1\npublished 2\n\
+            release 2\nAREA,count\nE1,0\nE2,0\n.\n\
+            stats release 2 looks 4 hits 3 entries 2 capacity 64\n",
     },
     // Of two wider cubes the more recent one is found for SEX, so the other has to go.
     Script {

@@ -1,0 +1,112 @@
+// Cubes over all variables that are packed, or stay as they are: a quarter of the twelve cells is
+// three.
+
+ghost use Rattle.std.specs.Prelude.{◌≡◌, ◌<◌, true, IfOk};
+ghost use Rattle.tb_base.specs.Records.{AllFit};
+ghost use Rattle.tb_core.specs.Desks.{HasCube};
+ghost use Rattle.tb_model.specs.Schemas.{shape_of};
+
+use super::cubes::first;
+use std::alloc::Global;
+use std::marker::Brand;
+use std::sync::ledger::{Blank, Ledger};
+use std::test::Fail;
+use std::thread::Threads;
+use tb_base::{Codes, Memory, People, Record, Shape, Steps, VarSet};
+use tb_build::{Open, build};
+use tb_cube::Cube;
+use tb_grid::{MOST_CELLS, cells_over};
+use tb_release::Release;
+use tb_schema::Schema;
+use tb_small_values::schema;
+
+// A person in each of the first so many cells.
+fn people_of(alloc: Global, many: u16) -> Result<People, Memory> {
+    let mut people = People::with_room(alloc, many as usize);
+    for cell in 0..many {
+        let codes = Codes::of(alloc, &[cell / 6, cell / 2 % 3, cell % 2])?;
+        let person = cell as u32;
+        if people.add(Record { person, key: 7, codes }).is_err() {
+            return Err(Memory);
+        }
+    }
+    Ok(people)
+}
+
+// The set of all variables, over which there is a cube.
+fn all_variables(alloc: Global, shape: &Shape) -> Result<VarSet, Memory>
+    ensures { IfOk result (HasCube shape.now) }
+{
+    let vars = VarSet::of(alloc, &[0, 1, 2])?;
+    if shape.len() < 3 || cells_over(shape, &vars, 0) > MOST_CELLS {
+        return Err(Memory);
+    }
+    Ok(vars)
+}
+
+// Whether a cube has the cells of a dense one.
+fn are_same(cube: &Cube, dense: &Cube) -> bool
+    requires { dense.now.dense ≡ true }
+{
+    let cells = dense.as_slice();
+    for place in 0..cube.cells() {
+        if cells.get(place).copied() != Some(cube.cell(place)) {
+            return false;
+        }
+    }
+    cells.len() == cube.cells()
+}
+
+// Whether a cube that was packed keeps so many cells, in the form that is wanted, and its cells are
+// as before.
+fn keeps(cube: &mut Cube, is_dense: bool, kept: usize) -> Result<bool, Memory> {
+    let before = cube.copy()?;
+    cube.pack()?;
+    let after = cube.copy()?;
+    let same = are_same(cube, &before) && before.as_slice() == after.as_slice();
+    Ok(same && cube.is_dense() == is_dense && cube.kept() == kept)
+}
+
+// The same of the cube of a release.
+fn keeps_of<L: Ledger, R: Threads + Sync>(
+    blank: Blank,
+    rt: &R,
+    alloc: Global,
+    schema: &Schema,
+    release: &Release,
+    is_dense: bool,
+    kept: usize,
+) -> Result<bool, Memory>
+    requires ledger { blank.name ≡ L.name }
+    requires parts { blank.parts ≡ L.parts }
+    requires some { 0 < L.parts }
+    requires fit { AllFit (shape_of schema.now) release.now.records }
+{
+    let shape = schema.shape();
+    let vars = all_variables(alloc, shape)?;
+    let mut steps = Steps::<L>::new(blank);
+    let mut cube = build(rt, alloc, shape, release, &vars, &mut Open, &mut steps)?;
+    keeps(&mut cube, is_dense, kept)
+}
+
+// The same where so many cells have a person.
+fn keeps_with<R: Threads + Sync>(
+    rt: &R,
+    alloc: Global,
+    many: u16,
+    is_dense: bool,
+    kept: usize,
+) -> Result<bool, Memory> {
+    let schema = schema(alloc)?;
+    let release = first(alloc, &schema, people_of(alloc, many)?)?;
+    keeps_of::<Brand, R>(Blank::new(1), rt, alloc, &schema, &release, is_dense, kept)
+}
+
+#[test]
+fn a_quarter_of_the_cells_decides(rt: HostRuntime) -> Result<(), Fail> {
+    assert!(rt; keeps_with(&rt, rt.alloc(), 0, false, 0)?);
+    assert!(rt; keeps_with(&rt, rt.alloc(), 2, false, 2)?);
+    assert!(rt; keeps_with(&rt, rt.alloc(), 3, false, 3)?);
+    assert!(rt; keeps_with(&rt, rt.alloc(), 4, true, 12)?);
+    Ok(())
+}
