@@ -15,6 +15,7 @@ target that is missed is printed.
 """
 import filecmp
 import itertools
+import math
 import os
 import platform
 import shutil
@@ -39,12 +40,13 @@ REFUSED = ("NOSUCH",)
 # A table of few places from the cube of all four variables.
 OF_FOUR = ("AREA by SEX where AGE in (20) and TENURE in (1)",)
 # A table for each set of the variables.
-NAMES = {"AREA": "a0", "AGE": "0", "SEX": "1", "TENURE": "1"}
+NAMES = ("AREA", "AGE", "SEX", "TENURE")
 SETS = [names for n in range(1, 5) for names in itertools.combinations(NAMES, n)]
 
 
 def query_over(names):
-    filters = " and ".join(f"{name} in ({NAMES[name]})" for name in names[1:])
+    codes = {"AREA": "a0", "AGE": "0"}
+    filters = " and ".join(f"{name} in ({codes.get(name, '1')})" for name in names[1:])
     return names[0] + (f" where {filters}" if filters else "")
 
 
@@ -124,6 +126,14 @@ RUNS, LOADING_RUNS, LONG_RUNS = 5, 15, 3
 # variables of five categories, each of which makes another cube of as many cells.
 TURNS = 31
 FIVES = ("TENURE", "SECOND", "THIRD", "FOURTH")
+ALL_FIVES = (*FIVES, "FIFTH", "SIXTH", "SEVENTH")
+# Sets of ten variables whose cubes have more than four cells a person, as many as are kept.
+SPARSE = [
+    *(("AREA", "AGE", *two) for two in itertools.combinations(ALL_FIVES, 2)),
+    *(("AREA", "AGE", "SEX", *two) for two in itertools.combinations(ALL_FIVES, 2)),
+    *(("AGE", "SEX", *four) for four in itertools.combinations(ALL_FIVES, 4)),
+][:64]
+CATEGORIES = {"AREA": 100, "AGE": 101, "SEX": 2} | {name: 5 for name in ALL_FIVES}
 # How often what comes from a wider cube is asked in a script, and such scripts are run in turn.
 ROUNDS, WIDER_TURNS = 50, 11
 PROGRAM, PLAIN = "program", "baseline"
@@ -320,11 +330,11 @@ def widen(folder, into):
         shutil.copy(f"{folder}/{name}.csv", into)
     with open(f"{folder}/classes.csv", encoding="ascii") as old, open(f"{into}/classes.csv", "w", encoding="ascii") as new:
         new.writelines(old)
-        new.writelines(f"{name},{code},{code}\n" for name in FIVES[1:] for code in range(1, 6))
+        new.writelines(f"{name},{code},{code}\n" for name in ALL_FIVES[1:] for code in range(1, 6))
     with open(f"{folder}/people.csv", encoding="ascii") as old, open(f"{into}/people.csv", "w", encoding="ascii") as new:
-        new.write(",".join([next(old).rstrip("\n"), *FIVES[1:]]) + "\n")
+        new.write(",".join([next(old).rstrip("\n"), *ALL_FIVES[1:]]) + "\n")
         for place, line in enumerate(old):
-            codes = [str(place // 5**power % 5 + 1) for power in range(len(FIVES) - 1)]
+            codes = [str(place // 5**power % 5 + 1) for power in range(len(ALL_FIVES) - 1)]
             new.write(",".join([line.rstrip("\n"), *codes]) + "\n")
 
 
@@ -386,6 +396,19 @@ def wider(program, folder):
     narrowed = seconds_each(program, folder, of_four, margins)
     kept_again = seconds_each(program, folder, of_four + margins, margins)
     yield ("a cube of 101,000 cells narrowed to 200, ms", (narrowed - kept_again) * 1e3, 0.3)
+
+
+def sparse(program, folder):
+    """What cubes of which most cells are empty hold, beside 8 bytes for each of their cells."""
+    peaks = []
+    for count in (ONE, len(SPARSE)):
+        script = f"{folder}/sparse-{count}.txt"
+        with open(script, "w", encoding="ascii") as out:
+            out.writelines(table_lines(query_over(names) for names in SPARSE[:count]))
+        peaks.append(peak_of(words_of(program, folder, script)))
+    dense = 8 * sum(math.prod(CATEGORIES[name] for name in names) for names in SPARSE[ONE:])
+    what = f"{len(SPARSE)} sparse cubes at {SMALL:,} persons, what they hold above one beside {dense / MIB:.0f} MiB of cells"
+    yield (what, (peaks[1] - peaks[0]) / dense, 0.35)
 
 
 def summary_of(path):
@@ -616,6 +639,7 @@ def main(program, baseline, earlier=None):
             batch: seconds_behind(batch, programs[PROGRAM], f"{top}/wide")
             for batch in (ONE_CHANGE, HUNDRED, MANY_CHANGES)
         }
+        of_sparse = list(sparse(programs[PROGRAM], f"{top}/wide"))
         os.mkdir(f"{top}/generated")
         make_input(f"{top}/generated", LARGE, ASCENDING)
         by_gen = list(generated(programs[PROGRAM], f"{top}/generated"))
@@ -630,7 +654,7 @@ def main(program, baseline, earlier=None):
     print()
     print_rows(published)
     print()
-    print_rows(from_wider)
+    print_rows([*from_wider, *of_sparse])
     print()
     print_rows(threads(further, lanes))
     print()
