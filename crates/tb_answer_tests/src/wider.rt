@@ -45,7 +45,9 @@ fn asks<B: Named, R: Threads + Wait + Sync>(
     let mut gate = Counted { times: 0 };
     let mut sink = MemSink::new(alloc, 200).ok()?;
     let lines = "table AREA by SEX\ntable SEX";
-    let all = ask_all(rt, alloc, setup, board, &mut party, lines, &mut sink, &mut gate);
+    let all = ask_all(
+        rt, alloc, setup, board, &mut party, lines, &mut sink, &mut gate,
+    );
     Some(all && gate.times == 1 && sink.taken() == REPLIES)
 }
 

@@ -26,7 +26,14 @@ fn people_of(alloc: Global, many: u16) -> Result<People, Memory> {
     for cell in 0..many {
         let codes = Codes::of(alloc, &[cell / 6, cell / 2 % 3, cell % 2])?;
         let person = cell as u32;
-        if people.add(Record { person, key: 7, codes }).is_err() {
+        if people
+            .add(Record {
+                person,
+                key: 7,
+                codes,
+            })
+            .is_err()
+        {
             return Err(Memory);
         }
     }
