@@ -8,8 +8,8 @@ use Rattle.tb_release.specs.Chains.{IsChain}
 use Rattle.tb_release.specs.Releases.{IsSound}
 use Rattle.tb_release.specs.Results.{ChangeFits}
 
--- a cube can advance along a chain from a sound release: it is dense and holds the release's records,
--- the chain goes on from there, and its changes fit the cube's shape
+-- a cube can advance along a chain from a sound release: it is dense and holds the release's
+-- records, the chain goes on from there, and its changes fit the cube's shape
 pub record CanAdvanceAlong (cube : CubeValue) (chain : List BatchValue) (release : ReleaseValue)
     : Type 0 where
   pub sound : IsSound release

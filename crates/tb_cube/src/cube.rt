@@ -238,8 +238,8 @@ impl Cube {
         &self.vars
     }
 
-    /// How many cells each category of the variable at a place among the cube's has beside each list
-    /// of categories before it.
+    /// How many cells each category of the variable at a place among the cube's has beside each
+    /// list of categories before it.
     #[inline]
     pub fn run(&self, j: usize) -> usize
         requires { j < length self.now.vars }

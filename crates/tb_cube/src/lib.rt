@@ -12,8 +12,8 @@
 //! `Tallied` (the same by tallies), `Changes` (one that is put in or taken out), `Leading` and
 //! `Narrowed` (cells over fewer variables), `Packed` (what is kept gives the cells back); for the
 //! crates above `Walks` (what a walk over cells adds at a number), `Kept` (the same from the kept
-//! cells alone), `Lists` (the lists of categories, and merges by a test of them) and `Holding` (what
-//! a caller knows of a cube that holds some records).
+//! cells alone), `Lists` (the lists of categories, and merges by a test of them) and `Holding`
+//! (what a caller knows of a cube that holds some records).
 #![tactic(auto)]
 
 mod axes;

@@ -11,15 +11,15 @@ use Rattle.tb_release.specs.Batches.{BatchValue, Follows}
 abbrev pub with_change : CubeValue → Change → CubeValue
 with_change cube change = put_in change.after (taken_out change.before cube)
 
--- a cube is dense, the record before a change may be taken out, and then the one after it may be put
--- in
+-- the record before a change may be taken out of a dense cube, and then the one after it may be
+-- put in
 pub record CanMake (cube : CubeValue) (change : Change) : Type 0 where
   pub dense : cube.dense ≡ true
   pub before : ForSome change.before (CanTakeOut cube)
   pub after : ForSome change.after (CanPutIn (taken_out change.before cube))
 
--- a cube can advance by a batch from a sound release: it is dense and holds the release's records, and
--- the batch follows the release
+-- a cube can advance by a batch from a sound release: it is dense and holds the release's records,
+-- and the batch follows the release
 pub record CanAdvance (cube : CubeValue) (batch : BatchValue) (release : ReleaseValue)
     : Type 0 where
   pub sound : IsSound release

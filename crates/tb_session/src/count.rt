@@ -110,8 +110,8 @@ fn pack(cube: &mut Cube)
     }
 }
 
-// Offers a cube to the board, packed where that pays. Where the memory for what holds it is refused,
-// it isn't kept.
+// Offers a cube to the board, packed where that pays. Where the memory for what holds it is
+// refused, it isn't kept.
 fn offer<B: Named>(
     rt: &impl Wait,
     alloc: Global,
@@ -238,9 +238,9 @@ fn shape_in(setup: &Setup) -> &Shape
 /// A query's table over the release that the pass takes. It is rolled up from the cube of its
 /// variables: the one that the board keeps, narrowed where it has more variables and advanced where
 /// it is of an earlier release, or a new one, for which the records are lent once; a cube that is
-/// made is packed where that pays and offered to the board. Where a cube would have too many cells, the table is counted from
-/// the records, which are lent once. It takes memory for the plan, a cube that is made, the cells,
-/// and all that the writing needs.
+/// made is packed where that pays and offered to the board. Where a cube would have too many cells,
+/// the table is counted from the records, which are lent once. It takes memory for the plan, a cube
+/// that is made, the cells, and all that the writing needs.
 pub(crate) fn print_table<'a, B: Named, R: Threads + Wait + Sync, G: Gate, L: Ledger>(
     rt: &R,
     alloc: Global,
