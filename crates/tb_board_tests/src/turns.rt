@@ -8,7 +8,7 @@ use crate::making::{first_two, leaving, opening};
 use std::alloc::Global;
 use std::marker::Brand;
 use std::process::Abort;
-use std::sync::Wait;
+use std::sync::{Arc, Wait};
 use std::sync::ledger::{Blank, Ledger};
 use std::test::Fail;
 use tb_base::{Memory, Shape, Steps};
@@ -91,7 +91,10 @@ fn ask<B: Named, R: Wait, L: Ledger>(
     let right = is_of_release(got.cube(), number);
     match got {
         CubeFor::Kept(_cube) => {}
-        CubeFor::Made(cube) => board.offer(rt, pass, Offer { vars, number, cube }),
+        CubeFor::Made(cube) => {
+            let cube = Arc::new(alloc, cube)?;
+            board.offer(rt, pass, Offer { vars, number, cube });
+        }
     }
     Ok(right)
 }
