@@ -44,11 +44,11 @@ pub fn publish_one<B: Named, R: Wait>(
 fn sums(cube: &Cube) -> (u32, u32) {
     let mut persons = 0u32;
     let mut keys = 0u32;
-    let mut place = 0u32;
-    for cell in cube.as_slice() {
-        place = place.saturating_add(1);
+    for place in 0..cube.cells() {
+        let cell = cube.cell(place);
+        let times = (place as u32).saturating_add(1);
         persons = persons.saturating_add(cell.count);
-        keys = keys.saturating_add(place.saturating_mul(u32::from(cell.key)));
+        keys = keys.saturating_add(times.saturating_mul(u32::from(cell.key)));
     }
     (persons, keys)
 }
