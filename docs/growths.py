@@ -109,6 +109,16 @@ a table SEX
 a table AREA
 custodian stats
 """),
+    "a packed cube": ("script", """
+custodian drop 104
+custodian publish
+a table AREA by AGE by SEX
+a table SEX
+custodian drop 102
+custodian publish
+a table AREA by AGE by SEX
+custodian stats
+"""),
     "many edits, some of one person": ("script", """
 custodian drop 101
 custodian drop 102
