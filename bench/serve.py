@@ -384,7 +384,7 @@ def targets(rates, figures, memory):
         (1 / ours - 1 / script) * 1e6 for ours, script in zip(rates.refused, rates.refused_script)
     ]
     beside = median_ratio(figures.beside, figures.without)
-    yield at_least("a line at a time: rate beside that of prepared bytes", alone, 0.45)
+    yield at_least("a line at a time: rate beside that of prepared bytes", alone, 0.55)
     yield at_least(f"{AT_ONCE} lines at once: rate beside that of `script`", at_once, 0.65)
     on = f"on {os.cpu_count()} processors"
     yield at_least(f"{FOUR} connections: rate beside that of one, {on}", four, 2.0)
