@@ -49,7 +49,8 @@ narrowed_to fewer cube =
 abbrev pub unpacked : CubeValue → CubeValue
 unpacked cube = record cube { dense = true }
 
--- a cube with the same cells, of which the empty ones aren't kept where three in four are empty
+-- a cube with the same cells, of which the empty ones aren't kept where at least three in four are
+-- empty
 abbrev pub packed : CubeValue → CubeValue
 packed cube = record cube { dense = cube.dense && not (is_sparse cube.cells) }
 

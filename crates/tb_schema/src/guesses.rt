@@ -10,7 +10,6 @@ use crate::limits::MOST_CATEGORIES;
 use crate::lookup::find_key;
 use indexmap::IndexMap;
 use std::alloc::Global;
-use std::marker::Model;
 use tb_base::Memory;
 
 // A map of at most so many keys has `SLOTS` slots, and a larger one `MANY_SLOTS`.
