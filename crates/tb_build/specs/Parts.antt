@@ -1,14 +1,11 @@
 -- The records that are lent in pieces, and the parts of one length into which they are cut.
-use Rattle.std.specs.Prelude.{ℕ, ◌+◌, ◌*◌, List, drop, flat_map, take}
+use Rattle.std.specs.Prelude.{ℕ, ◌+◌, ◌*◌, List, flat_map}
 use Rattle.tb_base.specs.declared.records.Record.{Record}
+use Rattle.tb_piece.specs.Pieces.{between}
 
 -- the records in some pieces
 abbrev pub records_in : List (List Record) → List Record
 records_in pieces = flat_map (λ piece. piece) pieces
-
--- the elements of a list from one place up to another, as far as it goes
-abbrev pub between : {X : Type 0} → ℕ → ℕ → List X → List X
-between from to xs = drop from (take to xs)
 
 -- the part with a number, from 0, where each part but the last has this size
 abbrev pub part_of : {X : Type 0} → ℕ → List X → ℕ → List X

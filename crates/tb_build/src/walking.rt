@@ -5,21 +5,13 @@ ghost use Rattle.tb_base.specs.declared.people.TheConstants.{MOST_PERSONS};
 ghost use Rattle.tb_base.specs.Records.{AllFit};
 ghost use Rattle.tb_cube.specs.Cubes.{cube_over};
 ghost use Rattle.tb_delta.specs.Counting.{HasCube};
-ghost use Rattle.tb_build.specs.Parts.{between, records_in};
+ghost use Rattle.tb_piece.specs.Pieces.{between};
+ghost use Rattle.tb_build.specs.Parts.{records_in};
 
 use std::alloc::Global;
-use tb_base::{Memory, Record, Shape, VarSet};
+use tb_base::{Memory, Shape, VarSet};
 use tb_cube::Cube;
 use tb_release::Lent;
-
-// The records of a piece from one place up to another, as far as it goes.
-fn records_between(piece: &[Record], from: usize, to: usize) -> &[Record]
-    ensures { result.now ≡ between from to piece.now }
-{
-    let (front, _) = piece.split_at(to.min(piece.len()));
-    let (_, rest) = front.split_at(from.min(front.len()));
-    rest
-}
 
 // Puts the lent records from one place up to another, counted through all pieces, into a cube that
 // holds none. It takes no memory.
@@ -32,12 +24,12 @@ fn walk(cube: &mut Cube, lent: &Lent<'_>, from: usize, to: usize)
 {
     let mut before = 0;
     for i in 0..lent.pieces() {
-        let piece = lent.piece(i);
-        cube.add_all(records_between(
+        let piece = lent.whole(i);
+        cube.add_piece(
             piece,
             from.saturating_sub(before),
             to.saturating_sub(before),
-        ));
+        );
         before += piece.len();
     }
 }

@@ -1,5 +1,5 @@
-//! Tests of releases and cubes: batches of edits, pages and their stamps, a cube, a run of events
-//! and the recency list, worked by hand over the small setup. Their calls have ample memory.
+//! Tests of releases and cubes: batches of edits, pages and their stamps, columns, a cube, a run of
+//! events and the recency list, worked by hand over the small setup. Their calls have ample memory.
 //!
 //! They call public functions alone. Tests stand in crates of their own since a crate that has
 //! tests is proved twice. Whole runs stand in `tablebuilder`.
@@ -15,6 +15,8 @@ mod event_runs;
 mod packed_cubes;
 #[cfg(test)]
 mod pages;
+#[cfg(test)]
+mod pieces;
 #[cfg(test)]
 mod recency_lists;
 #[cfg(test)]

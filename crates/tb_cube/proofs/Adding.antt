@@ -18,8 +18,7 @@ use Rattle.tb_grid.proofs.Merges.{length-merged_all, get_or-merged_all}
 use Rattle.tb_cube.specs.declared.axes.Axis.{Axis}
 use Rattle.tb_cube.specs.Cubes.{place_of, cell_count, CubeValue}
 use Rattle.tb_cube.specs.Axes.{axes_of, number_by, with_all, LeadsBelow, IsCube}
-use Rattle.tb_cube.proofs.Grid.{place-below, number-place, place-test, length-lists, all-fit, leads-in, no_axis}
-use Rattle.tb_grid.proofs.Sums.{sum-one, sum-three, sum-two}
+use Rattle.tb_cube.proofs.Grid.{place-below, number-place, place-test, length-lists, all-fit, leads-in}
 
 -- the keys of cells are keys
 abbrev pub AreKeys : List Cell → Type 0
@@ -103,57 +102,37 @@ pub record Number (axes : List Axis) (cells : ℕ) (r : Record) (number : ℕ) :
   pub is : number ≡ number_by axes (category_at r)
   pub there : number < cells
 
--- of the records of a piece, by the offsets of all axes, of one, of two and of three
-module _ (axes : List Axis) (start cells : List Cell) (piece : List Record) (i : ℕ) (r : Record)
-    (lead : All (LeadsBelow (length start) axes) piece) (below : i < length piece) (at : r ≡ get_or piece i r)
-    (long : length cells ≡ length start) where
-  abbrev pub offset : ℕ → ℕ
-  offset k = category_at r (get_or axes k no_axis).variable * (get_or axes k no_axis).stride
+-- of the record at a place of a piece
+pub number-any : (axes : List Axis) (start cells : List Cell) (piece : List Record) (i : ℕ) (r : Record) → All (LeadsBelow (length start) axes) piece → i < length piece → r ≡ get_or piece i r
+    → length cells ≡ length start → (n : ℕ) → n ≡ number_by axes (category_at r) → Number axes (length cells) r n
+number-any axes start cells piece i r lead below at long n is = record {
+  is = is;
+  there = omega (arith, (at-item (LeadsBelow (length start) axes) piece i r lead below at).low, is, long);
+}
 
-  pub number-any : (n : ℕ) → n ≡ number_by axes (category_at r) → Number axes (length cells) r n
-  number-any n is = record {
-    is = is;
-    there = omega
-        (arith, (at-item (LeadsBelow (length start) axes) piece i r lead below at).low, is, long);
-  }
+-- one turn of a loop that puts records in: those that are left make the cells whole
+pub rest-put : (axes : List Axis) (start cells : List Cell) (piece : List Record) (i number : ℕ) (r : Record) (new : Cell) → i < length piece → r ≡ get_or piece i r
+    → number ≡ number_by axes (category_at r) → new ≡ with_key (get_or cells number empty_cell) r.key → with_all axes cells (drop i piece) ≡ with_all axes start piece
+    → with_all axes (set cells number new) (drop (i + 1) piece) ≡ with_all axes start piece
+rest-put axes start cells piece i number r new below is at made so_far =
+    let split : drop i piece ≡ r ∷ drop (i + 1) piece = drop_more piece i r below ∙ ap (λ x. x ∷ drop (i + 1) piece) (sym is) in
+    let put : ℕ → List Cell = λ n. set cells n (with_key (get_or cells n empty_cell) r.key) in
+    ap (λ x. with_all axes (set cells number x) (drop (i + 1) piece)) made
+    ∙ ap (λ n. with_all axes (put n) (drop (i + 1) piece)) at
+    ∙ sym (ap (with_all axes cells) split) ∙ so_far
 
-  pub number-one : (u : ℕ) → length axes ≡ 1 → u ≡ offset 0 → Number axes (length cells) r u
-  number-one u count a = number-any u (a ∙ sum-one (λ x. category_at r x.variable * x.stride) axes no_axis count)
+-- and there is room for them
+pub room-left : (cells : List Cell) (number i long key : ℕ) (new : Cell) → number < length cells → i < long → All (λ (c : Cell). c.count + (long - i) < 2 ^ 32) cells
+    → new ≡ with_key (get_or cells number empty_cell) key → All (λ (c : Cell). c.count + (long - (i + 1)) < 2 ^ 32) (set cells number new)
+room-left cells number i long key new there below room made k d low =
+    let here = room number empty_cell there in
+    let was = room k d (omega (arith, low, length-set cells number new)) in
+    elim (eqb_tells k number) [
+      | inl h ↦ rw (h.1, get_or-set_same cells number new d there, made) (omega (arith, here, below))
+      | inr h ↦ rw (get_or-set_other cells number k new d h.1) (omega (arith, was))
+    ]
 
-  pub number-two : (u v : ℕ) → length axes ≡ 2 → u ≡ offset 0 → v ≡ offset 1 → Number axes (length cells) r (u + v)
-  number-two u v count a b = number-any (u + v) (ap (λ y. y + v) a ∙ ap (λ y. offset 0 + y) b ∙ sum-two
-      (λ x. category_at r x.variable * x.stride) axes no_axis count)
-
-  pub number-three : (u v w : ℕ) → length axes ≡ 3 → u ≡ offset 0 → v ≡ offset 1 → w ≡ offset 2 → Number axes (length cells) r (u + v + w)
-  number-three u v w count a b d =
-      number-any (u + v + w) (ap (λ y. y + v + w) a ∙ ap (λ y. offset 0 + y + w) b ∙ ap (λ y. offset 0 + offset 1 + y) d ∙ sum-three
-      (λ x. category_at r x.variable * x.stride) axes no_axis count)
-
--- one turn of a loop that puts records in
-pub record Turn (axes : List Axis) (start next : List Cell) (piece : List Record) (i : ℕ) : Type 0 where
-  pub with_them : with_all axes next (drop (i + 1) piece) ≡ with_all axes start piece
-  pub room : All (λ (c : Cell). c.count + (length piece - (i + 1)) < 2 ^ 32) next
-
-pub turn : (axes : List Axis) (start cells : List Cell) (piece : List Record) (i number : ℕ) (r : Record) (new : Cell) → i < length piece → r ≡ get_or piece i r
-    → Number axes (length cells) r number → with_all axes cells (drop i piece) ≡ with_all axes start piece
-    → All (λ (c : Cell). c.count + (length piece - i) < 2 ^ 32) cells
-    → ((get_or cells number empty_cell).count + 1 < 2 ^ 32 → new ≡ with_key (get_or cells number empty_cell) r.key) → Turn axes start
-    (set cells number new) piece i
-turn axes start cells piece i number r new below is at so_far room exact =
-    let here = room number empty_cell at.there in
-    let made : new ≡ with_key (get_or cells number empty_cell) r.key = exact (omega (arith, here, below)) in
-    record {
-      with_them =
-          let split : drop i piece ≡ r ∷ drop (i + 1) piece = drop_more piece i r below ∙ ap (λ x. x ∷ drop (i + 1) piece) (sym is) in
-          let put : ℕ → List Cell = λ n. set cells n (with_key (get_or cells n empty_cell) r.key) in
-          ap (λ x. with_all axes (set cells number x) (drop (i + 1) piece)) made
-          ∙ ap (λ n. with_all axes (put n) (drop (i + 1) piece)) at.is
-          ∙ sym (ap (with_all axes cells) split) ∙ so_far;
-      room = λ k d low.
-          let inside : k < length cells = omega (arith, low, length-set cells number new) in
-          let was = room k d inside in
-          elim (eqb_tells k number) [
-            | inl h ↦ rw (h.1, get_or-set_same cells number new d at.there, made) (omega (arith, here))
-            | inr h ↦ rw (get_or-set_other cells number k new d h.1) (omega (arith, was))
-          ];
-    }
+-- the cell with one record more, which there is room for
+pub made-with : (cells : List Cell) (number i long key : ℕ) (new : Cell) → number < length cells → i < long → All (λ (c : Cell). c.count + (long - i) < 2 ^ 32) cells
+    → ((get_or cells number empty_cell).count + 1 < 2 ^ 32 → new ≡ with_key (get_or cells number empty_cell) key) → new ≡ with_key (get_or cells number empty_cell) key
+made-with cells number i long key new there below room exact = exact (omega (arith, room number empty_cell there, below))

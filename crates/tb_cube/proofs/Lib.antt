@@ -2,6 +2,7 @@ pub mod Grid
 pub mod Adding
 pub mod Changes
 pub mod Packed
+pub mod ByColumn
 pub mod Walks
 pub mod Kept
 pub mod Lists

@@ -7,6 +7,7 @@ use Rattle.tb_base.specs.declared.records.Record.{Record}
 use Rattle.tb_base.specs.Cells.{empty_cell, with_key}
 use Rattle.tb_base.specs.Records.{category_at}
 use Rattle.tb_grid.specs.Products.{cells_over}
+use Rattle.tb_piece.specs.Pieces.{key_column}
 use Rattle.tb_cube.specs.declared.axes.Axis.{Axis}
 use Rattle.tb_cube.specs.Cubes.{CubeValue, IsWhole}
 
@@ -35,6 +36,13 @@ with_all axes cells (r ∷ rs) =
 pub record LeadsBelow (limit : ℕ) (axes : List Axis) (r : Record) : Type 0 where
   pub there : All (λ a. a.variable < length r.codes) axes
   pub low : number_by axes (category_at r) < limit
+
+-- the numbers of records' cells, which are below a limit, and the records' keys
+pub record AreNumbered (limit : ℕ) (axes : List Axis) (records : List Record)
+    (numbers keys : List ℕ) : Type 0 where
+  pub lead : All (LeadsBelow limit axes) records
+  pub numbers_are : numbers ≡ numbers_by axes records
+  pub keys_are : keys ≡ key_column records
 
 -- a cube as it is kept
 pub record IsCube (cube : CubeValue) (axes : List Axis) : Type 0 where

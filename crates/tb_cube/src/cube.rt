@@ -14,8 +14,10 @@ ghost use Rattle.tb_cube.specs.Cubes.{cell_count, cube_over, kept_count, merged_
 ghost use Rattle.tb_cube.specs.Cubes.{narrowed_to, packed, place_of, put_in, taken_out, unpacked};
 ghost use Rattle.tb_cube.specs.Cubes.{CanPutIn, CanTakeOut, HasRoom, Holds, IsWhole};
 ghost use Rattle.tb_cube.specs.Packing.{kept_from};
+ghost use Rattle.tb_piece.specs.Pieces.{between};
 
 use crate::axes::{Axis, axes_of, number_of};
+use crate::columns::put_piece;
 use crate::merging::merge_all;
 use crate::narrowing::{narrowed_cells, steps_of};
 use crate::packing::{Form, KeptCell, filled_in, kept_of};
@@ -24,6 +26,7 @@ use std::alloc::Global;
 use std::marker::Model;
 use tb_base::{Cell, Memory, Record, Shape, VarSet, know_cells};
 use tb_grid::cells_over;
+use tb_piece::Piece;
 
 /// The cells over some variables of a classification: one for each list of their categories, in
 /// row-major order, so that the last variable's categories change fastest. A cell counts the
@@ -86,6 +89,25 @@ impl Cube {
         if let Form::Dense(cells) = &mut self.form {
             know_cells(cells);
             put_all(cells, &self.axes, piece);
+        }
+    }
+
+    /// Puts each record of a piece from one place up to another, as far as it goes, into the cell
+    /// of its categories. They are read by column.
+    pub fn add_piece(&mut self, piece: &Piece, from: usize, to: usize)
+        requires dense { self.old.dense ≡ true }
+        requires fit { AllFit self.old.shape (between from to piece.now) }
+        requires room { All (λ c. c.count + length (between from to piece.now) ≤ MOST_PERSONS)
+            self.old.cells }
+        ensures cells { self.new ≡ merged_with self.old
+            (cube_of self.old.shape self.old.vars (between from to piece.now)) }
+        // A cube that held some records holds these records too.
+        ensures held { (before : List AnyRecord) → Holds self.old before
+            → Holds self.new (before ++ between from to piece.now) }
+    {
+        if let Form::Dense(cells) = &mut self.form {
+            know_cells(cells);
+            put_piece(cells, &self.axes, piece, from, to);
         }
     }
 

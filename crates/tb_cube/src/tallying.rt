@@ -5,42 +5,10 @@ ghost use Rattle.std.specs.Prelude.{◌≡◌, ◌+◌, ◌<◌, ◌≤◌, ◌^
 ghost use Rattle.tb_base.specs.declared.tallies.TheConstants.{CHUNK, MOST_TALLIED};
 ghost use Rattle.tb_cube.specs.Axes.{numbers_by, with_all, LeadsBelow};
 
-use crate::axes::{Axis, number_of, offset_of};
+use crate::axes::{Axis, number_of};
 use tb_base::{CHUNK, Cell, MOST_TALLIED, Record, add_tallies, know_cells};
 
 // Writes the numbers of the cells of a chunk's records, and their keys.
-fn write_by_any(axes: &[Axis], chunk: &[Record], numbers: &mut [u32; CHUNK], keys: &mut [u8; CHUNK])
-    requires lead { All (LeadsBelow MOST_TALLIED axes.now) chunk.now }
-    requires few { length chunk.now ≤ CHUNK }
-    ensures numbers { take (length chunk.now) numbers.new ≡ numbers_by axes.now chunk.now }
-    ensures keys { take (length chunk.now) keys.new ≡ map (λ r. r.key) chunk.now }
-{
-    for k in 0..chunk.len() {
-        let one = &chunk[k];
-        let number = number_of(axes, one);
-        numbers[k] = number as u32;
-        keys[k] = one.key;
-    }
-}
-
-// The same by one variable.
-fn write_by_one(axes: &[Axis], chunk: &[Record], numbers: &mut [u32; CHUNK], keys: &mut [u8; CHUNK])
-    requires axes { length axes.now ≡ 1 }
-    requires lead { All (LeadsBelow MOST_TALLIED axes.now) chunk.now }
-    requires few { length chunk.now ≤ CHUNK }
-    ensures numbers { take (length chunk.now) numbers.new ≡ numbers_by axes.now chunk.now }
-    ensures keys { take (length chunk.now) keys.new ≡ map (λ r. r.key) chunk.now }
-{
-    let v = axes[0];
-    for k in 0..chunk.len() {
-        let one = &chunk[k];
-        let by_v = offset_of(v, one);
-        numbers[k] = by_v as u32;
-        keys[k] = one.key;
-    }
-}
-
-// The same by as many variables as there are.
 fn write_columns(
     axes: &[Axis],
     chunk: &[Record],
@@ -52,10 +20,11 @@ fn write_columns(
     ensures numbers { take (length chunk.now) numbers.new ≡ numbers_by axes.now chunk.now }
     ensures keys { take (length chunk.now) keys.new ≡ map (λ r. r.key) chunk.now }
 {
-    if axes.len() == 1 {
-        write_by_one(axes, chunk, numbers, keys);
-    } else {
-        write_by_any(axes, chunk, numbers, keys);
+    for k in 0..chunk.len() {
+        let one = &chunk[k];
+        let number = number_of(axes, one);
+        numbers[k] = number as u32;
+        keys[k] = one.key;
     }
 }
 

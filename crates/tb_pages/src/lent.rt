@@ -8,6 +8,7 @@ use crate::pages::Pages;
 use std::alloc::Global;
 use std::marker::Model;
 use tb_base::{Memory, Record};
+use tb_piece::Piece;
 
 /// Records in pages, in pieces: the pages that aren't empty. They are all the pieces' records in
 /// order.
@@ -76,5 +77,13 @@ impl<'a> Lent<'a> {
         ensures { result.now ≡ slice_index_or self.now i [] }
     {
         self.pages.page(self.places[i] as usize)
+    }
+
+    /// The same piece with its columns.
+    pub fn whole(&self, i: usize) -> &Piece
+        requires { i < length self.now }
+        ensures { result.now ≡ slice_index_or self.now i [] }
+    {
+        self.pages.whole(self.places[i] as usize)
     }
 }

@@ -6,15 +6,15 @@ ghost use Rattle.tb_pages.specs.Pages.{IsPlace, is_of};
 
 use std::alloc::Global;
 use std::marker::Model;
-use std::mem;
 use tb_base::{Memory, Record};
 use tb_model::PAGE_ROOM;
+use tb_piece::Piece;
 
 /// A page of at most `PAGE_ROOM` records, with its stamp: the number of the release that last
 /// changed it.
 #[derive(Drop)]
 pub(crate) struct Page {
-    records: Vec<Record>,
+    piece: Piece,
     stamp: u32,
 }
 
@@ -27,43 +27,43 @@ impl Model for Page {
 
     ghost coded = { page_code };
 
-    ghost view = { λ p. page_of p.records.items p.stamp };
+    ghost view = { λ p. page_of p.piece p.stamp };
 
-    ghost invariant = { λ p. length p.records.items ≤ PAGE_ROOM };
+    ghost invariant = { λ p. length p.piece ≤ PAGE_ROOM };
 }
 
 impl Page {
-    /// A page of these records, with stamp 0. It takes no memory.
-    pub(crate) fn of(records: Vec<Record>) -> Page
+    /// A page of these records, with stamp 0. It takes memory for their columns.
+    pub(crate) fn of(alloc: Global, records: Vec<Record>) -> Result<Page, Memory>
         requires { length records.items ≤ PAGE_ROOM }
-        ensures { result ≡ page_of records.items 0 }
+        ensures { IfOk result (λ page. page ≡ page_of records.items 0) }
     {
-        Page { records, stamp: 0 }
+        let piece = Piece::of(alloc, records)?;
+        Ok(Page { piece, stamp: 0 })
     }
 
     /// A page of one record, with room for `PAGE_ROOM`.
     pub(crate) fn of_one(alloc: Global, stamp: u32, one: Record) -> Result<Page, Memory>
         ensures { IfOk result (λ page. page ≡ page_of (one ∷ []) stamp) }
     {
-        let mut records = Vec::with_capacity(alloc, PAGE_ROOM)?;
-        records.push(one)?;
-        Ok(Page { records, stamp })
+        let piece = Piece::of_one(alloc, one, PAGE_ROOM)?;
+        Ok(Page { piece, stamp })
     }
 
     /// An equal page, with room for `PAGE_ROOM` records.
     pub(crate) fn copy(&self, alloc: Global) -> Result<Page, Memory>
         ensures { IfOk result (λ page. page ≡ self.now) }
     {
-        let records = copies_of(alloc, &self.records)?;
+        let piece = self.piece.copy(alloc, PAGE_ROOM)?;
         let stamp = self.stamp;
-        Ok(Page { records, stamp })
+        Ok(Page { piece, stamp })
     }
 
     /// How many records there are.
     pub(crate) fn len(&self) -> usize
         ensures { result ≡ length self.now.records }
     {
-        self.records.len()
+        self.piece.len()
     }
 
     /// The number of the release that last changed it.
@@ -77,7 +77,14 @@ impl Page {
     pub(crate) fn records(&self) -> &[Record]
         ensures { result.now ≡ self.now.records }
     {
-        self.records.as_slice()
+        self.piece.records()
+    }
+
+    /// The records with their columns.
+    pub(crate) fn piece(&self) -> &Piece
+        ensures { result.now ≡ self.now.records }
+    {
+        &self.piece
     }
 
     /// The place of the record of a person who has one.
@@ -85,7 +92,7 @@ impl Page {
         requires { has_person self.now.records person ≡ true }
         ensures { IsPlace self.now.records person result }
     {
-        place_in(&self.records, person)
+        place_in(self.piece.records(), person)
     }
 
     /// Gives it another stamp.
@@ -100,7 +107,7 @@ impl Page {
         requires { length self.old.records < PAGE_ROOM }
         ensures { OnOk result (self.new ≡ page_of (self.old.records ++ one ∷ []) self.old.stamp) }
     {
-        self.records.push(one)?;
+        self.piece.push(one)?;
         Ok(())
     }
 
@@ -110,7 +117,7 @@ impl Page {
         ensures taken { slice_get self.old.records place ≡ Some result }
         ensures new { self.new ≡ page_of (remove self.old.records place) self.old.stamp }
     {
-        self.records.remove(place)
+        self.piece.take_out(place)
     }
 
     /// Puts another record in the place of one, which is returned.
@@ -119,19 +126,8 @@ impl Page {
         ensures taken { slice_get self.old.records place ≡ Some result }
         ensures new { self.new ≡ page_of (slice_set self.old.records place new) self.old.stamp }
     {
-        mem::replace(&mut self.records[place], new)
+        self.piece.replace(place, new)
     }
-}
-
-// Copies of records, with room for a whole page.
-fn copies_of(alloc: Global, records: &[Record]) -> Result<Vec<Record>, Memory>
-    ensures { IfOk result (λ copies. copies.items ≡ records.now) }
-{
-    let mut copies = Vec::with_capacity(alloc, PAGE_ROOM)?;
-    for one in records {
-        copies.push(one.copy()?)?;
-    }
-    Ok(copies)
 }
 
 // The place of the record of a person who has one. Most pages ascend by their persons, and there it

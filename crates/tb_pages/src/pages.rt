@@ -13,6 +13,7 @@ use std::marker::Model;
 use std::sync::Arc;
 use tb_base::{Memory, Record};
 use tb_model::PAGE_ROOM;
+use tb_piece::Piece;
 
 /// How many pages have numbers.
 pub const PAGES: usize = 65_536;
@@ -113,7 +114,8 @@ impl Pages {
             let at = (rest.len() - 1) / PAGE_ROOM * PAGE_ROOM;
             let last = rest.split_off(at)?;
             rest.shrink_to_fit();
-            list.push(Arc::new(alloc, Page::of(last))?)?;
+            let page = Page::of(alloc, last)?;
+            list.push(Arc::new(alloc, page)?)?;
         }
         list.reverse();
         Ok(Pages { list })
@@ -151,6 +153,14 @@ impl Pages {
         ensures { result.now ≡ (slice_index_or self.now i no_page).records }
     {
         self.list[i].records()
+    }
+
+    /// The records of page `i` with their columns.
+    pub fn whole(&self, i: usize) -> &Piece
+        requires { i < length self.now }
+        ensures { result.now ≡ (slice_index_or self.now i no_page).records }
+    {
+        self.list[i].piece()
     }
 
     /// The number of the last page.

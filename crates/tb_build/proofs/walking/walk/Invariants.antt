@@ -1,6 +1,7 @@
 use Rattle.std.proofs.Common.{◌≡◌, length, take}
 use Rattle.tb_cube.specs.Cubes.{cube_over}
-use Rattle.tb_build.specs.Parts.{between, records_in}
+use Rattle.tb_piece.specs.Pieces.{between}
+use Rattle.tb_build.specs.Parts.{records_in}
 use Rattle.tb_build.proofs.walking.walk.Given as goal
 
 -- the cube holds the records of the pieces so far that lie between the places

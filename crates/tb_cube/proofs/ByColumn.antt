@@ -1,0 +1,133 @@
+-- Records that are read by column: their numbers, worked out a variable at a time.
+use Rattle.std.proofs.Common.{◌≡◌, ℕ, zero, suc, ◌+◌, ◌*◌, ◌%◌, ◌<◌, ◌≤◌, ◌-◌, ◌^◌, cond, [], ◌∷◌, List, length, map, drop, take, get_or, set, replicate, refl, ap, sym, ◌∙◌, inl, inr, arith}
+use Rattle.std.specs.Prelude.{All, nat_lt}
+use Rattle.std.specs.List.{sum_by}
+use Rattle.std.proofs.Math.Nat.{mod-add-mod, mod-eq_of_lt}
+use Rattle.std.proofs.lemmas.Bool.{lt-ltb, le-ltb, cases_lt}
+use Rattle.std.proofs.lemmas.Bool.Decides.{eqb_tells}
+use Rattle.std.proofs.lemmas.List.{ext_get_or, get_or-map, get_or-replicate, get_or-set_same, get_or-set_other, get_or-take, get_or_default, length-map, length-take-le, take-map, take_all}
+use Rattle.std.proofs.lemmas.List.Sums.{sum_by_more}
+use Rattle.tb_base.specs.declared.cells.Cell.{Cell}
+use Rattle.tb_base.specs.declared.records.Record.{Record}
+use Rattle.tb_base.specs.Cells.{empty_cell, with_key}
+use Rattle.tb_base.specs.Records.{category_at}
+use Rattle.tb_grid.specs.declared.products.TheConstants.{MOST_CELLS}
+use Rattle.tb_piece.specs.Pieces.{between, code_column, key_column}
+use Rattle.tb_cube.specs.declared.axes.Axis.{Axis}
+use Rattle.tb_cube.specs.Axes.{number_by, numbers_by, with_all, AreNumbered, LeadsBelow}
+use Rattle.tb_cube.proofs.Adding.{rest-put}
+
+-- a part of a column
+drop-map : {X Y : Type 0} (f : X → Y) (n : ℕ) (xs : List X) → drop n (map f xs) ≡ map f (drop n xs)
+drop-map f zero xs = refl
+drop-map f (suc n) [] = refl
+drop-map f (suc n) (x ∷ xs) = drop-map f n xs
+
+pub between-map : {X Y : Type 0} (f : X → Y) (from to : ℕ) (xs : List X) → between from to (map f xs) ≡ map f (between from to xs)
+between-map f from to xs = ap (λ ys. drop from ys) (take-map f to xs) ∙ drop-map f from (take to xs)
+
+-- of some numbers, the first k are changed, each by its place
+abbrev pub ChangedBelow : ℕ → (ℕ → ℕ → ℕ) → ℕ → List ℕ → List ℕ → Type 0
+ChangedBelow k change n old new =
+    (i : ℕ) → i < n → get_or new i 0 ≡ cond (nat_lt i k) (change i (get_or old i 0)) (get_or old i 0)
+
+pub none-changed : (change : ℕ → ℕ → ℕ) (n : ℕ) (old : List ℕ) → ChangedBelow 0 change n old old
+none-changed change n old i below = sym (ap (λ b. cond b (change i (get_or old i 0)) (get_or old i 0)) (le-ltb i 0 (omega arith)))
+
+same-below : (i k : ℕ) → (i ≡ k → ⊥) → nat_lt i k ≡ nat_lt i (k + 1)
+same-below i k apart = elim (cases_lt i k) [
+  | inl low ↦ lt-ltb i k low ∙ sym (lt-ltb i (k + 1) (omega (arith, low)))
+  | inr high ↦
+      let above : k + 1 ≤ i = omega (arith, high, apart) in
+      le-ltb i k high ∙ sym (le-ltb i (k + 1) above)
+]
+
+pub one-changed : (k : ℕ) (change : ℕ → ℕ → ℕ) (n : ℕ) (old numbers : List ℕ) (value : ℕ) → n ≤ length numbers → k < n
+    → value ≡ change k (get_or numbers k 0) → ChangedBelow k change n old numbers → ChangedBelow (k + 1) change n old (set numbers k value)
+one-changed k change n old numbers value long there made before i below =
+    elim (eqb_tells i k) [
+      | inl h ↦
+          let was : get_or numbers k 0 ≡ get_or old k 0 = before k there ∙ ap (λ b. cond b (change k (get_or old k 0)) (get_or old k 0)) (le-ltb k k (omega arith)) in
+          rw (h.1, lt-ltb k (k + 1) (omega arith), get_or-set_same numbers k value 0 (omega (arith, there, long))) (made ∙ ap (change k) was)
+      | inr h ↦
+          get_or-set_other numbers k i value 0 h.1 ∙ before i below
+          ∙ ap (λ b. cond b (change i (get_or old i 0)) (get_or old i 0)) (same-below i k h.1)
+    ]
+
+pub all-changed : (k : ℕ) (change : ℕ → ℕ → ℕ) (n : ℕ) (old new : List ℕ) → n ≤ k → ChangedBelow k change n old new
+    → (i : ℕ) → i < n → get_or new i 0 ≡ change i (get_or old i 0)
+all-changed k change n old new done before i below =
+    before i below ∙ ap (λ b. cond b (change i (get_or old i 0)) (get_or old i 0)) (lt-ltb i k (omega (arith, below, done)))
+
+-- what a code leads on by
+abbrev pub led_on : List ℕ → ℕ → ℕ → ℕ → ℕ
+led_on codes stride i n = (n + get_or codes i 0 * stride) % 2 ^ 32
+
+-- no record
+abbrev pub no_record : Record
+no_record = record { person = 0; key = 0; codes = [] }
+
+-- how far a record leads by an axis
+abbrev pub leads_on : List Record → ℕ → Axis → ℕ
+leads_on records i a = category_at (get_or records i no_record) a.variable * a.stride
+
+-- the numbers by the first axes, as far as a u32 goes
+abbrev pub NumberedBy : List Axis → List Record → List ℕ → Type 0
+NumberedBy axes records numbers = (i : ℕ) → i < length records → get_or numbers i 0 ≡ sum_by (leads_on records i) axes % 2 ^ 32
+
+pub none-numbered : (records : List Record) (n : ℕ) → length records ≤ n → NumberedBy [] records (replicate n 0)
+none-numbered records n few i below = get_or-replicate n i 0 0 (omega (arith, below, few))
+
+-- one axis more
+pub numbered-more : (axes : List Axis) (j : ℕ) (axis : Axis) (records : List Record) (codes old new : List ℕ) → j < length axes → axis ≡ get_or axes j axis
+    → codes ≡ code_column records axis.variable → ((i : ℕ) → i < length codes → get_or new i 0 ≡ led_on codes axis.stride i (get_or old i 0))
+    → NumberedBy (take j axes) records old → NumberedBy (take (j + 1) axes) records new
+numbered-more axes j axis records codes old new there is are added before i below =
+    let long : length codes ≡ length records = ap (λ (cs : List ℕ). length cs) are ∙ length-map records (λ r. category_at r axis.variable) in
+    let code : get_or codes i 0 ≡ category_at (get_or records i no_record) axis.variable =
+    ap (λ cs. get_or cs i 0) are ∙ get_or-map (λ r. category_at r axis.variable) records i no_record 0 below in
+    added i (omega (arith, below, long))
+    ∙ ap (λ c. (get_or old i 0 + c * axis.stride) % 2 ^ 32) code
+    ∙ ap (λ n. (n + leads_on records i axis) % 2 ^ 32) (before i below)
+    ∙ mod-add-mod (sum_by (leads_on records i) (take j axes)) (2 ^ 32) (leads_on records i axis)
+    ∙ ap (λ n. n % 2 ^ 32) (ap (λ a. sum_by (leads_on records i) (take j axes) + leads_on records i a) is ∙ sym (sum_by_more (leads_on records i) axes j axis there))
+
+-- all axes
+pub all-numbered : (axes : List Axis) (j : ℕ) (records : List Record) (numbers : List ℕ) → length axes ≤ j → length records ≤ length numbers
+    → All (LeadsBelow MOST_CELLS axes) records → NumberedBy (take j axes) records numbers → take (length records) numbers ≡ numbers_by axes records
+all-numbered axes j records numbers done long lead so_far =
+    let as_long : length (take (length records) numbers) ≡ length records = length-take-le (length records) numbers long in
+    ext_get_or 0 (take (length records) numbers) (numbers_by axes records) (as_long ∙ sym (length-map records (λ r. number_by axes (category_at r)))) (λ i below.
+    let within : i < length records = omega (arith, below, as_long) in
+    let low : number_by axes (category_at (get_or records i no_record)) < 2 ^ 32 = omega (arith, (lead i no_record within).low) in
+    get_or-take (length records) numbers i 0 within ∙ so_far i within
+    ∙ ap (λ (xs : List Axis). sum_by (leads_on records i) xs % 2 ^ 32) (take_all j axes done)
+    ∙ mod-eq_of_lt low
+    ∙ sym (get_or-map (λ r. number_by axes (category_at r)) records i no_record 0 within))
+
+-- each number is that of a cell
+pub numbers-below : (limit : ℕ) (axes : List Axis) (records : List Record) (numbers : List ℕ) → numbers ≡ numbers_by axes records → All (LeadsBelow limit axes) records
+    → All (λ n. n < limit) numbers
+numbers-below limit axes records numbers are lead i d below =
+    let within : i < length records = omega (arith, below, ap (λ (ns : List ℕ). length ns) are, length-map records (λ r. number_by axes (category_at r))) in
+    let is : get_or numbers i d ≡ number_by axes (category_at (get_or records i no_record)) =
+    ap (λ ns. get_or ns i d) are ∙ get_or-map (λ r. number_by axes (category_at r)) records i no_record d within in
+    omega (arith, is, (lead i no_record within).low)
+
+-- as many keys as records
+pub as-many : (axes : List Axis) (records : List Record) (limit : ℕ) (numbers keys : List ℕ) → AreNumbered limit axes records numbers keys → length keys ≡ length records
+as-many axes records limit numbers keys are = ap (λ (ks : List ℕ). length ks) are.keys_are ∙ length-map records (λ r. r.key)
+
+-- one turn of the loop that puts keys in, whatever records they are of
+pub rest-numbered : (start cells : List Cell) (numbers keys : List ℕ) (k : ℕ) (new : Cell) → k < length keys
+    → new ≡ with_key (get_or cells (get_or numbers k 0) empty_cell) (get_or keys k 0)
+    → (axes : List Axis) (records : List Record) → AreNumbered (length start) axes records numbers keys → with_all axes cells (drop k records) ≡ with_all axes start records
+    → with_all axes (set cells (get_or numbers k 0) new) (drop (k + 1) records) ≡ with_all axes start records
+rest-numbered start cells numbers keys k new below made axes records are so_far =
+    let within : k < length records = omega (arith, below, as-many axes records (length start) numbers keys are) in
+    let r : Record = get_or records k no_record in
+    let number : get_or numbers k 0 ≡ number_by axes (category_at r) =
+    ap (λ ns. get_or ns k 0) are.numbers_are ∙ get_or-map (λ q. number_by axes (category_at q)) records k no_record 0 within in
+    let key : get_or keys k 0 ≡ r.key = ap (λ ks. get_or ks k 0) are.keys_are ∙ get_or-map (λ q. q.key) records k no_record 0 within in
+    rest-put axes start cells records k (get_or numbers k 0) r new within (get_or_default records k no_record r within) number
+    (made ∙ ap (with_key (get_or cells (get_or numbers k 0) empty_cell)) key) so_far

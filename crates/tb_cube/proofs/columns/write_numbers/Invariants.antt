@@ -1,0 +1,10 @@
+use Rattle.std.proofs.Common.{◌≡◌, length, take}
+use Rattle.tb_piece.specs.Pieces.{between}
+use Rattle.tb_cube.proofs.ByColumn.{NumberedBy}
+use Rattle.tb_cube.proofs.columns.write_numbers.Given as goal
+
+abbrev pub invariant-loop-axis : goal.invariant-loop-axis
+invariant-loop-axis l = record {
+  long : length l.numbers ≡ 1024;
+  so_far : NumberedBy (take l.axis-index l.axes) (between l.from l.to l.piece) l.numbers;
+}

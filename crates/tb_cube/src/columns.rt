@@ -1,0 +1,144 @@
+// Records of a piece put into the cells of their categories, read by column: the numbers of their
+// cells are worked out a variable at a time, and then their keys are put in. Where a column is
+// missing the records are read.
+
+ghost use Rattle.std.specs.Prelude.{◌≡◌, ℕ, List, ◌*◌, ◌+◌, ◌%◌, ◌<◌, ◌≤◌, ◌^◌, All, true, length};
+ghost use Rattle.std.specs.Prelude.{replicate, slice_index, take};
+ghost use Rattle.std.specs.Option.{ForSome};
+ghost use Rattle.tb_base.specs.declared.records.Record.{Record as AnyRecord};
+ghost use Rattle.tb_base.specs.declared.tallies.TheConstants.{MOST_TALLIED};
+ghost use Rattle.tb_grid.specs.declared.products.TheConstants.{MOST_CELLS};
+ghost use Rattle.tb_piece.specs.Pieces.{between, code_column};
+ghost use Rattle.tb_cube.specs.declared.axes.Axis.{Axis as AnyAxis};
+ghost use Rattle.tb_cube.specs.declared.columns.TheConstants.{MOST_NUMBERED};
+ghost use Rattle.tb_cube.specs.Axes.{numbers_by, with_all, AreNumbered, LeadsBelow};
+
+use crate::axes::Axis;
+use crate::putting::put_all;
+use tb_base::{Cell, MOST_TALLIED, add_tallies, know_cells};
+use tb_piece::Piece;
+
+// So many records at most are read by column at once: a whole page.
+const MOST_NUMBERED: usize = 1024;
+
+// The elements from one place up to another, as far as they go.
+fn part<T>(items: &[T], from: usize, to: usize) -> &[T]
+    ensures { result.now ≡ between from to items.now }
+{
+    let (front, _) = items.split_at(to.min(items.len()));
+    let (_, rest) = front.split_at(from.min(front.len()));
+    rest
+}
+
+// The codes of an axis' variable, from one place of a piece up to another.
+fn codes_in(piece: &Piece, axis: Axis, from: usize, to: usize) -> Option<&[u16]>
+    ensures { ForSome result
+        (λ codes. codes.now ≡ code_column (between from to piece.now) axis.variable) }
+{
+    let codes = piece.column(axis.variable as usize)?;
+    Some(part(codes, from, to))
+}
+
+// Adds how far each code leads to its number.
+fn add_offsets(codes: &[u16], stride: u32, numbers: &mut [u32; MOST_NUMBERED])
+    requires { length codes.now ≤ MOST_NUMBERED }
+    ensures { (i : ℕ) → i < length codes.now → slice_index numbers.new i
+        ≡ (slice_index numbers.old i + slice_index codes.now i * stride) % 2 ^ 32 }
+{
+    for k in 0..codes.len() {
+        let offset = (codes[k] as u32).wrapping_mul(stride);
+        numbers[k] = numbers[k].wrapping_add(offset);
+    }
+}
+
+// Writes the numbers of the records' cells, from one place of a piece up to another. It tells
+// whether all the columns are there.
+fn write_numbers(
+    axes: &[Axis],
+    piece: &Piece,
+    from: usize,
+    to: usize,
+    numbers: &mut [u32; MOST_NUMBERED],
+) -> bool
+    requires zero { numbers.old ≡ replicate MOST_NUMBERED 0 }
+    requires few { length (between from to piece.now) ≤ MOST_NUMBERED }
+    requires lead { All (LeadsBelow MOST_CELLS axes.now) (between from to piece.now) }
+    ensures { result ≡ true → take (length (between from to piece.now)) numbers.new
+        ≡ numbers_by axes.now (between from to piece.now) }
+{
+    for axis in axes {
+        let Some(codes) = codes_in(piece, *axis, from, to) else {
+            return false;
+        };
+        add_offsets(codes, axis.stride, numbers);
+    }
+    true
+}
+
+// Puts keys into the cells of these numbers.
+fn put_numbered(cells: &mut [Cell], numbers: &[u32], keys: &[u8])
+    requires there { All (λ n. n < length cells.old) numbers.now }
+    requires same { length numbers.now ≡ length keys.now }
+    requires room { All (λ c. c.count + length keys.now < 2 ^ 32) cells.old }
+    // Of any records whose numbers and keys these are.
+    ensures { (axes : List AnyAxis) (records : List AnyRecord)
+        → AreNumbered (length cells.old) axes records numbers.now keys.now
+        → cells.new ≡ with_all axes cells.old records }
+{
+    for k in 0..keys.len() {
+        cells[numbers[k] as usize].put(keys[k]);
+    }
+}
+
+// The same where there are few cells.
+fn tally_numbered(cells: &mut [Cell], numbers: &[u32], keys: &[u8])
+    requires few { length cells.old ≤ MOST_TALLIED }
+    requires same { length numbers.now ≡ length keys.now }
+    requires short { length keys.now ≤ MOST_NUMBERED }
+    requires room { All (λ c. c.count + length keys.now < 2 ^ 32) cells.old }
+    ensures { (axes : List AnyAxis) (records : List AnyRecord)
+        → AreNumbered (length cells.old) axes records numbers.now keys.now
+        → cells.new ≡ with_all axes cells.old records }
+{
+    know_cells(cells);
+    add_tallies(cells, numbers, keys);
+    know_cells(cells);
+}
+
+// The same of any number of cells.
+fn put_by_numbers(cells: &mut [Cell], numbers: &[u32], keys: &[u8])
+    requires there { All (λ n. n < length cells.old) numbers.now }
+    requires same { length numbers.now ≡ length keys.now }
+    requires short { length keys.now ≤ MOST_NUMBERED }
+    requires room { All (λ c. c.count + length keys.now < 2 ^ 32) cells.old }
+    ensures { (axes : List AnyAxis) (records : List AnyRecord)
+        → AreNumbered (length cells.old) axes records numbers.now keys.now
+        → cells.new ≡ with_all axes cells.old records }
+{
+    if cells.len() <= MOST_TALLIED {
+        tally_numbered(cells, numbers, keys);
+    } else {
+        put_numbered(cells, numbers, keys);
+    }
+}
+
+/// Puts the records of a piece from one place up to another in, as far as it goes.
+pub fn put_piece(cells: &mut [Cell], axes: &[Axis], piece: &Piece, from: usize, to: usize)
+    requires few { length cells.old ≤ MOST_CELLS }
+    requires lead { All (LeadsBelow (length cells.old) axes.now) (between from to piece.now) }
+    requires room { All (λ c. c.count + length (between from to piece.now) < 2 ^ 32) cells.old }
+    ensures { cells.new ≡ with_all axes.now cells.old (between from to piece.now) }
+{
+    let records = part(piece.records(), from, to);
+    if records.len() > MOST_NUMBERED {
+        return put_all(cells, axes, records);
+    }
+    let mut numbers = [0; MOST_NUMBERED];
+    let all_there = write_numbers(axes, piece, from, to, &mut numbers);
+    if all_there {
+        let keys = part(piece.keys(), from, to);
+        put_by_numbers(cells, &numbers[..records.len()], keys);
+    } else {
+        put_all(cells, axes, records);
+    }
+}
