@@ -38,7 +38,7 @@ all_added (s ∷ names) (sub ∷ subs) old new (m, first, rest) same =
     let others : map app_of subs ≡ map (λ s. command_with s.now (positions_of s.now)) names = cc in
     all_added names subs m new rest others
     ∙ ap (λ a. fold with_named a (map (λ s. s.now) names))
-      (added old sub m (app_of old) _ first refl one (plain_command (positions_of name) (new_app name) refl))
+    (added old sub m (app_of old) _ first refl one (plain_command (positions_of name) (new_app name) refl))
 
 -- which makes the program of the four commands
 pub program_of : {E : Type 0} (r : Result Command E) (bare : Command) (names : List (Bor Text)) (subs : List Command)
@@ -48,7 +48,7 @@ pub program_of : {E : Type 0} (r : Result Command E) (bare : Command) (names : L
 program_of r bare names subs turns one same four =
     IfOk-weaker r (λ c. AddsInTurn AddsSubcommand bare subs c) (λ c. app_of c ≡ program)
     (λ c adds. all_added names subs bare c adds same ∙ ap (λ a. fold with_named a (map (λ s. s.now) names)) one
-      ∙ ap (fold with_named bare_program) four) turns
+    ∙ ap (fold with_named bare_program) four) turns
 
 -- one more position
 pub one_more_place : (places : List (Bor Text)) (i : ℕ) (d : Bor Text) (start old new : App) → i < length places
@@ -62,20 +62,14 @@ one_more_place places i d start old new below so_far is =
     is ∙ ap (λ a. with_position a name) so_far ∙ sym (fold-append with_position start (map now (take i places)) (name ∷ []))
     ∙ ap (fold with_position start) (sym names)
 
--- one more that is made, after those in front
-pub one_more_made : {X Y : Type 0} (g : X → Y) (front old new : List Y) (all : List X) (i : ℕ) (d : X) → i < length all
-    → old ≡ front ++ map g (take i all) → new ≡ old ++ g (get_or all i d) ∷ [] → new ≡ front ++ map g (take (i + 1) all)
-one_more_made g front old new all i d below so_far is =
-    is ∙ ap (λ xs. xs ++ g (get_or all i d) ∷ []) so_far ∙ append_assoc front (map g (take i all)) (g (get_or all i d) ∷ [])
-    ∙ ap (λ t. front ++ t) (sym (map-append g (take i all) (get_or all i d ∷ [])) ∙ ap (map g) (sym (take_more all i d below)))
-
 -- one more value, after those in front
 pub one_more_value : {S X Y : Type 0} (text : S → Y) (g : X → Y) (front : List Y) (values new : List S) (v : S) (all : List X) (i : ℕ) (d : X)
     → new ≡ values ++ v ∷ [] → i < length all → map text values ≡ front ++ map g (take i all) → text v ≡ g (get_or all i d)
     → map text new ≡ front ++ map g (take (i + 1) all)
 one_more_value text g front values new v all i d is below so_far here =
-    one_more_made g front (map text values) (map text new) all i d below so_far
-    (ap (map text) is ∙ map-append text values (v ∷ []) ∙ ap (λ t. map text values ++ t ∷ []) here)
+    ap (map text) is ∙ map-append text values (v ∷ []) ∙ ap₂ (λ xs ys. xs ++ ys) so_far (ap (λ t. t ∷ []) here)
+    ∙ append_assoc front (map g (take i all)) (g (get_or all i d) ∷ [])
+    ∙ ap (λ t. front ++ t) (sym (map-append g (take i all) (get_or all i d ∷ [])) ∙ ap (map g) (sym (take_more all i d below)))
 
 -- the text of a value, or none
 pub value_or_none : (o : Option (Bor Text)) (d : Bor Text) (t : Option Text) → option_map (λ s. s.now) o ≡ t → d.now ≡ []

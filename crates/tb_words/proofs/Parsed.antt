@@ -1,5 +1,5 @@
 -- What clap makes of the words of each command.
-use Rattle.std.proofs.Common.{◌≡◌, ◌∙◌, ap, refl, ℕ, Bool, true, ◌&&◌, List, [], ◌∷◌, Option, Some, fold, map, length, inl, inr, arith}
+use Rattle.std.proofs.Common.{◌≡◌, ◌∙◌, ap, refl, ℕ, Bool, true, ◌&&◌, List, [], ◌∷◌, Some, fold, map, length, inl, inr, arith}
 use Rattle.std.specs.Prelude.{codes}
 use Rattle.std.specs.List.{list_all, slice_index_or}
 use Rattle.clap.specs.Simple.{Shape, built, names_of, new_shape}

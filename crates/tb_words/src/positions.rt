@@ -1,9 +1,9 @@
 // The commands as clap sees them.
 
-ghost use Rattle.std.specs.Prelude.{◌≡◌, ◌++◌, ◌∷◌, [], IfErr, IfOk, OnOk, false, map};
+ghost use Rattle.std.specs.Prelude.{◌≡◌, IfErr, IfOk, false, map};
 ghost use Rattle.clap.specs.Words.{app_of, kind_of, rule_of, subcommand_of, subcommand_rows_of};
 ghost use Rattle.clap.specs.declared.error.kind.ErrorKind.TheVariants.{OutOfMemory};
-ghost use Rattle.tb_words.specs.Positions.{bare_program, command_with, position as position_of};
+ghost use Rattle.tb_words.specs.Positions.{command_with, position as position_of};
 ghost use Rattle.tb_words.specs.Positions.{positions_of as names_of, program as the_program};
 ghost use Rattle.tb_words.specs.Words.{AreCommand};
 
@@ -70,30 +70,6 @@ fn command<'a>(alloc: Global, name: &'static str) -> Result<Command<'a>, AllocEr
     Ok(command)
 }
 
-// The program before its commands are added.
-fn empty_program<'a>(alloc: Global) -> Command<'a>
-    ensures { app_of result ≡ bare_program }
-{
-    Command::new(alloc, "tablebuilder")
-        .no_binary_name(true)
-        .disable_help_flag(true)
-        .disable_help_subcommand(true)
-}
-
-// Adds the command of that name.
-fn add_command<'a>(
-    alloc: Global,
-    commands: &mut Vec<Command<'a>>,
-    name: &'static str,
-) -> Result<(), AllocError>
-    ensures { OnOk result (map app_of commands.new.items ≡ map app_of commands.old.items
-        ++ command_with name.now (names_of name.now) ∷ []) }
-{
-    let one = command(alloc, name)?;
-    commands.push(one)?;
-    Ok(())
-}
-
 // The commands of these names.
 fn commands<'a>(alloc: Global, names: &[&'static str]) -> Result<Vec<Command<'a>>, AllocError>
     ensures { IfOk result (λ commands. map app_of commands.items
@@ -101,7 +77,10 @@ fn commands<'a>(alloc: Global, names: &[&'static str]) -> Result<Vec<Command<'a>
 {
     let mut commands = Vec::with_capacity(alloc, names.len())?;
     for name in names {
-        add_command(alloc, &mut commands, *name)?;
+        match command(alloc, *name) {
+            Ok(one) => commands.push(one)?,
+            Err(error) => return Err(error),
+        }
     }
     Ok(commands)
 }
@@ -112,8 +91,11 @@ fn program<'a>(alloc: Global) -> Result<Command<'a>, AllocError>
 {
     let names = COMMANDS.as_slice();
     let commands = commands(alloc, names)?;
-    let bare = empty_program(alloc);
-    bare.subcommands(commands)
+    Command::new(alloc, "tablebuilder")
+        .no_binary_name(true)
+        .disable_help_flag(true)
+        .disable_help_subcommand(true)
+        .subcommands(commands)
 }
 
 /// What clap makes of the words of a command. It fails for want of memory alone.

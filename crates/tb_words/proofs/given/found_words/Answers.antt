@@ -7,4 +7,4 @@ pub returns : goal.returns
 returns c =
     ok_as c.words_at.result (λ ws. map string_bytes ws.items) _ _ c.words_at.ensures
     (found_by c.args.matches.now c.in-Some.name.now (rows_of (found_of c.in-Some.found.now)) c.positions_of-positions.result.now
-      c.in-Some.ensures.name c.in-Some.ensures.rows c.positions_of-positions.ensures)
+    c.in-Some.ensures.name c.in-Some.ensures.rows c.positions_of-positions.ensures)

@@ -1,4 +1,4 @@
-use Rattle.std.proofs.Common.{◌∙◌, ap, ℕ, List, [], fold, map, take, Bor}
+use Rattle.std.proofs.Common.{◌∙◌, ap, ℕ, List, [], fold, map, Bor}
 use Rattle.std.proofs.lemmas.List.{take_all}
 use Rattle.tb_words.specs.Positions.{with_position}
 use Rattle.clap.specs.Words.{app_of, new_app, with_rule}
