@@ -1,6 +1,6 @@
 -- Loops that write: what is written so far, and then the lines of the rest, is the whole.
 use Rattle.std.proofs.Common.{◌≡◌, refl, sym, ap, ◌∙◌, ℕ}
-use Rattle.std.proofs.Common.{zero, suc, ◌+◌, ◌-◌, ◌*◌, ◌/◌, ◌<◌, ◌≤◌, List, [], ◌++◌, arith, append_assoc, append-nil}
+use Rattle.std.proofs.Common.{zero, suc, ◌+◌, ◌-◌, ◌*◌, ◌/◌, ◌<◌, ◌≤◌, List, ◌++◌, arith, append_assoc, append-nil}
 use Rattle.std.specs.List.{flat_map, range_with_len}
 use Rattle.tb_gen.specs.Draws.{after, draw, next_state}
 use Rattle.tb_gen.specs.Lines.{each_below}
@@ -62,8 +62,5 @@ unfolding after
 none_yet x = refl
 
 -- a file that has its header alone
-pub starts : (n : ℕ) (lines : ℕ → List ℕ) (empty head file : List ℕ) → empty ≡ [] → file ≡ empty ++ head
-    → file ++ rest_of n lines 0 ≡ head ++ each_below n lines
-starts n lines empty head file none grown =
-    let text : file ≡ head = grown ∙ ap (λ t. t ++ head) none in
-    ap (λ t. t ++ rest_of n lines 0) text ∙ ap (λ t. head ++ t) (all_left n lines)
+pub starts : (n : ℕ) (lines : ℕ → List ℕ) (head file : List ℕ) → file ≡ head → file ++ rest_of n lines 0 ≡ head ++ each_below n lines
+starts n lines head file is = ap (λ t. t ++ rest_of n lines 0) is ∙ ap (λ t. head ++ t) (all_left n lines)

@@ -5,6 +5,7 @@ ghost use Rattle.tb_gen.specs.Variables.{categories_of};
 ghost use Rattle.tb_gen.specs.Generated.{class_line, class_lines, recode_line};
 ghost use Rattle.tb_gen.specs.Generated.{generated_classes, generated_recodes};
 
+use crate::heading::headed;
 use crate::line::Line;
 use crate::variables::{CATEGORIES, Variable};
 use std::alloc::Global;
@@ -48,8 +49,7 @@ pub(crate) fn classes_file(alloc: Global) -> Result<Vec<u8>, Memory>
     ensures { IfOk result (λ file. file.items ≡ generated_classes) }
 {
     let room = CLASSES_HEADER.len() + CATEGORIES as usize * LONGEST_CLASS;
-    let mut file = Vec::with_capacity(alloc, room)?;
-    file.extend_from_slice(CLASSES_HEADER)?;
+    let mut file = headed(alloc, CLASSES_HEADER, room)?;
     add_classes(&mut file, Variable::Area)?;
     add_classes(&mut file, Variable::Age)?;
     add_classes(&mut file, Variable::Sex)?;
@@ -80,8 +80,7 @@ pub(crate) fn recodes_file(alloc: Global) -> Result<Vec<u8>, Memory>
 {
     let ages = Variable::Age.categories();
     let room = RECODES_HEADER.len() + ages as usize * LONGEST_RECODE;
-    let mut file = Vec::with_capacity(alloc, room)?;
-    file.extend_from_slice(RECODES_HEADER)?;
+    let mut file = headed(alloc, RECODES_HEADER, room)?;
     for age in 0..ages {
         add_recode(&mut file, age)?;
     }

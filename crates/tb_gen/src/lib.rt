@@ -14,6 +14,7 @@
 mod classes;
 mod draws;
 mod files;
+mod heading;
 mod line;
 mod people;
 mod ptable;

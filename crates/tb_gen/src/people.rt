@@ -6,6 +6,7 @@ ghost use Rattle.tb_gen.specs.Draws.{after};
 ghost use Rattle.tb_gen.specs.Generated.{person_line, generated_people};
 
 use crate::draws::Draws;
+use crate::heading::headed;
 use crate::line::Line;
 use crate::variables::Variable;
 use std::alloc::Global;
@@ -45,8 +46,7 @@ pub(crate) fn people_file(alloc: Global, n: u32, start: u32) -> Result<Vec<u8>, 
     requires { n ≤ MOST_PERSONS }
     ensures { IfOk result (λ file. file.items ≡ generated_people n start) }
 {
-    let mut file = Vec::with_capacity(alloc, HEADER.len() + n as usize * LONGEST)?;
-    file.extend_from_slice(HEADER)?;
+    let mut file = headed(alloc, HEADER, HEADER.len() + n as usize * LONGEST)?;
     let mut draws = Draws::from(start);
     for i in 0..n {
         add_person(&mut file, i + 1, &mut draws)?;

@@ -7,6 +7,7 @@ ghost use Rattle.tb_gen.specs.Draws.{after};
 ghost use Rattle.tb_gen.specs.Generated.{drawn_pvalue, pvalue_line, row_lines, generated_ptable};
 
 use crate::draws::Draws;
+use crate::heading::headed;
 use crate::line::Line;
 use std::alloc::Global;
 use tb_base::{KEY_RANGE, Memory};
@@ -58,8 +59,7 @@ pub(crate) fn ptable_file(alloc: Global, start: u32) -> Result<Vec<u8>, Memory>
     ensures { IfOk result (λ file. file.items ≡ generated_ptable start) }
 {
     let lines = LAST_ROW as usize * usize::from(KEY_RANGE);
-    let mut file = Vec::with_capacity(alloc, HEADER.len() + lines * LONGEST)?;
-    file.extend_from_slice(HEADER)?;
+    let mut file = headed(alloc, HEADER, HEADER.len() + lines * LONGEST)?;
     let seed = start.wrapping_add(1);
     let mut draws = Draws::from(seed);
     for i in 0..LAST_ROW {

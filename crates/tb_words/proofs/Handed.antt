@@ -1,8 +1,8 @@
 -- What is handed on, and what is given back.
-use Rattle.std.proofs.Common.{◌≡◌, ◌∙◌, ap, sym, refl, ℕ, ◌<◌, true, false, List, [], ◌∷◌, suc, zero, length, map, arith}
+use Rattle.std.proofs.Common.{◌≡◌, ◌∙◌, ap, ap₂, sym, refl, ℕ, ◌<◌, true, false, List, [], ◌∷◌, suc, zero, length, map, arith}
 use Rattle.std.specs.Prelude.{codes, get_or, set}
 use Rattle.std.proofs.lemmas.Slice.Eq.{bytes_eq-Decides}
-use Rattle.std.proofs.lemmas.List.{length-map, length-set}
+use Rattle.std.proofs.lemmas.List.{length-map, length-set, map-set}
 use Rattle.tb_words.specs.Words.{handed_on, has_no_recodes}
 
 -- what was put in the place of a word, and then that word again
@@ -37,3 +37,9 @@ three_told text words told is noted =
     let same : map text told ≡ set words 2 (codes "none") = is ∙ rw noted refl in
     let long : length (map text told) ≡ length words = ap length same ∙ length-set words 2 (codes "none") in
     omega (arith, long, length-map told text, three_words words noted)
+
+-- a name in the place of the recodes
+pub none_named : {S : Type 0} (text : S → List ℕ) (words : List (List ℕ)) (texts : List S) (none : S) → map text texts ≡ words
+    → text none ≡ codes "none" → has_no_recodes words ≡ true → map text (set texts 2 none) ≡ handed_on words
+none_named text words texts none are named noted =
+    map-set text texts 2 none ∙ ap₂ (λ xs x. set xs 2 x) are named ∙ rw noted refl

@@ -1,12 +1,12 @@
 -- What clap makes of the words of each command.
-use Rattle.std.proofs.Common.{◌≡◌, ◌∙◌, ap, refl, ℕ, Bool, true, ◌&&◌, List, [], ◌∷◌, Option, Some, fold, map, length, inl, inr, arith}
-use Rattle.std.specs.Prelude.{codes, option_map, unwrap_or}
+use Rattle.std.proofs.Common.{◌≡◌, ◌∙◌, ap, refl, ℕ, Bool, true, ◌&&◌, List, [], ◌∷◌, Some, fold, map, length, inl, inr, arith}
+use Rattle.std.specs.Prelude.{codes}
 use Rattle.std.specs.List.{list_all, slice_index_or}
 use Rattle.clap.specs.Simple.{Shape, built, names_of, new_shape}
 use Rattle.clap.specs.Takes.{level_passes, takes, walk_passes}
-use Rattle.clap.specs.Walk.{Row, Text, first_of, finished, nothing_held, walked}
+use Rattle.clap.specs.Walk.{Row, Text, finished, nothing_held, walked}
 use Rattle.clap.specs.Words.{subcommand_of}
-use Rattle.tb_words.specs.Positions.{positions_of, program}
+use Rattle.tb_words.specs.Positions.{positions_of, program, value_at}
 use Rattle.tb_words.specs.Words.{AreCommand, is_plain}
 use Rattle.tb_words.proofs.Plain.{level_plain, next_place, rows_plain}
 
@@ -18,17 +18,13 @@ leaf n = slice_index_or (built program).subs n (new_shape [])
 abbrev rows_of_leaf : ℕ → List Text → List Row
 rows_of_leaf n words = finished (leaf n).rules (fold (next_place (leaf n).rules) (nothing_held, 1) words).0
 
--- what stands at the positions of a command
-abbrev pub values_in : List Row → List Text → List Text
-values_in rows positions = map (λ name. unwrap_or (first_of name rows) []) positions
-
 -- what the words of a command come to: clap takes them, and finds each at its position
 pub record IsParsed (words : List Text) : Type 0 where
   pub taken : takes program words ≡ true
   pub name : Text
   pub rows : List Row
   pub found : subcommand_of program words ≡ Some (name, rows)
-  pub given : name ∷ values_in rows (positions_of name) ≡ words
+  pub given : name ∷ map (value_at rows) (positions_of name) ≡ words
 
 abbrev above : List Text → Bool
 above words = level_passes (built program).top (names_of (built program)) nothing_held words true
@@ -132,16 +128,3 @@ parsed words (inl (values, is, len, plain)) = rw is (script_words values len pla
 parsed words (inr (inl (values, is, len, plain))) = rw is (lanes_words values len plain)
 parsed words (inr (inr (inl (values, is, len, plain)))) = rw is (serve_words values len plain)
 parsed words (inr (inr (inr (values, is, len, plain)))) = rw is (gen_words values len plain)
-
--- what clap found in the words of a command, from its name and its matches
-pub found_again : (words : List Text) → AreCommand words → (sub : Option (Text × List Row)) → sub ≡ subcommand_of program words
-    → (name : Text) (rows : List Row) → Some name ≡ option_map (λ p. p.0) sub → Some rows ≡ option_map (λ p. p.1) sub
-    → name ∷ values_in rows (positions_of name) ≡ words
-found_again words are sub is name rows named rowed =
-    let p = parsed words are in
-    let both : sub ≡ Some (p.name, p.rows) = is ∙ p.found in
-    let one : Some name ≡ Some p.name = named ∙ ap (option_map (λ (q : Text × List Row). q.0)) both in
-    let two : Some rows ≡ Some p.rows = rowed ∙ ap (option_map (λ (q : Text × List Row). q.1)) both in
-    let same_name : name ≡ p.name = cc in
-    let same_rows : rows ≡ p.rows = cc in
-    rw (same_name, same_rows) p.given

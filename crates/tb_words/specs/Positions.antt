@@ -1,7 +1,7 @@
 -- The commands as clap sees them: one command with a subcommand for each, all of whose arguments
 -- are positions.
-use Rattle.std.specs.Prelude.{List, [], ◌∷◌, fold, codes, bytes_eq, true, if◌then◌else◌}
-use Rattle.clap.specs.Words.{App, Rule, Text, new_app, new_rule, with_rule, with_subcommand}
+use Rattle.std.specs.Prelude.{List, [], ◌∷◌, fold, codes, bytes_eq, true, if◌then◌else◌, map, Option, Some, None, unwrap_or}
+use Rattle.clap.specs.Words.{App, Row, Rule, Text, first_of, new_app, new_rule, with_rule, with_subcommand}
 
 -- the names of the positions of each command: those of `script`, which are those of `lanes` too
 abbrev pub script_positions : List Text
@@ -57,3 +57,12 @@ program =
     with_command (with_command (with_command (with_command bare_program
     (codes "script") script_positions) (codes "lanes") script_positions)
     (codes "serve") serve_positions) (codes "gen") gen_positions
+
+-- what stands at a position
+abbrev pub value_at : List Row → Text → Text
+value_at rows name = unwrap_or (first_of name rows) []
+
+-- the words that were found: a command's name, and what stands at each of its positions
+abbrev pub words_found : Option (Text × List Row) → List Text
+words_found None = []
+words_found (Some (name, rows)) = name ∷ map (value_at rows) (positions_of name)

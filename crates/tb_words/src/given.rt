@@ -1,9 +1,9 @@
 // The words that are handed to clap, and those that it gives back.
 
 ghost use Rattle.std.specs.Prelude.{◌≡◌, ◌<◌, ◌∷◌, [], IfOk, codes, length, map, set, string_bytes};
-ghost use Rattle.std.specs.Prelude.{unwrap_or};
-ghost use Rattle.clap.specs.Words.{first_of, found_of, rows_of};
-ghost use Rattle.tb_words.specs.Words.{AreTested};
+ghost use Rattle.clap.specs.Words.{found_of, rows_of, subcommand_rows_of};
+ghost use Rattle.tb_words.specs.Positions.{value_at, words_found};
+ghost use Rattle.tb_words.specs.Words.{AreCommand, AreTested};
 ghost use Rattle.tb_words.specs.Words.{handed_on as handed_words};
 ghost use Rattle.tb_words.specs.Words.{has_no_recodes as names_no_recodes};
 
@@ -25,52 +25,72 @@ fn has_no_recodes(words: &[String]) -> bool
     }
 }
 
+// The words as texts.
+fn texts_of(alloc: Global, words: &[String]) -> Result<Vec<&str>, Memory>
+    ensures { IfOk result (λ texts. map (λ s. s.now) texts.items ≡ map string_bytes words.now) }
+{
+    let mut texts = Vec::with_capacity(alloc, words.len())?;
+    for word in words {
+        let text = word.as_str();
+        texts.push(text)?;
+    }
+    Ok(texts)
+}
+
 // The words with a name for the recodes.
 fn handed_on(alloc: Global, words: &[String]) -> Result<Vec<&str>, Memory>
     ensures { IfOk result (λ handed. map (λ s. s.now) handed.items
         ≡ handed_words (map string_bytes words.now)) }
 {
-    let mut handed = Vec::with_capacity(alloc, words.len())?;
-    for word in words {
-        let text = word.as_str();
-        handed.push(text)?;
-    }
+    let mut handed = texts_of(alloc, words)?;
     if has_no_recodes(words) {
         handed[RECODES] = "none";
     }
     Ok(handed)
 }
 
-// What stands at each of these positions.
-fn values_at<'a>(
+// The name, and what stands at each of these positions, as words of their own.
+fn words_at(
     alloc: Global,
-    found: &ArgMatches<'a>,
+    name: &str,
+    found: &ArgMatches,
     positions: &[&str],
-) -> Result<Vec<&'a str>, Memory>
-    ensures { IfOk result (λ values. map (λ s. s.now) values.items
-        ≡ map (λ s. unwrap_or (first_of s.now (rows_of (found_of found.now))) []) positions.now) }
-{
-    let mut values = Vec::with_capacity(alloc, positions.len())?;
-    for position in positions {
-        let value = found.get_str(*position);
-        values.push(value.unwrap_or(""))?;
-    }
-    Ok(values)
-}
-
-// A command's name and its arguments, as words of their own.
-fn words_of(alloc: Global, name: &str, values: &[&str]) -> Result<Vec<String>, Memory>
+) -> Result<Vec<String>, Memory>
     ensures { IfOk result (λ words. map string_bytes words.items
-        ≡ name.now ∷ map (λ s. s.now) values.now) }
+        ≡ name.now ∷ map (λ s. value_at (rows_of (found_of found.now)) s.now) positions.now) }
 {
-    let mut words = Vec::with_capacity(alloc, values.len() + 1)?;
+    let mut words = Vec::with_capacity(alloc, positions.len() + 1)?;
     let first = String::from_str(alloc, name)?;
     words.push(first)?;
-    for value in values {
-        let word = String::from_str(alloc, *value)?;
+    for position in positions {
+        let value = found.get_str(*position);
+        let word = String::from_str(alloc, value.unwrap_or(""))?;
         words.push(word)?;
     }
     Ok(words)
+}
+
+// The words that clap found.
+fn found_words(alloc: Global, matches: &ArgMatches) -> Result<Vec<String>, Memory>
+    ensures { IfOk result (λ words. map string_bytes words.items
+        ≡ words_found (subcommand_rows_of matches.now)) }
+{
+    let Some((name, found)) = matches.subcommand() else {
+        return Err(Memory);
+    };
+    let positions = positions_of(name);
+    words_at(alloc, name, found, positions)
+}
+
+// The words that were handed on, as clap found them.
+fn told_words(alloc: Global, handed: &[&str]) -> Result<Vec<String>, Memory>
+    requires { AreCommand (map (λ s. s.now) handed.now) }
+    ensures { IfOk result (λ told. map string_bytes told.items ≡ map (λ s. s.now) handed.now) }
+{
+    let Ok(matches) = clap_matches(alloc, handed) else {
+        return Err(Memory);
+    };
+    found_words(alloc, &matches)
 }
 
 // The words with `-` for the recodes.
@@ -104,16 +124,6 @@ pub fn in_positions(alloc: Global, words: &[String]) -> Result<Vec<String>, Memo
     ensures { IfOk result (λ told. map string_bytes told.items ≡ map string_bytes words.now) }
 {
     let handed = handed_on(alloc, words)?;
-    let given = handed.as_slice();
-    let Ok(matches) = clap_matches(alloc, given) else {
-        return Err(Memory);
-    };
-    let Some((name, found)) = matches.subcommand() else {
-        return Err(Memory);
-    };
-    let positions = positions_of(name);
-    let values = values_at(alloc, found, positions)?;
-    let texts = values.as_slice();
-    let told = words_of(alloc, name, texts)?;
+    let told = told_words(alloc, handed.as_slice())?;
     as_they_were(alloc, words, told)
 }

@@ -3,13 +3,14 @@
 ghost use Rattle.std.specs.Prelude.{◌≡◌, IfErr, IfOk, false, map};
 ghost use Rattle.clap.specs.Words.{app_of, kind_of, rule_of, subcommand_of, subcommand_rows_of};
 ghost use Rattle.clap.specs.declared.error.kind.ErrorKind.TheVariants.{OutOfMemory};
-ghost use Rattle.tb_words.specs.Positions.{bare_program, command_with, position as position_of};
+ghost use Rattle.tb_words.specs.Positions.{command_with, position as position_of};
 ghost use Rattle.tb_words.specs.Positions.{positions_of as names_of, program as the_program};
-ghost use Rattle.tb_words.specs.Positions.{with_command as and_command};
 ghost use Rattle.tb_words.specs.Words.{AreCommand};
 
 use clap::{Arg, ArgMatches, Command, Error};
 use std::alloc::{AllocError, Global};
+
+static COMMANDS: [&str; 4] = ["script", "lanes", "serve", "gen"];
 
 static SCRIPT: [&str; 6] = [
     "CLASSES",
@@ -69,40 +70,32 @@ fn command<'a>(alloc: Global, name: &'static str) -> Result<Command<'a>, AllocEr
     Ok(command)
 }
 
-// The program before its commands are added.
-fn empty_program<'a>(alloc: Global) -> Command<'a>
-    ensures { app_of result ≡ bare_program }
+// The commands of these names.
+fn commands<'a>(alloc: Global, names: &[&'static str]) -> Result<Vec<Command<'a>>, AllocError>
+    ensures { IfOk result (λ commands. map app_of commands.items
+        ≡ map (λ s. command_with s.now (names_of s.now)) names.now) }
 {
-    Command::new(alloc, "tablebuilder")
-        .no_binary_name(true)
-        .disable_help_flag(true)
-        .disable_help_subcommand(true)
-}
-
-// A program with one more command.
-fn with_command<'a>(
-    alloc: Global,
-    program: Command<'a>,
-    name: &'static str,
-) -> Result<Command<'a>, AllocError>
-    ensures { IfOk result (λ c. app_of c
-        ≡ and_command (app_of program.entry) name.now (names_of name.now)) }
-{
-    let one = command(alloc, name)?;
-    let more = program.subcommand(one)?;
-    Ok(more)
+    let mut commands = Vec::with_capacity(alloc, names.len())?;
+    for name in names {
+        match command(alloc, *name) {
+            Ok(one) => commands.push(one)?,
+            Err(error) => return Err(error),
+        }
+    }
+    Ok(commands)
 }
 
 // The program, with a subcommand for each command.
 fn program<'a>(alloc: Global) -> Result<Command<'a>, AllocError>
     ensures { IfOk result (λ c. app_of c ≡ the_program) }
 {
-    let bare = empty_program(alloc);
-    let script = with_command(alloc, bare, "script")?;
-    let lanes = with_command(alloc, script, "lanes")?;
-    let serve = with_command(alloc, lanes, "serve")?;
-    let generated = with_command(alloc, serve, "gen")?;
-    Ok(generated)
+    let names = COMMANDS.as_slice();
+    let commands = commands(alloc, names)?;
+    Command::new(alloc, "tablebuilder")
+        .no_binary_name(true)
+        .disable_help_flag(true)
+        .disable_help_subcommand(true)
+        .subcommands(commands)
 }
 
 /// What clap makes of the words of a command. It fails for want of memory alone.
@@ -113,8 +106,5 @@ pub(crate) fn clap_matches<'a>(alloc: Global, words: &'a [&'a str]) -> Result<Ar
     ensures err { IfErr result (λ e. kind_of e ≡ OutOfMemory) }
 {
     let program = program(alloc)?;
-    match program.try_get_matches_from(words) {
-        Ok(matches) => Ok(matches),
-        Err(error) => Err(error),
-    }
+    program.try_get_matches_from(words)
 }

@@ -11,7 +11,7 @@ lines start i = person_line (i + 1) (after (5 * i) start)
 pub loop-i-init : goal.loop-i-init
 loop-i-init c = record {
   draws = c.from-draws.ensures ∙ sym (none_yet c.args.start);
-  file = starts c.args.n (lines c.args.start) _ _ _ c.in_ok-file.ensures.items c.in_ok-extend_from_slice.ensures.items;
+  file = starts c.args.n (lines c.args.start) _ _ c.in_ok-file.ensures;
 }
 
 pub loop-i-preserved : goal.loop-i-preserved

@@ -13,7 +13,7 @@ lines start i = row_lines (i + 1) (after (KEY_RANGE * i) (seed start 1))
 pub loop-i-init : goal.loop-i-init
 loop-i-init c = record {
   draws = c.from-draws.ensures ∙ sym (none_yet (seed c.args.start 1));
-  file = starts LAST_ROW (lines c.args.start) _ _ _ c.in_ok-file.ensures.items c.in_ok-extend_from_slice.ensures.items;
+  file = starts LAST_ROW (lines c.args.start) _ _ c.in_ok-file.ensures;
 }
 
 pub loop-i-preserved : goal.loop-i-preserved

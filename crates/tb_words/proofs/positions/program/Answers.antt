@@ -1,11 +1,15 @@
-use Rattle.std.proofs.Common.{◌∙◌, ap, codes}
-use Rattle.tb_words.specs.Positions.{gen_positions, script_positions, serve_positions, with_command}
+use Rattle.std.proofs.Common.{◌≡◌, ap, rules, true}
+use Rattle.clap.specs.Words.{App, app_of}
+use Rattle.tb_words.specs.Positions.{bare_program}
+use Rattle.tb_words.proofs.Built.{program_of}
 use Rattle.tb_words.proofs.positions.program.Goals as goal
 
 pub returns : goal.returns
 returns c =
-    let script = c.in_ok-script.ensures
-    ∙ ap (λ a. with_command a (codes "script") script_positions) c.empty_program-bare.ensures in
-    let lanes = c.in_ok-lanes.ensures ∙ ap (λ a. with_command a (codes "lanes") script_positions) script in
-    let serve = c.in_ok-serve.ensures ∙ ap (λ a. with_command a (codes "serve") serve_positions) lanes in
-    c.in_ok-generated.ensures ∙ ap (λ a. with_command a (codes "gen") gen_positions) serve
+    let bare : app_of c.disable_help_subcommand.result ≡ bare_program =
+    rw (c.disable_help_subcommand.ensures, c.disable_help_flag.ensures, c.no_binary_name.ensures)
+    (ap (λ (a : App). record a {
+      top = record a.top { no_binary_name = true; disable_help_flag = true; disable_help_subcommand = true };
+    }) c.new.ensures.app) in
+    program_of c.subcommands.result c.disable_help_subcommand.result c.as_slice-names.result.now c.in_ok-commands.commands.items
+    c.subcommands.ensures bare c.in_ok-commands.ensures (search rules)
