@@ -14,8 +14,9 @@ use Rattle.tb_base.specs.Records.{category_at}
 use Rattle.tb_grid.specs.declared.products.TheConstants.{MOST_CELLS}
 use Rattle.tb_piece.specs.Pieces.{between, code_column, key_column}
 use Rattle.tb_cube.specs.declared.axes.Axis.{Axis}
-use Rattle.tb_cube.specs.Axes.{number_by, numbers_by, with_all, AreNumbered, LeadsBelow}
-use Rattle.tb_cube.proofs.Adding.{rest-put}
+use Rattle.tb_cube.specs.Axes.{codes_by, no_axis, number_by, numbers_by, with_all, AreNumbered, LeadsBelow}
+use Rattle.tb_grid.proofs.Sums.{sum-one, sum-two}
+use Rattle.tb_cube.proofs.Adding.{made-with, number-any, rest-put, room-left, Number}
 
 -- a part of a column
 drop-map : {X Y : Type 0} (f : X → Y) (n : ℕ) (xs : List X) → drop n (map f xs) ≡ map f (drop n xs)
@@ -131,3 +132,55 @@ rest-numbered start cells numbers keys k new below made axes records are so_far 
     let key : get_or keys k 0 ≡ r.key = ap (λ ks. get_or ks k 0) are.keys_are ∙ get_or-map (λ q. q.key) records k no_record 0 within in
     rest-put axes start cells records k (get_or numbers k 0) r new within (get_or_default records k no_record r within) number
     (made ∙ ap (with_key (get_or cells (get_or numbers k 0) empty_cell)) key) so_far
+
+-- one turn of a loop that puts records in
+pub record Turn (axes : List Axis) (start next : List Cell) (records : List Record) (i : ℕ) : Type 0 where
+  pub with_them : with_all axes next (drop (i + 1) records) ≡ with_all axes start records
+  pub room : All (λ (c : Cell). c.count + (length records - (i + 1)) < 2 ^ 32) next
+
+-- of the record at a place: its key and its codes are those of the columns
+module _ (records : List Record) (i : ℕ) (keys : List ℕ) (are : keys ≡ key_column records) (below : i < length keys) where
+  inside : i < length records
+  inside = omega (arith, below, ap (λ (ks : List ℕ). length ks) are, length-map records (λ r. r.key))
+
+  key-at : get_or keys i 0 ≡ (get_or records i no_record).key
+  key-at = ap (λ ks. get_or ks i 0) are ∙ get_or-map (λ r. r.key) records i no_record 0 inside
+
+  pub code-there : (axes : List Axis) (k : ℕ) (codes : List ℕ) → codes ≡ codes_by axes k records → i < length codes
+  code-there axes k codes is = omega (arith, inside, ap (λ (cs : List ℕ). length cs) is, length-map records (λ r. category_at r (get_or axes k no_axis).variable))
+
+  offset-at : (axes : List Axis) (k : ℕ) (codes : List ℕ) (u : ℕ) → codes ≡ codes_by axes k records → u ≡ get_or codes i 0 * (get_or axes k no_axis).stride
+      → u ≡ leads_on records i (get_or axes k no_axis)
+  offset-at axes k codes u is lead =
+      lead ∙ ap (λ n. n * (get_or axes k no_axis).stride)
+      (ap (λ cs. get_or cs i 0) is ∙ get_or-map (λ r. category_at r (get_or axes k no_axis).variable) records i no_record 0 inside)
+
+  -- the number of its cell, by one variable and by two
+  module _ (axes : List Axis) (start cells : List Cell) (lead : All (LeadsBelow (length start) axes) records) (long : length cells ≡ length start) where
+    at-cell : (n : ℕ) → n ≡ number_by axes (category_at (get_or records i no_record)) → Number axes (length cells) (get_or records i no_record) n
+    at-cell = number-any axes start cells records i (get_or records i no_record) lead inside (get_or_default records i no_record (get_or records i no_record) inside) long
+
+    pub by-one : (of_v : List ℕ) (u : ℕ) → length axes ≡ 1 → of_v ≡ codes_by axes 0 records → u ≡ get_or of_v i 0 * (get_or axes 0 no_axis).stride
+        → Number axes (length cells) (get_or records i no_record) u
+    by-one of_v u count is a = at-cell u (offset-at axes 0 of_v u is a ∙ sum-one (leads_on records i) axes no_axis count)
+
+    pub by-two : (of_v of_w : List ℕ) (u v : ℕ) → length axes ≡ 2 → of_v ≡ codes_by axes 0 records → of_w ≡ codes_by axes 1 records
+        → u ≡ get_or of_v i 0 * (get_or axes 0 no_axis).stride → v ≡ get_or of_w i 0 * (get_or axes 1 no_axis).stride
+        → Number axes (length cells) (get_or records i no_record) (u + v)
+    by-two of_v of_w u v count is is' a b =
+        at-cell (u + v)
+        (ap (λ y. y + v) (offset-at axes 0 of_v u is a) ∙ ap (λ y. leads_on records i (get_or axes 0 no_axis) + y) (offset-at axes 1 of_w v is' b)
+        ∙ sum-two (leads_on records i) axes no_axis count)
+
+  -- one turn
+  pub turn-at : (axes : List Axis) (start cells : List Cell) (number : ℕ) (new : Cell) → Number axes (length cells) (get_or records i no_record) number
+      → with_all axes cells (drop i records) ≡ with_all axes start records → All (λ (c : Cell). c.count + (length records - i) < 2 ^ 32) cells
+      → ((get_or cells number empty_cell).count + 1 < 2 ^ 32 → new ≡ with_key (get_or cells number empty_cell) (get_or keys i 0)) → Turn axes start (set cells number new) records i
+  turn-at axes start cells number new at so_far room exact =
+      let r : Record = get_or records i no_record in
+      let made : new ≡ with_key (get_or cells number empty_cell) r.key =
+      made-with cells number i (length records) r.key new at.there inside room (λ few. exact few ∙ ap (with_key (get_or cells number empty_cell)) key-at) in
+      record {
+        with_them = rest-put axes start cells records i number r new inside (get_or_default records i no_record r inside) at.is made so_far;
+        room = room-left cells number i (length records) r.key new at.there inside room made;
+      }

@@ -131,7 +131,3 @@ leads-in cube axes r is fits =
       low = leads-wider (length cube.cells) MOST_CELLS axes r is.whole.few lead;
       number = rw is.axes_are (number-place cube.shape cube.vars (category_at r) below few);
     }
-
--- no axis
-abbrev pub no_axis : Axis
-no_axis = record { variable = 0; stride = 0 }

@@ -7,7 +7,7 @@ use Rattle.tb_base.specs.declared.records.Record.{Record}
 use Rattle.tb_base.specs.Cells.{empty_cell, with_key}
 use Rattle.tb_base.specs.Records.{category_at}
 use Rattle.tb_grid.specs.Products.{cells_over}
-use Rattle.tb_piece.specs.Pieces.{key_column}
+use Rattle.tb_piece.specs.Pieces.{code_column, key_column}
 use Rattle.tb_cube.specs.declared.axes.Axis.{Axis}
 use Rattle.tb_cube.specs.Cubes.{CubeValue, IsWhole}
 
@@ -31,6 +31,14 @@ with_all axes cells (r ∷ rs) =
     let number = number_by axes (category_at r) in
     with_all axes
     (slice_set cells number (with_key (slice_index_or cells number empty_cell) r.key)) rs
+
+-- no axis: where a list of axes has none
+abbrev pub no_axis : Axis
+no_axis = record { variable = 0; stride = 0 }
+
+-- the codes of records of an axis' variable, by the axis' place
+abbrev pub codes_by : List Axis → ℕ → List Record → List ℕ
+codes_by axes k records = code_column records (slice_index_or axes k no_axis).variable
 
 -- a record has a category of each axis' variable, and its number is below a limit
 pub record LeadsBelow (limit : ℕ) (axes : List Axis) (r : Record) : Type 0 where

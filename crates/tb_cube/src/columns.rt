@@ -1,6 +1,7 @@
-// Records of a piece put into the cells of their categories, read by column: the numbers of their
-// cells are worked out a variable at a time, and then their keys are put in. Where a column is
-// missing the records are read.
+// Records of a piece put into the cells of their categories, read by column. Many cells of one or
+// two variables are found code by code; for few cells, or more variables, the numbers of the
+// records' cells are worked out a variable at a time, and then their keys are put in. Where a column
+// is missing the records are read.
 
 ghost use Rattle.std.specs.Prelude.{◌≡◌, ℕ, List, ◌*◌, ◌+◌, ◌%◌, ◌<◌, ◌≤◌, ◌^◌, All, true, length};
 ghost use Rattle.std.specs.Prelude.{replicate, slice_index, take};
@@ -8,14 +9,14 @@ ghost use Rattle.std.specs.Option.{ForSome};
 ghost use Rattle.tb_base.specs.declared.records.Record.{Record as AnyRecord};
 ghost use Rattle.tb_base.specs.declared.tallies.TheConstants.{MOST_TALLIED};
 ghost use Rattle.tb_grid.specs.declared.products.TheConstants.{MOST_CELLS};
-ghost use Rattle.tb_piece.specs.Pieces.{between, code_column};
+ghost use Rattle.tb_piece.specs.Pieces.{between, code_column, key_column};
 ghost use Rattle.tb_cube.specs.declared.axes.Axis.{Axis as AnyAxis};
 ghost use Rattle.tb_cube.specs.declared.columns.TheConstants.{MOST_NUMBERED};
-ghost use Rattle.tb_cube.specs.Axes.{numbers_by, with_all, AreNumbered, LeadsBelow};
+ghost use Rattle.tb_cube.specs.Axes.{codes_by, numbers_by, with_all, AreNumbered, LeadsBelow};
 
 use crate::axes::Axis;
 use crate::putting::put_all;
-use tb_base::{Cell, MOST_TALLIED, add_tallies, know_cells};
+use tb_base::{Cell, MOST_TALLIED, Record, add_tallies, know_cells};
 use tb_piece::Piece;
 
 // So many records at most are read by column at once: a whole page.
@@ -30,6 +31,13 @@ fn part<T>(items: &[T], from: usize, to: usize) -> &[T]
     rest
 }
 
+// The keys from one place of a piece up to another.
+fn keys_in(piece: &Piece, from: usize, to: usize) -> &[u8]
+    ensures { result.now ≡ key_column (between from to piece.now) }
+{
+    part(piece.keys(), from, to)
+}
+
 // The codes of an axis' variable, from one place of a piece up to another.
 fn codes_in(piece: &Piece, axis: Axis, from: usize, to: usize) -> Option<&[u16]>
     ensures { ForSome result
@@ -37,6 +45,62 @@ fn codes_in(piece: &Piece, axis: Axis, from: usize, to: usize) -> Option<&[u16]>
 {
     let codes = piece.column(axis.variable as usize)?;
     Some(part(codes, from, to))
+}
+
+// How far the code at a place leads.
+#[inline]
+fn offset_at(axis: Axis, codes: &[u16], i: usize) -> usize
+    requires { i < length codes.now }
+    ensures { result ≡ slice_index codes.now i * axis.stride }
+{
+    codes[i] as usize * axis.stride as usize
+}
+
+// Puts records in by one variable, where these are their keys and their codes of it. The records
+// aren't read: they are what the clauses speak of.
+fn add_by_one(cells: &mut [Cell], axes: &[Axis], records: &[Record], keys: &[u8], of_v: &[u16])
+    requires axes { length axes.now ≡ 1 }
+    requires few { length cells.old ≤ MOST_CELLS }
+    requires lead { All (LeadsBelow (length cells.old) axes.now) records.now }
+    requires room { All (λ c. c.count + length records.now < 2 ^ 32) cells.old }
+    requires keys { keys.now ≡ key_column records.now }
+    requires v { of_v.now ≡ codes_by axes.now 0 records.now }
+    ensures { cells.new ≡ with_all axes.now cells.old records.now }
+{
+    let _ = records;
+    let v = axes[0];
+    for i in 0..keys.len() {
+        let by_v = offset_at(v, of_v, i);
+        cells[by_v].put(keys[i]);
+    }
+}
+
+// The same by two variables.
+fn add_by_two(
+    cells: &mut [Cell],
+    axes: &[Axis],
+    records: &[Record],
+    keys: &[u8],
+    of_v: &[u16],
+    of_w: &[u16],
+)
+    requires axes { length axes.now ≡ 2 }
+    requires few { length cells.old ≤ MOST_CELLS }
+    requires lead { All (LeadsBelow (length cells.old) axes.now) records.now }
+    requires room { All (λ c. c.count + length records.now < 2 ^ 32) cells.old }
+    requires keys { keys.now ≡ key_column records.now }
+    requires v { of_v.now ≡ codes_by axes.now 0 records.now }
+    requires w { of_w.now ≡ codes_by axes.now 1 records.now }
+    ensures { cells.new ≡ with_all axes.now cells.old records.now }
+{
+    let _ = records;
+    let v = axes[0];
+    let w = axes[1];
+    for i in 0..keys.len() {
+        let by_v = offset_at(v, of_v, i);
+        let by_w = offset_at(w, of_w, i);
+        cells[by_v + by_w].put(keys[i]);
+    }
 }
 
 // Adds how far each code leads to its number.
@@ -122,8 +186,43 @@ fn put_by_numbers(cells: &mut [Cell], numbers: &[u32], keys: &[u8])
     }
 }
 
-/// Puts the records of a piece from one place up to another in, as far as it goes.
-pub fn put_piece(cells: &mut [Cell], axes: &[Axis], piece: &Piece, from: usize, to: usize)
+// Puts the records of a piece between two places in by one variable.
+fn put_by_one(cells: &mut [Cell], axes: &[Axis], piece: &Piece, from: usize, to: usize)
+    requires axes { length axes.now ≡ 1 }
+    requires few { length cells.old ≤ MOST_CELLS }
+    requires lead { All (LeadsBelow (length cells.old) axes.now) (between from to piece.now) }
+    requires room { All (λ c. c.count + length (between from to piece.now) < 2 ^ 32) cells.old }
+    ensures { cells.new ≡ with_all axes.now cells.old (between from to piece.now) }
+{
+    let records = part(piece.records(), from, to);
+    let keys = keys_in(piece, from, to);
+    let Some(of_v) = codes_in(piece, axes[0], from, to) else {
+        return put_all(cells, axes, records);
+    };
+    add_by_one(cells, axes, records, keys, of_v);
+}
+
+// The same by two variables.
+fn put_by_two(cells: &mut [Cell], axes: &[Axis], piece: &Piece, from: usize, to: usize)
+    requires axes { length axes.now ≡ 2 }
+    requires few { length cells.old ≤ MOST_CELLS }
+    requires lead { All (LeadsBelow (length cells.old) axes.now) (between from to piece.now) }
+    requires room { All (λ c. c.count + length (between from to piece.now) < 2 ^ 32) cells.old }
+    ensures { cells.new ≡ with_all axes.now cells.old (between from to piece.now) }
+{
+    let records = part(piece.records(), from, to);
+    let keys = keys_in(piece, from, to);
+    let Some(of_v) = codes_in(piece, axes[0], from, to) else {
+        return put_all(cells, axes, records);
+    };
+    let Some(of_w) = codes_in(piece, axes[1], from, to) else {
+        return put_all(cells, axes, records);
+    };
+    add_by_two(cells, axes, records, keys, of_v, of_w);
+}
+
+// The same by any number of variables.
+fn put_by_any(cells: &mut [Cell], axes: &[Axis], piece: &Piece, from: usize, to: usize)
     requires few { length cells.old ≤ MOST_CELLS }
     requires lead { All (LeadsBelow (length cells.old) axes.now) (between from to piece.now) }
     requires room { All (λ c. c.count + length (between from to piece.now) < 2 ^ 32) cells.old }
@@ -136,9 +235,25 @@ pub fn put_piece(cells: &mut [Cell], axes: &[Axis], piece: &Piece, from: usize, 
     let mut numbers = [0; MOST_NUMBERED];
     let all_there = write_numbers(axes, piece, from, to, &mut numbers);
     if all_there {
-        let keys = part(piece.keys(), from, to);
+        let keys = keys_in(piece, from, to);
         put_by_numbers(cells, &numbers[..records.len()], keys);
     } else {
         put_all(cells, axes, records);
+    }
+}
+
+/// Puts the records of a piece from one place up to another in, as far as it goes.
+pub fn put_piece(cells: &mut [Cell], axes: &[Axis], piece: &Piece, from: usize, to: usize)
+    requires few { length cells.old ≤ MOST_CELLS }
+    requires lead { All (LeadsBelow (length cells.old) axes.now) (between from to piece.now) }
+    requires room { All (λ c. c.count + length (between from to piece.now) < 2 ^ 32) cells.old }
+    ensures { cells.new ≡ with_all axes.now cells.old (between from to piece.now) }
+{
+    if cells.len() > MOST_TALLIED && axes.len() == 1 {
+        put_by_one(cells, axes, piece, from, to);
+    } else if cells.len() > MOST_TALLIED && axes.len() == 2 {
+        put_by_two(cells, axes, piece, from, to);
+    } else {
+        put_by_any(cells, axes, piece, from, to);
     }
 }

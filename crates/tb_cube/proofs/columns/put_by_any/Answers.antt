@@ -1,11 +1,11 @@
-use Rattle.std.proofs.Common.{◌≡◌, List, ℕ, ◌<◌, length, take, ap, ◌∙◌, All}
+use Rattle.std.proofs.Common.{◌≡◌, List, length, take, ap, ◌∙◌}
 use Rattle.tb_base.specs.declared.records.Record.{Record}
 use Rattle.tb_grid.specs.declared.products.TheConstants.{MOST_CELLS}
-use Rattle.tb_piece.specs.Pieces.{between, key_column}
-use Rattle.tb_cube.specs.Axes.{numbers_by, AreNumbered, LeadsBelow}
-use Rattle.tb_cube.proofs.ByColumn.{between-map, numbers-below}
+use Rattle.tb_piece.specs.Pieces.{between}
+use Rattle.tb_cube.specs.Axes.{numbers_by}
+use Rattle.tb_cube.proofs.ByColumn.{numbers-below}
 use Rattle.tb_cube.proofs.Grid.{leads-wider}
-use Rattle.tb_cube.proofs.columns.put_piece.Goals as goal
+use Rattle.tb_cube.proofs.columns.put_by_any.Goals as goal
 
 pub put_all-requires-clause-lead : goal.put_all-requires-clause-lead
 put_all-requires-clause-lead c = rw (c.part-records.ensures, c.records.ensures) c.requires.lead
@@ -28,7 +28,7 @@ returns-then-all_there c =
     c.put_by_numbers.ensures c.args.axes.now part (record {
       lead = c.requires.lead;
       numbers_are = ap (λ (rs : List Record). take (length rs) c.write_numbers-all_there.new.numbers) here ∙ c.write_numbers-all_there.ensures c.if-all_there.true;
-      keys_are = c.part-keys.ensures ∙ ap (λ (ks : List ℕ). between c.args.from c.args.to ks) c.keys.ensures ∙ between-map (λ (r : Record). r.key) c.args.from c.args.to c.args.piece.now;
+      keys_are = c.keys_in-keys.ensures;
     })
 
 pub put_all-requires-else-all_there-clause-lead : goal.put_all-requires-else-all_there-clause-lead
