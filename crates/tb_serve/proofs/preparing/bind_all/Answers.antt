@@ -1,12 +1,9 @@
 use Rattle.std.proofs.Common.{arith}
 use Rattle.std.specs.Prelude.{slice_index_or}
 use Rattle.tb_serve.specs.Stages.{IsBoundAt}
-use Rattle.tb_serve.proofs.Each.{half_more, half_start, half_whole}
+use Rattle.tb_serve.proofs.Each.{half_more}
 use Rattle.tb_serve.proofs.Binding.{all_untouched, not_bound, risen_there}
 use Rattle.tb_serve.proofs.preparing.bind_all.Goals as goal
-
-pub loop-i-init : goal.loop-i-init
-loop-i-init g c = half_start (IsBoundAt c.args.first) c.args.ports.now
 
 pub loop-i-preserved : goal.loop-i-preserved
 loop-i-preserved g c =
@@ -26,7 +23,3 @@ returns-in-Failed-clause-risen g c = λ is.
     risen_there c.args.first c.args.ports.now c.loop-i.ports c.loop-i.i c.index-ports-i.result c.bind.new.self (omega
     (arith, c.loop-i.auto.ports)) c.loop-i.auto.ports c.loop-i.invariant
     c.in-Failed.ensures.bound.1
-
-pub returns-clause-ready : goal.returns-clause-ready
-returns-clause-ready g c = λ is.
-    half_whole (IsBoundAt c.args.first) c.args.ports.now c.loop-i.ports c.loop-i.i c.loop-i.invariant c.loop-i.auto.ports (omega arith)
