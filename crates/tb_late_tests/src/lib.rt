@@ -8,8 +8,6 @@ mod clients;
 #[cfg(test)]
 mod command;
 #[cfg(test)]
-mod compared;
-#[cfg(test)]
 mod failing;
 #[cfg(test)]
 mod loopback;
@@ -17,8 +15,6 @@ mod loopback;
 mod making;
 #[cfg(test)]
 mod many;
-#[cfg(test)]
-mod ports;
 #[cfg(test)]
 mod running;
 #[cfg(test)]

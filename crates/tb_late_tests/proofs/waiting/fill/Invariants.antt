@@ -1,6 +1,6 @@
 use Rattle.std.proofs.Common.{◌≡◌, All, vec_len}
 use Rattle.tb_serve.specs.Stages.{IsFresh}
-use Rattle.tb_late_tests.proofs.ports.fill.Given as goal
+use Rattle.tb_late_tests.proofs.waiting.fill.Given as goal
 
 -- as many ports as the loop's counter says, all fresh
 abbrev pub invariant-loop : goal.invariant-loop
