@@ -10,3 +10,5 @@ mod loopback;
 mod memory;
 #[cfg(test)]
 mod tasks;
+#[cfg(test)]
+mod waiting;
