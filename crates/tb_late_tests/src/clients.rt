@@ -1,6 +1,5 @@
 // Clients of sessions over loopback: one that stays, and some that hang up or take their time.
 
-use std::alloc::Global;
 use std::io::{Read as _, Write as _};
 use std::net::{Ipv4Addr, Net, Shutdown, TcpListener, TcpStream};
 use std::thread;
@@ -13,16 +12,16 @@ const TRIES: u32 = 1_000;
 const MOST_SENDS: u32 = 1_000_000;
 
 // A query, and its reply at release 0.
-const QUERY: &[u8] = b"table SEX\n";
+const QUERY: &[u8; 10] = b"table SEX\n";
 
-const TABLE: &[u8; 30] = b"release 0\nSEX,count\n1,1\n2,2\n.\n";
+const TABLE: &[u8] = b"release 0\nSEX,count\n1,1\n2,2\n.\n";
 
 // A query at fault, its reply, and how many a client sends at once.
-const FAULTY: &[u8] = b"table NOSUCH\n";
+const FAULTY: &[u8; 13] = b"table NOSUCH\n";
 
-const REFUSAL: &[u8; 24] = b"refused 3 UnknownName 2\n";
+const REFUSAL: &[u8] = b"refused 3 UnknownName 2\n";
 
-const AT_ONCE: u32 = 100;
+const AT_ONCE: usize = 100;
 
 /// What a client does.
 #[derive(Clone, Copy)]
@@ -37,9 +36,11 @@ pub enum Client {
     LeavesInReply,
     /// Sends lines until the server takes no more, never reads, and closes.
     NeverReads,
+    /// Sends a query, closes its writing half, and reads just its reply and the end.
+    Stays,
 }
 
-static CLIENTS: [Client; 5] = [
+static LEAVING: [Client; 5] = [
     Client::ByteByByte,
     Client::ManyAtOnce,
     Client::LeavesInLine,
@@ -47,20 +48,42 @@ static CLIENTS: [Client; 5] = [
     Client::NeverReads,
 ];
 
-/// Each client once.
-pub fn clients() -> &'static [Client] {
-    &CLIENTS
+// Each client but the one that stays.
+fn leaving() -> &'static [Client] {
+    &LEAVING
+}
+
+// A listener at a port, or at any free one where it is 0.
+fn listen<R: Net<Listener = TcpListener, Stream = TcpStream>>(
+    rt: &R,
+    port: u16,
+) -> Option<TcpListener> {
+    TcpListener::bind(rt, (Ipv4Addr::LOCALHOST, port)).ok()
 }
 
 // Whether nobody listens at a port.
 fn is_free<R: Net<Listener = TcpListener, Stream = TcpStream>>(rt: &R, port: u16) -> bool {
-    TcpListener::bind(rt, (Ipv4Addr::LOCALHOST, port)).is_ok()
+    listen(rt, port).is_some()
+}
+
+fn port_of(listener: &TcpListener) -> Option<u16> {
+    match listener.local_addr() {
+        Ok(addr) => Some(addr.port()),
+        Err(_) => None,
+    }
+}
+
+// A port that is free now.
+fn free_port<R: Net<Listener = TcpListener, Stream = TcpStream>>(rt: &R) -> Option<u16> {
+    match listen(rt, 0) {
+        Some(listener) => port_of(&listener),
+        None => None,
+    }
 }
 
 /// The first of two free ports in a row. Callers at the same time look at other ones.
 pub fn free_ports<R: Net<Listener = TcpListener, Stream = TcpStream>>(rt: &R) -> Option<u16> {
-    let listener = TcpListener::bind(rt, (Ipv4Addr::LOCALHOST, 0)).ok()?;
-    let any = listener.local_addr().ok()?.port();
+    let any = free_port(rt)?;
     for first in 20_000 + any % 10_000..31_000 {
         if is_free(rt, first) && is_free(rt, first + 1) {
             return Some(first);
@@ -69,14 +92,13 @@ pub fn free_ports<R: Net<Listener = TcpListener, Stream = TcpStream>>(rt: &R) ->
     None
 }
 
-// Connects as soon as there is a listener, and sends each piece at once.
+// Connects as soon as there is a listener.
 fn connect<R: Net<Listener = TcpListener, Stream = TcpStream> + Clock>(
     rt: &R,
     port: u16,
 ) -> Option<TcpStream> {
     for _ in 0..TRIES {
         if let Ok(stream) = TcpStream::connect(rt, (Ipv4Addr::LOCALHOST, port)) {
-            stream.set_nodelay(true).ok()?;
             return Some(stream);
         }
         thread::sleep(rt, Duration::from_millis(10));
@@ -84,106 +106,109 @@ fn connect<R: Net<Listener = TcpListener, Stream = TcpStream> + Clock>(
     None
 }
 
-// Reads one table, and says whether it is the right one.
-fn reads_table(stream: &mut TcpStream) -> Option<bool> {
-    let mut back = [0; TABLE.len()];
-    stream.read_exact(&mut back).ok()?;
-    Some(back == *TABLE)
+fn sends(stream: &mut TcpStream, bytes: &[u8]) -> bool {
+    stream.write_all(bytes).is_ok()
 }
 
-// The same of one refusal.
-fn reads_refusal(stream: &mut TcpStream) -> Option<bool> {
-    let mut back = [0; REFUSAL.len()];
-    stream.read_exact(&mut back).ok()?;
-    Some(back == *REFUSAL)
+// Whether just these bytes come next.
+fn reads(stream: &mut TcpStream, bytes: &[u8]) -> bool {
+    let mut back = [0; 1];
+    for byte in bytes {
+        if stream.read_exact(&mut back).is_err() || back[0] != *byte {
+            return false;
+        }
+    }
+    true
 }
 
-fn ask_byte_by_byte(stream: &mut TcpStream) -> Option<bool> {
+// Whether the end comes next.
+fn is_at_end(stream: &mut TcpStream) -> bool {
+    matches!(stream.read(&mut [0; 1]), Ok(0))
+}
+
+fn ask_byte_by_byte(stream: &mut TcpStream) -> bool {
     for byte in QUERY {
-        stream.write_all(&[*byte]).ok()?;
-    }
-    reads_table(stream)
-}
-
-// As many queries at fault as are sent at once.
-fn faulty_queries(alloc: Global) -> Option<Vec<u8>> {
-    let mut queries = Vec::new(alloc);
-    for _ in 0..AT_ONCE {
-        queries.extend_from_slice(FAULTY).ok()?;
-    }
-    Some(queries)
-}
-
-fn ask_at_once(alloc: Global, stream: &mut TcpStream) -> Option<bool> {
-    let queries = faulty_queries(alloc)?;
-    stream.write_all(&queries).ok()?;
-    for _ in 0..AT_ONCE {
-        if !reads_refusal(stream)? {
-            return Some(false);
+        if !sends(stream, &[*byte]) {
+            return false;
         }
     }
-    Some(true)
+    reads(stream, TABLE)
 }
 
-fn leave_in_line(stream: &mut TcpStream) -> Option<bool> {
-    stream.write_all(b"table S").ok()?;
-    Some(true)
+// Sends many queries at fault at once.
+fn sends_many(stream: &mut TcpStream) -> bool {
+    sends(stream, [*FAULTY; AT_ONCE].as_flattened())
 }
 
-fn leave_in_reply(stream: &mut TcpStream) -> Option<bool> {
-    stream.write_all(QUERY).ok()?;
-    let mut back = [0; 7];
-    stream.read_exact(&mut back).ok()?;
-    Some(back == *b"release")
+fn ask_at_once(stream: &mut TcpStream) -> bool {
+    if !sends_many(stream) {
+        return false;
+    }
+    for _ in 0..AT_ONCE {
+        if !reads(stream, REFUSAL) {
+            return false;
+        }
+    }
+    true
 }
 
-fn never_read(alloc: Global, stream: &mut TcpStream) -> Option<bool> {
-    let queries = faulty_queries(alloc)?;
-    stream.set_nonblocking(true).ok()?;
+fn never_read(stream: &mut TcpStream) -> bool {
+    if stream.set_nonblocking(true).is_err() {
+        return false;
+    }
     for _ in 0..MOST_SENDS {
-        if stream.write_all(&queries).is_err() {
-            return Some(true);
+        if !sends_many(stream) {
+            return true;
         }
     }
-    Some(false)
+    false
 }
 
-// What a client does with its stream.
-fn act(alloc: Global, stream: &mut TcpStream, client: Client) -> Option<bool> {
+fn ask_to_the_end(stream: &mut TcpStream) -> bool {
+    sends(stream, QUERY)
+        && stream.shutdown(Shutdown::Write).is_ok()
+        && reads(stream, TABLE)
+        && is_at_end(stream)
+}
+
+// What a client does with its stream, and whether it got what it read.
+fn act(stream: &mut TcpStream, client: Client) -> bool {
     match client {
         Client::ByteByByte => ask_byte_by_byte(stream),
-        Client::ManyAtOnce => ask_at_once(alloc, stream),
-        Client::LeavesInLine => leave_in_line(stream),
-        Client::LeavesInReply => leave_in_reply(stream),
-        Client::NeverReads => never_read(alloc, stream),
+        Client::ManyAtOnce => ask_at_once(stream),
+        Client::LeavesInLine => sends(stream, b"table S"),
+        Client::LeavesInReply => sends(stream, QUERY) && reads(stream, b"release"),
+        Client::NeverReads => never_read(stream),
+        Client::Stays => ask_to_the_end(stream),
     }
 }
 
-/// A whole session of a client, and whether it got what it read.
-pub fn visit<R: Net<Listener = TcpListener, Stream = TcpStream> + AllocGlobal + Clock>(
+// A whole session of a client, who sends each piece at once, and whether it got what it read.
+fn visit<R: Net<Listener = TcpListener, Stream = TcpStream> + Clock>(
     rt: &R,
     port: u16,
     client: Client,
-) -> Option<bool> {
-    let mut stream = connect(rt, port)?;
-    act(rt.alloc(), &mut stream, client)
+) -> bool {
+    match connect(rt, port) {
+        Some(mut stream) => stream.set_nodelay(true).is_ok() && act(&mut stream, client),
+        None => false,
+    }
 }
 
-// Asks for a table, closes its writing half, and says whether just the table and the end came.
-fn ask_to_the_end(stream: &mut TcpStream) -> Option<bool> {
-    stream.write_all(QUERY).ok()?;
-    stream.shutdown(Shutdown::Write).ok()?;
-    let is_table = reads_table(stream)?;
-    let more = stream.read(&mut [0; 1]).ok()?;
-    Some(is_table && more == 0)
-}
-
-/// A whole session of a client that closes its writing half, and whether it got just its reply and
-/// the end.
-pub fn ask<R: Net<Listener = TcpListener, Stream = TcpStream> + Clock>(
+/// Sessions of each client that goes away, and of one that stays after each, and how many of these
+/// twice five got what they read.
+pub fn visits<R: Net<Listener = TcpListener, Stream = TcpStream> + Clock>(
     rt: &R,
     port: u16,
-) -> Option<bool> {
-    let mut stream = connect(rt, port)?;
-    ask_to_the_end(&mut stream)
+) -> u32 {
+    let mut right: u32 = 0;
+    for client in leaving() {
+        if visit(rt, port, *client) {
+            right = right.saturating_add(1);
+        }
+        if visit(rt, port, Client::Stays) {
+            right = right.saturating_add(1);
+        }
+    }
+    right
 }

@@ -1,26 +1,38 @@
-// A command over the small setup, with files and a sink in memory.
+// A command over the small setup, with files in memory.
 
 ghost use Rattle.std.specs.Prelude.{◌≡◌, ◌<◌, ◌+◌, All, vec_len};
 ghost use Rattle.tb_serve.specs.Stages.{IsFresh};
 ghost use Rattle.tb_top.specs.declared.service.TheConstants.{MOST_WORKERS};
 
+use super::compared::Compared;
 use std::alloc::Global;
 use std::marker::Brand;
 use std::sync::Wait;
 use std::sync::ledger::{Blank, Ledger};
 use std::thread::Threads;
 use tb_base::{Memory, Status, Steps};
-use tb_io::{Listen, MemSink, SureFiles};
+use tb_io::{Listen, SureFiles};
 use tb_serve::Port;
 use tb_small::{CLASSES, PEOPLE, PTABLE, RECODES};
 use tb_top::tablebuilder;
 
+static SMALL: [(&str, &[u8]); 4] = [
+    ("classes", CLASSES),
+    ("recodes", RECODES),
+    ("ptable", PTABLE),
+    ("people", PEOPLE),
+];
+
+// The small setup: each file's name and bytes.
+fn small() -> &'static [(&'static str, &'static [u8])] {
+    &SMALL
+}
+
 fn small_files(alloc: Global) -> Result<SureFiles, Memory> {
     let mut files = SureFiles::new(alloc);
-    files.hold("classes", CLASSES)?;
-    files.hold("recodes", RECODES)?;
-    files.hold("ptable", PTABLE)?;
-    files.hold("people", PEOPLE)?;
+    for &(name, bytes) in small() {
+        files.hold(name, bytes)?;
+    }
     Ok(files)
 }
 
@@ -32,16 +44,18 @@ fn words_of(alloc: Global, command: &str) -> Result<Vec<String>, Memory> {
     Ok(words)
 }
 
-// Runs the command of these arguments over these files, with a counter of its own.
-fn count<N: Listen + Send, R: Threads + Wait + Sync, L: Ledger>(
+// Whether the command of these arguments ends so over these files, with a counter of its own, and
+// writes just this text.
+fn files_end_so<N: Listen + Send, R: Threads + Wait + Sync, L: Ledger>(
     rt: &R,
     alloc: Global,
     words: &[String],
     files: &mut SureFiles,
-    out: &mut MemSink,
     net: &mut Vec<Port<N>>,
+    end: Status,
+    text: &[u8],
     blank: Blank,
-) -> Status
+) -> bool
     requires ports { vec_len net.old ≡ MOST_WORKERS + 1 }
     requires fresh { All IsFresh net.old.items }
     requires name { blank.name ≡ L.name }
@@ -49,37 +63,30 @@ fn count<N: Listen + Send, R: Threads + Wait + Sync, L: Ledger>(
     requires some { 0 < L.parts }
 {
     let mut steps = Steps::<L>::new(blank);
-    tablebuilder(rt, alloc, words, files, out, net, &mut steps)
+    let mut out = Compared::with(text);
+    let status = tablebuilder(rt, alloc, words, files, &mut out, net, &mut steps);
+    status == end && out.is_whole()
 }
 
-// Runs the command of these arguments.
-fn run_words<N: Listen + Send, R: Threads + Wait + Sync>(
+// Whether the command of these arguments ends so and writes just this text.
+fn words_end_so<N: Listen + Send, R: Threads + Wait + Sync>(
     rt: &R,
     alloc: Global,
     words: &[String],
-    out: &mut MemSink,
     net: &mut Vec<Port<N>>,
-) -> Result<Status, Memory>
+    end: Status,
+    text: &[u8],
+) -> bool
     requires ports { vec_len net.old ≡ MOST_WORKERS + 1 }
     requires fresh { All IsFresh net.old.items }
 {
-    let mut files = small_files(alloc)?;
-    Ok(count::<N, R, Brand>(rt, alloc, words, &mut files, out, net, Blank::new(1)))
-}
-
-// Runs a command, whose arguments one blank parts.
-fn run_command<N: Listen + Send, R: Threads + Wait + Sync>(
-    rt: &R,
-    alloc: Global,
-    command: &str,
-    out: &mut MemSink,
-    net: &mut Vec<Port<N>>,
-) -> Result<Status, Memory>
-    requires ports { vec_len net.old ≡ MOST_WORKERS + 1 }
-    requires fresh { All IsFresh net.old.items }
-{
-    let words = words_of(alloc, command)?;
-    run_words(rt, alloc, &words, out, net)
+    match small_files(alloc) {
+        Ok(mut files) => {
+            let blank = Blank::new(1);
+            files_end_so::<N, R, Brand>(rt, alloc, words, &mut files, net, end, text, blank)
+        }
+        Err(_) => false,
+    }
 }
 
 /// Runs a command, whose arguments one blank parts, and returns whether it ends so and writes just
@@ -91,11 +98,12 @@ pub fn ends_so<N: Listen + Send, R: Threads + Wait + Sync>(
     net: &mut Vec<Port<N>>,
     end: Status,
     text: &[u8],
-) -> Result<bool, Memory>
+) -> bool
     requires ports { vec_len net.old ≡ MOST_WORKERS + 1 }
     requires fresh { All IsFresh net.old.items }
 {
-    let mut out = MemSink::new(alloc, 200)?;
-    let status = run_command(rt, alloc, command, &mut out, net)?;
-    Ok(status == end && out.taken() == text)
+    match words_of(alloc, command) {
+        Ok(words) => words_end_so(rt, alloc, &words, net, end, text),
+        Err(_) => false,
+    }
 }

@@ -8,6 +8,8 @@ mod clients;
 #[cfg(test)]
 mod command;
 #[cfg(test)]
+mod compared;
+#[cfg(test)]
 mod failing;
 #[cfg(test)]
 mod loopback;
@@ -15,6 +17,8 @@ mod loopback;
 mod making;
 #[cfg(test)]
 mod many;
+#[cfg(test)]
+mod ports;
 #[cfg(test)]
 mod running;
 #[cfg(test)]

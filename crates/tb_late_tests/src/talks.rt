@@ -1,46 +1,64 @@
-// Sessions in memory whose clients wait for each other: a listener with one session at most, a
-// source whose parts come when another client has got so many replies, and a sink that counts its
-// replies.
+// Sessions in memory whose clients wait for each other: a listener with one session at most, whose
+// ends send each part when another client has got so many replies, and count and compare the
+// replies. They own nothing: what is shared of a run is lent.
 
-ghost use Rattle.std.specs.Prelude.{◌≡◌, ◌≤◌, None, Some, false, true, option_map, length};
+ghost use Rattle.std.specs.Prelude.{◌≡◌, ◌≤◌, None, false, length};
 ghost use Rattle.tb_io.specs.Listeners.{telling_none};
 
-use std::sync::Arc;
+use super::compared::Compared;
+use std::marker::Model;
 use std::sync::atomic::{AtomicU32, Ordering};
-use tb_io::{Accepted, Bound, Listen, MemSink, Read, Sink, Source, Wrote};
+use tb_io::{Accepted, Bound, Listen, Read, Sink, Source, Wrote};
 
 // How often a wait looks at most.
 const LOOKS: u32 = 1_000_000_000;
 
-/// A part of what a client sends, and how many replies the other client must have got before.
-#[derive(Drop)]
-pub struct Part {
-    pub after: u32,
-    pub bytes: Vec<u8>,
+/// A client of a session.
+#[derive(Clone, Copy)]
+pub enum Client {
+    /// No session is to come.
+    None,
+    /// The custodian, who publishes after the analyst's first table.
+    Custodian,
+    /// An analyst, who waits for the reply to `publish` between two tables.
+    Late,
+    /// Two analysts, each of whom waits for the other's first table.
+    One,
+    Other,
 }
 
-/// A client's side of a session, which sends its parts from the last to the first. A wait that runs
-/// out of looks is read as the end.
+/// How many replies two clients got, and how many clients got just those that they are to get.
 #[derive(Drop)]
-pub struct Client {
-    parts: Vec<Part>,
-    other: Arc<AtomicU32>,
+pub struct Replies {
+    pub first: AtomicU32,
+    pub second: AtomicU32,
+    pub right: AtomicU32,
 }
 
-/// A sink that counts how often it was written to, which is once a reply.
-#[derive(Drop)]
-pub struct Counted {
-    sink: MemSink,
-    replies: Arc<AtomicU32>,
+// The part that a client sends next, and how many replies the other client must have got before.
+fn part(client: Client, step: u32) -> Option<(u32, &'static [u8])> {
+    match (client, step) {
+        (Client::Custodian, 0) => Some((1, b"drop 104\npublish\n")),
+        (Client::Custodian, 1) => Some((2, b"stats\n")),
+        (Client::Late | Client::One | Client::Other, 0) => Some((0, b"table SEX\n")),
+        (Client::Late, 1) => Some((2, b"table SEX\n")),
+        (Client::One | Client::Other, 1) => Some((1, b"table SEX\n")),
+        _ => None,
+    }
 }
 
-/// A listener with one session, or none, whose sink it keeps when it came back.
-#[derive(Drop)]
-pub struct Talk {
-    to_come: Option<(Client, Counted)>,
-    back: Option<Counted>,
-    port: Option<u16>,
-    is_out: bool,
+// The replies that a client is to get.
+fn replies_to(client: Client) -> &'static [u8] {
+    match client {
+        Client::None => b"",
+        Client::Custodian => {
+            b"held 1\npublished 1\nstats release 1 looks 2 hits 1 entries 1 capacity 64\n"
+        }
+        Client::Late => b"release 0\nSEX,count\n1,1\n2,2\n.\nrelease 1\nSEX,count\n1,1\n2,0\n.\n",
+        Client::One | Client::Other => {
+            b"release 0\nSEX,count\n1,1\n2,2\n.\nrelease 0\nSEX,count\n1,1\n2,2\n.\n"
+        }
+    }
 }
 
 // Whether a counter has come to a number, after so many looks.
@@ -73,104 +91,143 @@ fn give(from: &[u8], buf: &mut [u8]) -> usize
     from.len()
 }
 
-impl Source for Client {
+/// A client's side of a session that is read. A wait that runs out of looks is read as the end.
+#[derive(Drop)]
+pub struct Sends<'a> {
+    client: Client,
+    step: u32,
+    other: &'a AtomicU32,
+}
+
+impl<'a> Source for Sends<'a> {
     ghost faults = { λ _. 0 };
 
     ghost left = { λ _. None };
 
     fn read(&mut self, buf: &mut [u8]) -> Read {
-        let Some(part) = self.parts.pop() else {
+        let Some((after, bytes)) = part(self.client, self.step) else {
             return Read::End;
         };
-        if !waits_for(&self.other, part.after) {
+        self.step = self.step.saturating_add(1);
+        if !waits_for(self.other, after) {
             return Read::End;
         }
-        match give(&part.bytes, buf) {
+        match give(bytes, buf) {
             0 => Read::End,
             n => Read::Got(n),
         }
     }
 }
 
-impl Sink for Counted {
-    ghost faults = { λ sink. sink.sink.faults };
+/// Its side that is written to, which counts how often that is done: once a reply.
+#[derive(Drop)]
+pub struct Gets<'a> {
+    replies: Compared<'static>,
+    own: &'a AtomicU32,
+}
 
-    ghost taken = { λ sink. Some sink.sink.taken };
+impl<'a> Sink for Gets<'a> {
+    ghost faults = { λ _. 0 };
+
+    ghost taken = { λ _. None };
 
     fn write(&mut self, bytes: &[u8]) -> Wrote {
-        let wrote = self.sink.write(bytes);
-        self.replies.fetch_add(1, Ordering::SeqCst);
+        let wrote = self.replies.write(bytes);
+        self.own.fetch_add(1, Ordering::SeqCst);
         wrote
     }
 }
 
-impl Talk {
-    /// A listener without a session.
-    pub fn none() -> Talk
-        ensures port { result.port ≡ None }
-        ensures free { result.is_out ≡ false }
+/// A listener with one session, or none.
+#[derive(Drop)]
+pub struct Talk<'a> {
+    client: Client,
+    own: &'a AtomicU32,
+    other: &'a AtomicU32,
+    right: &'a AtomicU32,
+    came: bool,
+    port: Option<u16>,
+    is_out: bool,
+}
+
+impl<'a> Model for Talk<'a> {
+    ghost use Rattle.std.specs.Prelude.{option_map};
+    ghost use Rattle.tb_io.specs.Listeners.{ListenerValue, listener_code, telling_none};
+
+    ghost Value = { ListenerValue };
+
+    ghost coded = { listener_code };
+
+    ghost view = { λ talk. telling_none 0 (option_map (λ port. port) talk.port) talk.is_out };
+}
+
+impl<'a> Talk<'a> {
+    // A listener with the session of a client who counts its own replies and waits for the other's.
+    fn with(
+        client: Client,
+        own: &'a AtomicU32,
+        other: &'a AtomicU32,
+        right: &'a AtomicU32,
+    ) -> Talk<'a>
+        ensures { result ≡ telling_none 0 None false }
     {
         Talk {
-            to_come: None,
-            back: None,
+            client,
+            own,
+            other,
+            right,
+            came: false,
             port: None,
             is_out: false,
         }
     }
 
-    /// A listener with a session of these parts, sent from the last to the first, which wait for
-    /// the replies that the other client got. Its own are counted too.
-    pub fn of(
-        parts: Vec<Part>,
-        other: Arc<AtomicU32>,
-        sink: MemSink,
-        replies: Arc<AtomicU32>,
-    ) -> Talk
-        ensures port { result.port ≡ None }
-        ensures free { result.is_out ≡ false }
+    /// A listener with the session of a client of a run.
+    pub fn of(client: Client, replies: &'a Replies) -> Talk<'a>
+        ensures { result ≡ telling_none 0 None false }
     {
-        let client = Client { parts, other };
-        Talk {
-            to_come: Some((client, Counted { sink, replies })),
-            back: None,
-            port: None,
-            is_out: false,
-        }
-    }
-
-    /// Whether the session came back, and its client got just these bytes.
-    pub fn has_got(&self, bytes: &[u8]) -> bool {
-        match &self.back {
-            Some(counted) => counted.sink.taken() == bytes,
-            None => false,
+        let (first, second, right) = (&replies.first, &replies.second, &replies.right);
+        match client {
+            Client::Late | Client::Other => Talk::with(client, second, first, right),
+            _ => Talk::with(client, first, second, right),
         }
     }
 }
 
-impl Listen for Talk {
-    type Reader = Client;
+impl<'a> Listen for Talk<'a> {
+    type Reader = Sends<'a>;
 
-    type Writer = Counted;
+    type Writer = Gets<'a>;
 
-    ghost seen = { λ talk. telling_none 0 (option_map (λ port. port) talk.port) talk.is_out };
+    ghost seen = { λ talk. talk };
 
     fn bind(&mut self, port: u16) -> Bound {
         self.port = Some(port);
         Bound::Ready
     }
 
-    fn accept(&mut self) -> Accepted<Client, Counted> {
-        match self.to_come.take() {
-            Some((client, counted)) => {
-                self.is_out = true;
-                Accepted::Session(client, counted)
-            }
-            None => Accepted::End,
+    fn accept(&mut self) -> Accepted<Sends<'a>, Gets<'a>> {
+        if self.came || matches!(self.client, Client::None) {
+            return Accepted::End;
         }
+        self.came = true;
+        self.is_out = true;
+        let reader = Sends {
+            client: self.client,
+            step: 0,
+            other: self.other,
+        };
+        let writer = Gets {
+            replies: Compared::with(replies_to(self.client)),
+            own: self.own,
+        };
+        Accepted::Session(reader, writer)
     }
 
-    fn give_back(&mut self, _client: Client, counted: Counted) {
-        self.back = Some(counted);
+    fn give_back(&mut self, _reader: Sends<'a>, writer: Gets<'a>) {
+        if writer.replies.is_whole() {
+            self.right.fetch_add(1, Ordering::SeqCst);
+        }
         self.is_out = false;
     }
 }

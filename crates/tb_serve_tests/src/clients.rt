@@ -9,18 +9,20 @@ use std::time::{Clock, Duration};
 // How often a client tries to connect, 10 ms after one another.
 const TRIES: u32 = 1_000;
 
-/// What a client does in its session, whose replies begin with the byte `a` if it reads any.
+/// What a client does in its session.
 #[derive(Clone, Copy)]
 pub enum Client {
-    /// It sends a byte, and reads one and the end.
+    /// It sends an `a`, and reads one and the end.
     OneByte,
+    /// The same of a `b`.
+    SendsB,
     /// It sends more bytes than the server reads, and reads one and the end.
     ManyBytes,
     /// It closes at once.
     Leaves,
-    /// It sends a byte, and closes when it read one.
+    /// It sends a byte, and closes when it read an `x`.
     BreaksOff,
-    /// It sends many bytes at once, and counts what the first read finds.
+    /// It sends many bytes at once, and the first read finds all replies.
     AtOnce,
     /// It waits for each reply.
     InTurn,
@@ -44,122 +46,93 @@ fn connect<R: Net<Listener = TcpListener, Stream = TcpStream> + Clock>(
     None
 }
 
-// Sends these bytes, and returns the one byte that comes back before the end.
-fn read_one(stream: &mut TcpStream, bytes: &[u8]) -> Option<u8> {
-    stream.write_all(bytes).ok()?;
+fn sends(stream: &mut TcpStream, bytes: &[u8]) -> bool {
+    stream.write_all(bytes).is_ok()
+}
+
+// Whether just these bytes come next.
+fn reads(stream: &mut TcpStream, bytes: &[u8]) -> bool {
     let mut back = [0; 1];
-    stream.read_exact(&mut back).ok()?;
-    let more = stream.read(&mut [0; 1]).ok()?;
-    if more == 0 { Some(back[0]) } else { None }
-}
-
-// How many bytes come back before the end to a client that sends these, if it is just an `a`.
-fn read_a(stream: &mut TcpStream, bytes: &[u8]) -> Option<usize> {
-    if read_one(stream, bytes)? == b'a' {
-        Some(1)
-    } else {
-        None
-    }
-}
-
-// Sends a byte, and reads the one that comes back.
-fn break_off(stream: &mut TcpStream) -> Option<usize> {
-    stream.write_all(b"a").ok()?;
-    stream.read_exact(&mut [0; 1]).ok()?;
-    Some(1)
-}
-
-// Sends bytes at once, and returns how many of the replies the first read finds.
-fn ask_at_once(stream: &mut TcpStream) -> Option<usize> {
-    stream.write_all(&[b'a'; 100]).ok()?;
-    let mut back = [0; 200];
-    let n = stream.read(&mut back).ok()?;
-    if back[..n].iter().all(|byte| *byte == b'a') {
-        Some(n)
-    } else {
-        None
-    }
-}
-
-// Sends a byte once the reply to the one before it came, and returns how many came.
-fn ask_in_turn(stream: &mut TcpStream) -> Option<usize> {
-    let mut back = [0; 1];
-    for byte in b'a'..b'k' {
-        stream.write_all(&[byte]).ok()?;
-        stream.read_exact(&mut back).ok()?;
-        if back[0] != byte {
-            return None;
+    for byte in bytes {
+        if stream.read_exact(&mut back).is_err() || back[0] != *byte {
+            return false;
         }
     }
-    Some(10)
+    true
 }
 
-// Reads as many bytes as a short and a long reply have, and says whether they are the replies to
-// this byte and a `B`.
-fn reads_long_after(stream: &mut TcpStream, byte: u8) -> Option<bool> {
-    let mut back = [0; LONG + 1];
-    stream.read_exact(&mut back).ok()?;
-    match back.as_slice() {
-        [first, long @ ..] => Some(*first == byte && long.iter().all(|b| *b == b'x')),
-        [] => None,
-    }
+// Whether the end comes next.
+fn is_at_end(stream: &mut TcpStream) -> bool {
+    matches!(stream.read(&mut [0; 1]), Ok(0))
 }
 
-// Sends all bytes and their end, and returns how many bytes come back before the end, if they are
-// the right replies, long ones between short ones.
-fn ask_to_the_end(stream: &mut TcpStream) -> Option<usize> {
-    stream.write_all(b"aBbBc").ok()?;
-    stream.shutdown(Shutdown::Write).ok()?;
-    let first = reads_long_after(stream, b'a')?;
-    let second = reads_long_after(stream, b'b')?;
-    let mut last = [0; 2];
-    let count = stream.read(&mut last).ok()?;
-    let more = stream.read(&mut [0; 1]).ok()?;
-    if first && second && last[0] == b'c' && more == 0 {
-        Some(2 * (LONG + 1) + count)
-    } else {
-        None
+// Sends these bytes, and reads this one and the end.
+fn gets_one(stream: &mut TcpStream, bytes: &[u8], byte: u8) -> bool {
+    sends(stream, bytes) && reads(stream, &[byte]) && is_at_end(stream)
+}
+
+// Sends bytes at once, and returns whether the first read finds all replies.
+fn gets_at_once(stream: &mut TcpStream) -> bool {
+    let mut back = [0; 200];
+    sends(stream, &[b'a'; 100])
+        && matches!(stream.read(&mut back), Ok(100))
+        && back[..100] == [b'a'; 100]
+}
+
+// Sends a byte once the reply to the one before it came.
+fn gets_in_turn(stream: &mut TcpStream) -> bool {
+    for byte in b'a'..b'k' {
+        if !sends(stream, &[byte]) || !reads(stream, &[byte]) {
+            return false;
+        }
     }
+    true
+}
+
+// Whether the replies to this byte and a `B` come next.
+fn reads_long_after(stream: &mut TcpStream, byte: u8) -> bool {
+    reads(stream, &[byte]) && reads(stream, &[b'x'; LONG])
+}
+
+// Sends all bytes and their end, and returns whether the right replies come back before the end,
+// long ones between short ones.
+fn gets_to_the_end(stream: &mut TcpStream) -> bool {
+    sends(stream, b"aBbBc")
+        && stream.shutdown(Shutdown::Write).is_ok()
+        && reads_long_after(stream, b'a')
+        && reads_long_after(stream, b'b')
+        && reads(stream, b"c")
+        && is_at_end(stream)
 }
 
 // Sends a byte more once the first reply is there, which it doesn't read.
-fn reset(stream: &mut TcpStream) -> Option<usize> {
-    stream.write_all(b"a").ok()?;
-    let count = stream.peek(&mut [0; 1]).ok()?;
-    stream.write_all(b"c").ok()?;
-    Some(count)
+fn resets(stream: &mut TcpStream) -> bool {
+    sends(stream, b"a") && matches!(stream.peek(&mut [0; 1]), Ok(1)) && sends(stream, b"c")
 }
 
 // What a client does with its stream.
-fn act(stream: &mut TcpStream, client: Client) -> Option<usize> {
+fn act(stream: &mut TcpStream, client: Client) -> bool {
     match client {
-        Client::OneByte => read_a(stream, b"a"),
-        Client::ManyBytes => read_a(stream, &[b'a'; 10_000]),
-        Client::Leaves => Some(0),
-        Client::BreaksOff => break_off(stream),
-        Client::AtOnce => ask_at_once(stream),
-        Client::InTurn => ask_in_turn(stream),
-        Client::ToTheEnd => ask_to_the_end(stream),
-        Client::Resets => reset(stream),
+        Client::OneByte => gets_one(stream, b"a", b'a'),
+        Client::SendsB => gets_one(stream, b"b", b'b'),
+        Client::ManyBytes => gets_one(stream, &[b'a'; 10_000], b'a'),
+        Client::Leaves => true,
+        Client::BreaksOff => sends(stream, b"a") && reads(stream, b"x"),
+        Client::AtOnce => gets_at_once(stream),
+        Client::InTurn => gets_in_turn(stream),
+        Client::ToTheEnd => gets_to_the_end(stream),
+        Client::Resets => resets(stream),
     }
 }
 
-/// A whole session of a client, and how many bytes came back to it, if they are right.
+/// A whole session of a client, and whether what came back to it is right.
 pub fn visit<R: Net<Listener = TcpListener, Stream = TcpStream> + Clock>(
     rt: &R,
     port: u16,
     client: Client,
-) -> Option<usize> {
-    let mut stream = connect(rt, port)?;
-    act(&mut stream, client)
-}
-
-/// Sends these bytes, and returns the one byte that comes back before the end.
-pub fn ask<R: Net<Listener = TcpListener, Stream = TcpStream> + Clock>(
-    rt: &R,
-    port: u16,
-    bytes: &[u8],
-) -> Option<u8> {
-    let mut stream = connect(rt, port)?;
-    read_one(&mut stream, bytes)
+) -> bool {
+    match connect(rt, port) {
+        Some(mut stream) => act(&mut stream, client),
+        None => false,
+    }
 }

@@ -10,5 +10,3 @@ mod loopback;
 mod memory;
 #[cfg(test)]
 mod tasks;
-#[cfg(test)]
-mod waiting;

@@ -1,103 +1,144 @@
 // Sessions over loopback, between a listener of the system and clients that stay or go away.
 
-use super::clients::{Client, ask, visit};
-use super::tasks::{Served, Task, serve_one};
+use super::clients::{Client, visit};
+use super::tasks::{Served, Task, serves_two};
 use std::net::{Ipv4Addr, Net, TcpListener, TcpStream};
-use std::test::Fail;
 use std::thread::{Threads, join};
 use std::time::Clock;
 use tb_io::{Bound, Listen, RealListen};
 
 // A port that is free now.
-pub(crate) fn free_port<R: Net<Listener = TcpListener, Stream = TcpStream>>(rt: &R) -> Option<u16> {
-    let listener = TcpListener::bind(rt, (Ipv4Addr::LOCALHOST, 0)).ok()?;
-    Some(listener.local_addr().ok()?.port())
-}
-
-// Serves two sessions of a port, one after another.
-fn serve_two<R: Net<Listener = TcpListener, Stream = TcpStream> + Eprint + AllocGlobal>(
-    rt: &R,
-    port: u16,
-    first: Task,
-) -> (Served, Served) {
-    let mut listener = RealListen::new(rt, rt.alloc());
-    match listener.bind(port) {
-        Bound::Ready => {
-            let one = serve_one(&mut listener, first);
-            let other = serve_one(&mut listener, Task::Echo);
-            (one, other)
-        }
-        Bound::Failed => (Served::Unbound, Served::Unbound),
+fn free_port<R: Net<Listener = TcpListener, Stream = TcpStream>>(rt: &R) -> Option<u16> {
+    let Ok(listener) = TcpListener::bind(rt, (Ipv4Addr::LOCALHOST, 0)) else {
+        return None;
+    };
+    match listener.local_addr() {
+        Ok(addr) => Some(addr.port()),
+        Err(_) => None,
     }
 }
 
-// How a client's session ended on the server's side, and how many bytes came back to the client,
-// where a session after it was served and got its byte.
-pub(crate) fn first_of_two<
+// Serves two sessions of a port, and returns whether the first one ends so and the second one is
+// served.
+fn serves<
+    R: Net<Listener = TcpListener, Stream = TcpStream> + Eprint + AllocGlobal + Threads + Sync,
+>(rt: &R, port: u16, task: Task, served: Served) -> bool {
+    let mut listener = RealListen::new(rt, rt.alloc());
+    serves_two(rt, &mut listener, port, task, served)
+}
+
+// Whether a client gets what is right, and the next one too.
+fn visits<R: Net<Listener = TcpListener, Stream = TcpStream> + Clock>(
+    rt: &R,
+    port: u16,
+    client: Client,
+) -> bool {
+    let first = visit(rt, port, client);
+    let second = visit(rt, port, Client::SendsB);
+    first && second
+}
+
+// The same of both sides.
+fn both<
     R: Net<Listener = TcpListener, Stream = TcpStream>
         + Eprint
         + AllocGlobal
         + Clock
         + Threads
         + Sync,
->(rt: &R, task: Task, client: Client) -> Option<(Served, usize)> {
-    let port = free_port(rt)?;
-    let ((first, second), (count, byte)) = join(
+>(rt: &R, port: u16, task: Task, client: Client, served: Served) -> (bool, bool) {
+    join(
         rt,
-        || serve_two(rt, port, task),
-        || (visit(rt, port, client), ask(rt, port, b"b")),
-    );
-    if second == Served::Byte(b'b') && byte == Some(b'b') {
-        Some((first, count?))
-    } else {
-        None
+        || serves(rt, port, task, served),
+        || visits(rt, port, client),
+    )
+}
+
+// Whether the session of a client ends so on the server's side, what comes back to the client is
+// right, and a session after it is served.
+fn ends_so<
+    R: Net<Listener = TcpListener, Stream = TcpStream>
+        + Eprint
+        + AllocGlobal
+        + Clock
+        + Threads
+        + Sync,
+>(rt: &R, task: Task, client: Client, served: Served) -> bool {
+    match free_port(rt) {
+        Some(port) => both(rt, port, task, client, served) == (true, true),
+        None => false,
     }
 }
 
-// Binds a second listener to a port that is in use, and returns whether just the first is bound.
+// Whether each client gets all replies in their time.
+fn replies_leave_together<
+    R: Net<Listener = TcpListener, Stream = TcpStream>
+        + Eprint
+        + AllocGlobal
+        + Clock
+        + Threads
+        + Sync,
+>(rt: &R) -> bool {
+    ends_so(rt, Task::Reply, Client::AtOnce, Served::AtEnd)
+        && ends_so(rt, Task::Reply, Client::InTurn, Served::AtEnd)
+        && ends_so(rt, Task::Reply, Client::ToTheEnd, Served::AtEnd)
+        && ends_so(rt, Task::Reply, Client::Resets, Served::Broken)
+}
+
+// Whether a listener can be bound to a port.
+fn binds<R: Net<Listener = TcpListener, Stream = TcpStream> + Eprint + AllocGlobal>(
+    rt: &R,
+    port: u16,
+) -> bool {
+    let mut listener = RealListen::new(rt, rt.alloc());
+    listener.bind(port) == Bound::Ready
+}
+
+// Whether a port is free for one listener, and then not for a second one.
 fn binds_once<R: Net<Listener = TcpListener, Stream = TcpStream> + Eprint + AllocGlobal>(
     rt: &R,
     port: u16,
 ) -> bool {
-    let mut first = RealListen::new(rt, rt.alloc());
-    let mut second = RealListen::new(rt, rt.alloc());
-    first.bind(port) == Bound::Ready && second.bind(port) == Bound::Failed
+    let mut listener = RealListen::new(rt, rt.alloc());
+    listener.bind(port) == Bound::Ready && !binds(rt, port)
 }
 
 // The second session begins once the first was given back.
 #[test]
-fn sessions_come_one_after_another(rt: HostRuntime) -> Result<(), Fail> {
-    let ended = first_of_two(&rt, Task::Echo, Client::OneByte);
-    assert_eq!(&rt; ended, Some((Served::Byte(b'a'), 1)));
-    Ok(())
+fn sessions_come_one_after_another(rt: HostRuntime) {
+    assert!(&rt; ends_so(&rt, Task::Echo, Client::OneByte, Served::Byte(b'a')));
 }
 
 // The first client sends more than the server reads, and still reads all that was written and the
 // end.
 #[test]
-fn unread_bytes_keep_nothing_from_a_client(rt: HostRuntime) -> Result<(), Fail> {
-    let ended = first_of_two(&rt, Task::Echo, Client::ManyBytes);
-    assert_eq!(&rt; ended, Some((Served::Byte(b'a'), 1)));
-    Ok(())
+fn unread_bytes_keep_nothing_from_a_client(rt: HostRuntime) {
+    assert!(&rt; ends_so(&rt, Task::Echo, Client::ManyBytes, Served::Byte(b'a')));
 }
 
 #[test]
-fn client_that_closes_at_once_ends_its_session_alone(rt: HostRuntime) -> Result<(), Fail> {
-    let ended = first_of_two(&rt, Task::Echo, Client::Leaves);
-    assert_eq!(&rt; ended, Some((Served::AtEnd, 0)));
-    Ok(())
+fn client_that_closes_at_once_ends_its_session_alone(rt: HostRuntime) {
+    assert!(&rt; ends_so(&rt, Task::Echo, Client::Leaves, Served::AtEnd));
 }
 
 #[test]
-fn write_to_a_client_that_went_away_fails(rt: HostRuntime) -> Result<(), Fail> {
-    let ended = first_of_two(&rt, Task::Pour, Client::BreaksOff);
-    assert!(&rt; matches!(ended, Some((Served::Cut(_), 1))));
-    Ok(())
+fn write_to_a_client_that_went_away_fails(rt: HostRuntime) {
+    assert!(&rt; ends_so(&rt, Task::Pour, Client::BreaksOff, Served::Cut));
 }
 
 #[test]
-fn port_in_use_is_not_bound(rt: HostRuntime) -> Result<(), Fail> {
-    let port = free_port(&rt).ok_or("a port")?;
-    assert!(&rt; binds_once(&rt, port));
-    Ok(())
+fn ends_of_a_session_move_between_threads(rt: HostRuntime) {
+    assert!(&rt; ends_so(&rt, Task::EchoApart, Client::OneByte, Served::Byte(b'a')));
+}
+
+// What a session wrote waits, and is written out together before the session waits for its client.
+#[test]
+fn replies_leave_together_before_the_session_waits(rt: HostRuntime) {
+    assert!(&rt; replies_leave_together(&rt));
+}
+
+#[test]
+fn port_in_use_is_not_bound(rt: HostRuntime) {
+    let port = free_port(&rt);
+    assert!(&rt; matches!(port, Some(port) if binds_once(&rt, port)));
 }

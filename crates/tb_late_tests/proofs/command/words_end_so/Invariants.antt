@@ -1,0 +1,5 @@
+use Rattle.tb_late_tests.proofs.command.words_end_so.Given as goal
+
+-- the ledger of the blank
+abbrev pub ghosts-files_end_so : goal.ghosts-files_end_so
+ghosts-files_end_so g a = record { name = a.blank.name; parts = a.blank.parts }

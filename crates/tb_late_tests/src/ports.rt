@@ -1,0 +1,82 @@
+// Ports with sessions in memory.
+
+ghost use Rattle.std.specs.Prelude.{◌≡◌, ◌≤◌, ◌<◌, ◌+◌, All, IfOk, vec_len};
+ghost use Rattle.tb_serve.specs.Stages.{IsFresh};
+
+use std::alloc::Global;
+use tb_base::Memory;
+use tb_io::{MemListen, MemSink, MemSource};
+use tb_serve::Port;
+
+// A session of these lines.
+fn session(alloc: Global, lines: &[u8]) -> Result<(MemSource, MemSink), Memory> {
+    let source = MemSource::new(alloc, lines, 100, &[])?;
+    match MemSink::new(alloc, 1_200) {
+        Ok(sink) => Ok((source, sink)),
+        Err(_) => Err(Memory),
+    }
+}
+
+// So many sessions of these lines.
+fn sessions(alloc: Global, lines: &[u8], count: u32) -> Result<Vec<(MemSource, MemSink)>, Memory> {
+    let mut sessions = Vec::new(alloc);
+    for _ in 0..count {
+        sessions.push(session(alloc, lines)?)?;
+    }
+    Ok(sessions)
+}
+
+// A port with so many sessions of these lines to come, of which the accepts with the numbers
+// `fails` fail, and each bind where `bind_fails` says so.
+fn port(
+    alloc: Global,
+    lines: &[u8],
+    count: u32,
+    bind_fails: bool,
+    fails: &[u32],
+) -> Result<Port<MemListen>, Memory>
+    ensures { IfOk result IsFresh }
+{
+    let sessions = sessions(alloc, lines, count)?;
+    Ok(Port::of(MemListen::new(alloc, bind_fails, sessions, fails)?))
+}
+
+/// Adds a port with so many sessions of these lines to come, of which the accepts with the numbers
+/// `fails` fail, and each bind where `bind_fails` says so.
+pub fn add_port(
+    alloc: Global,
+    net: &mut Vec<Port<MemListen>>,
+    lines: &[u8],
+    count: u32,
+    bind_fails: bool,
+    fails: &[u32],
+) -> Result<(), Memory>
+    requires few { vec_len net.old < 100 }
+    requires fresh { All IsFresh net.old.items }
+    ensures ports { IfOk result (λ _. vec_len net.new ≡ vec_len net.old + 1) }
+    ensures fresh { IfOk result (λ _. All IsFresh net.new.items) }
+{
+    let port = port(alloc, lines, count, bind_fails, fails)?;
+    net.push(port)?;
+    Ok(())
+}
+
+/// Adds ports with so many sessions of these lines to come, until there are so many ports.
+pub fn fill(
+    alloc: Global,
+    net: &mut Vec<Port<MemListen>>,
+    lines: &[u8],
+    count: u32,
+    most: usize,
+) -> Result<(), Memory>
+    requires few { vec_len net.old ≤ most }
+    requires bound { most < 100 }
+    requires fresh { All IsFresh net.old.items }
+    ensures ports { IfOk result (λ _. vec_len net.new ≡ most) }
+    ensures fresh { IfOk result (λ _. All IsFresh net.new.items) }
+{
+    for _ in net.len()..most {
+        add_port(alloc, net, lines, count, false, &[])?;
+    }
+    Ok(())
+}
