@@ -6,6 +6,7 @@ pub mod Numbers
 pub mod OneAnswer
 pub mod Parts
 pub mod Persons
+pub mod Pieces
 pub mod Records
 pub mod Sets
 pub mod Statuses

@@ -1,28 +1,30 @@
-//! The data that all of TableBuilder counts: persons' records, cells, lists of categories and of
-//! variables, numbers in decimal digits, and the error of a call that runs out of memory; and the
-//! bytes and words of the lines that it reads.
+//! The data that all of TableBuilder counts: persons' records, also by column, cells, lists of
+//! categories and of variables, numbers in decimal digits, and the error of a call that runs out of
+//! memory; and the bytes and words of the lines that it reads.
 //!
 //! It stands on nothing but `smallvec` and `itoa`. Its contracts cite `specs/Cells` (a cell is the
 //! count and the key sum of some records), `Parts` (its two numbers, each summed modulo its own),
-//! `Tallies` (what stands at one place of a column), `Records`, `Codes` (how a record's numbers are
-//! kept), `Persons`, `Sets`, `Numbers`, `Statuses`, `Bytes` and `Words` (text, blanks, and the
-//! words of a line); `Lists` and `OneAnswer` (a text that is read has exactly one answer) serve the
-//! crates above. Cells are summed here alone.
+//! `Tallies` (what stands at one place of a column), `Records`, `Pieces` (records by column),
+//! `Codes` (how a record's numbers are kept), `Persons`, `Sets`, `Numbers`, `Statuses`, `Bytes` and
+//! `Words` (text, blanks, and the words of a line); `Lists` and `OneAnswer` (a text that is read has
+//! exactly one answer) serve the crates above. Cells are summed here alone.
 //!
 //! Lemmas for the crates above: `proofs/CellLemmas` (how a cell changes with its records),
 //! `CellsBy` (the same of the cells of several groups), `PartLemmas` (the two numbers of cells, and
 //! sums modulo a number), `TallyLemmas` (records that are put in by tallies of chunks),
 //! `PersonLemmas`, `WordLemmas` (the words taken from the front of a line), `OnlyAnswer` (what is
 //! returned for a text), `AllThere` and `Options` (values that may be missing) and `Texts` (texts
-//! that are compared).
+//! that are compared). `ColumnLemmas` has what becomes of columns as their records change.
 #![tactic(auto)]
 
 mod bytes;
 mod cells;
 mod codes;
+mod columns;
 mod memory;
 mod number;
 mod people;
+mod piece;
 mod records;
 mod shape;
 mod status;
@@ -37,6 +39,7 @@ pub use codes::Codes;
 pub use memory::Memory;
 pub use number::{print_number, read_number};
 pub use people::{MOST_PERSONS, People};
+pub use piece::Piece;
 pub use records::Record;
 pub use shape::Shape;
 pub use status::Status;

@@ -16,7 +16,7 @@ use Rattle.tb_cube.proofs.Holding.{room-held, room-both}
 use Rattle.tb_model.specs.Cubes.{cube_of}
 use Rattle.tb_model.proofs.CubeLemmas.{cube_of-append}
 use Rattle.tb_delta.proofs.Pieces.{pieces-fit}
-use Rattle.tb_piece.specs.Pieces.{between}
+use Rattle.tb_base.specs.Pieces.{between}
 use Rattle.tb_build.specs.Parts.{part_of, records_in}
 
 -- what lies between two places of two lists in a row

@@ -1,7 +1,7 @@
 -- The records that are lent in pieces, and the parts of one length into which they are cut.
 use Rattle.std.specs.Prelude.{ℕ, ◌+◌, ◌*◌, List, flat_map}
 use Rattle.tb_base.specs.declared.records.Record.{Record}
-use Rattle.tb_piece.specs.Pieces.{between}
+use Rattle.tb_base.specs.Pieces.{between}
 
 -- the records in some pieces
 abbrev pub records_in : List (List Record) → List Record

@@ -5,7 +5,7 @@ ghost use Rattle.tb_base.specs.declared.people.TheConstants.{MOST_PERSONS};
 ghost use Rattle.tb_base.specs.Records.{AllFit};
 ghost use Rattle.tb_cube.specs.Cubes.{cube_over};
 ghost use Rattle.tb_delta.specs.Counting.{HasCube};
-ghost use Rattle.tb_piece.specs.Pieces.{between};
+ghost use Rattle.tb_base.specs.Pieces.{between};
 ghost use Rattle.tb_build.specs.Parts.{records_in};
 
 use std::alloc::Global;

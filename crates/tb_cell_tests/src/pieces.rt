@@ -2,8 +2,7 @@
 
 use std::alloc::Global;
 use std::test::Fail;
-use tb_base::{Codes, Memory, Record};
-use tb_piece::Piece;
+use tb_base::{Codes, Memory, Piece, Record};
 
 // A record of two variables.
 fn record(alloc: Global, person: u32, key: u8, codes: [u16; 2]) -> Result<Record, Memory> {

@@ -12,7 +12,7 @@ use Rattle.tb_base.specs.declared.records.Record.{Record}
 use Rattle.tb_base.specs.Cells.{empty_cell, with_key}
 use Rattle.tb_base.specs.Records.{category_at}
 use Rattle.tb_grid.specs.declared.products.TheConstants.{MOST_CELLS}
-use Rattle.tb_piece.specs.Pieces.{between, code_column, key_column}
+use Rattle.tb_base.specs.Pieces.{between, code_column, key_column}
 use Rattle.tb_cube.specs.declared.axes.Axis.{Axis}
 use Rattle.tb_cube.specs.Axes.{codes_by, no_axis, number_by, numbers_by, with_all, AreNumbered, LeadsBelow}
 use Rattle.tb_grid.proofs.Sums.{sum-one, sum-two}

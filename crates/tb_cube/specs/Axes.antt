@@ -7,7 +7,7 @@ use Rattle.tb_base.specs.declared.records.Record.{Record}
 use Rattle.tb_base.specs.Cells.{empty_cell, with_key}
 use Rattle.tb_base.specs.Records.{category_at}
 use Rattle.tb_grid.specs.Products.{cells_over}
-use Rattle.tb_piece.specs.Pieces.{code_column, key_column}
+use Rattle.tb_base.specs.Pieces.{code_column, key_column}
 use Rattle.tb_cube.specs.declared.axes.Axis.{Axis}
 use Rattle.tb_cube.specs.Cubes.{CubeValue, IsWhole}
 

@@ -9,15 +9,14 @@ ghost use Rattle.std.specs.Option.{ForSome};
 ghost use Rattle.tb_base.specs.declared.records.Record.{Record as AnyRecord};
 ghost use Rattle.tb_base.specs.declared.tallies.TheConstants.{MOST_TALLIED};
 ghost use Rattle.tb_grid.specs.declared.products.TheConstants.{MOST_CELLS};
-ghost use Rattle.tb_piece.specs.Pieces.{between, code_column, key_column};
+ghost use Rattle.tb_base.specs.Pieces.{between, code_column, key_column};
 ghost use Rattle.tb_cube.specs.declared.axes.Axis.{Axis as AnyAxis};
 ghost use Rattle.tb_cube.specs.declared.columns.TheConstants.{MOST_NUMBERED};
 ghost use Rattle.tb_cube.specs.Axes.{codes_by, numbers_by, with_all, AreNumbered, LeadsBelow};
 
 use crate::axes::Axis;
 use crate::putting::put_all;
-use tb_base::{Cell, MOST_TALLIED, Record, add_tallies, know_cells};
-use tb_piece::Piece;
+use tb_base::{Cell, MOST_TALLIED, Piece, Record, add_tallies, know_cells};
 
 // So many records at most are read by column at once: a whole page.
 const MOST_NUMBERED: usize = 1024;

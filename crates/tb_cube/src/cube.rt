@@ -14,7 +14,7 @@ ghost use Rattle.tb_cube.specs.Cubes.{cell_count, cube_over, kept_count, merged_
 ghost use Rattle.tb_cube.specs.Cubes.{narrowed_to, packed, place_of, put_in, taken_out, unpacked};
 ghost use Rattle.tb_cube.specs.Cubes.{CanPutIn, CanTakeOut, HasRoom, Holds, IsWhole};
 ghost use Rattle.tb_cube.specs.Packing.{kept_from};
-ghost use Rattle.tb_piece.specs.Pieces.{between};
+ghost use Rattle.tb_base.specs.Pieces.{between};
 
 use crate::axes::{Axis, axes_of, number_of};
 use crate::columns::put_piece;
@@ -24,9 +24,8 @@ use crate::packing::{Form, KeptCell, filled_in, kept_of};
 use crate::putting::put_all;
 use std::alloc::Global;
 use std::marker::Model;
-use tb_base::{Cell, Memory, Record, Shape, VarSet, know_cells};
+use tb_base::{Cell, Memory, Piece, Record, Shape, VarSet, know_cells};
 use tb_grid::cells_over;
-use tb_piece::Piece;
 
 /// The cells over some variables of a classification: one for each list of their categories, in
 /// row-major order, so that the last variable's categories change fastest. A cell counts the

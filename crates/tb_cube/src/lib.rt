@@ -1,13 +1,13 @@
 //! Cubes: the cells of all lists of categories of some variables.
 //!
-//! It stands on `tb_base`, `tb_piece`, `tb_model` and `tb_grid`. A cube is made of no record;
-//! records are put in a piece at a time, by column, one by one, or by merging another cube's cells,
-//! and can be taken out again. A cube over fewer variables is made of the cells alone. A cube few
-//! of whose cells count any record can be packed, so that it keeps these alone. Its contracts cite
+//! It stands on `tb_base`, `tb_model` and `tb_grid`. A cube is made of no record; records are put
+//! in a piece at a time, by column, one by one, or by merging another cube's cells, and can be
+//! taken out again. A cube over fewer variables is made of the cells alone. A cube few of whose
+//! cells count any record can be packed, so that it keeps these alone. Its contracts cite
 //! `Cubes.cube_of` and `narrowed` of `tb_model` (the cells of some records, and those over fewer
-//! variables), `Pieces.between` of `tb_piece`, and here `specs/Cubes` (what a cube is seen as,
-//! which records it holds, and what becomes of its cells) and `specs/Packing` (which cells a packed
-//! cube keeps).
+//! variables), `Pieces.between` of `tb_base`, and here `specs/Cubes` (what a cube is seen as, which
+//! records it holds, and what becomes of its cells) and `specs/Packing` (which cells a packed cube
+//! keeps).
 //!
 //! Lemmas: `proofs/Grid` (the number of a record's cell), `Adding` (records that are put in),
 //! `Tallied` (the same by tallies), `ByColumn` (the same by column), `Changes` (one that is put in

@@ -7,8 +7,7 @@ ghost use Rattle.tb_model.specs.Pages.{records_in};
 use crate::pages::Pages;
 use std::alloc::Global;
 use std::marker::Model;
-use tb_base::{Memory, Record};
-use tb_piece::Piece;
+use tb_base::{Memory, Piece, Record};
 
 /// Records in pages, in pieces: the pages that aren't empty. They are all the pieces' records in
 /// order.

@@ -6,9 +6,8 @@ ghost use Rattle.tb_pages.specs.Pages.{IsPlace, is_of};
 
 use std::alloc::Global;
 use std::marker::Model;
-use tb_base::{Memory, Record};
+use tb_base::{Memory, Piece, Record};
 use tb_model::PAGE_ROOM;
-use tb_piece::Piece;
 
 /// A page of at most `PAGE_ROOM` records, with its stamp: the number of the release that last
 /// changed it.

@@ -11,9 +11,8 @@ use crate::page::Page;
 use std::alloc::Global;
 use std::marker::Model;
 use std::sync::Arc;
-use tb_base::{Memory, Record};
+use tb_base::{Memory, Piece, Record};
 use tb_model::PAGE_ROOM;
-use tb_piece::Piece;
 
 /// How many pages have numbers.
 pub const PAGES: usize = 65_536;

@@ -1,6 +1,6 @@
 use Rattle.std.proofs.Common.{◌≡◌, length, take}
 use Rattle.tb_cube.specs.Cubes.{cube_over}
-use Rattle.tb_piece.specs.Pieces.{between}
+use Rattle.tb_base.specs.Pieces.{between}
 use Rattle.tb_build.specs.Parts.{records_in}
 use Rattle.tb_build.proofs.walking.walk.Given as goal
 

@@ -1,7 +1,7 @@
 use Rattle.std.proofs.Common.{◌≡◌, List, ℕ, Bor, ap, refl, ◌∙◌}
 use Rattle.tb_base.specs.declared.records.Record.{Record}
 use Rattle.tb_base.specs.Records.{category_at}
-use Rattle.tb_piece.specs.Pieces.{between, code_column}
+use Rattle.tb_base.specs.Pieces.{between, code_column}
 use Rattle.tb_cube.proofs.ByColumn.{between-map}
 use Rattle.tb_cube.proofs.Holding.{of-some}
 use Rattle.tb_cube.proofs.columns.codes_in.Goals as goal

@@ -1,7 +1,7 @@
 use Rattle.std.proofs.Common.{◌≡◌, List, length, take, ap, ◌∙◌}
 use Rattle.tb_base.specs.declared.records.Record.{Record}
 use Rattle.tb_grid.specs.declared.products.TheConstants.{MOST_CELLS}
-use Rattle.tb_piece.specs.Pieces.{between}
+use Rattle.tb_base.specs.Pieces.{between}
 use Rattle.tb_cube.specs.Axes.{numbers_by}
 use Rattle.tb_cube.proofs.ByColumn.{numbers-below}
 use Rattle.tb_cube.proofs.Grid.{leads-wider}

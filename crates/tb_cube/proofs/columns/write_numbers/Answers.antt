@@ -1,5 +1,5 @@
 use Rattle.std.proofs.Common.{List, [], ℕ, length, subst, sym, ap, arith}
-use Rattle.tb_piece.specs.Pieces.{between}
+use Rattle.tb_base.specs.Pieces.{between}
 use Rattle.tb_cube.proofs.ByColumn.{all-numbered, none-numbered, NumberedBy}
 use Rattle.tb_cube.proofs.columns.write_numbers.Goals as goal
 

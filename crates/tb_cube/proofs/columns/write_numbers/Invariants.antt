@@ -1,5 +1,5 @@
 use Rattle.std.proofs.Common.{◌≡◌, length, take}
-use Rattle.tb_piece.specs.Pieces.{between}
+use Rattle.tb_base.specs.Pieces.{between}
 use Rattle.tb_cube.proofs.ByColumn.{NumberedBy}
 use Rattle.tb_cube.proofs.columns.write_numbers.Given as goal
 

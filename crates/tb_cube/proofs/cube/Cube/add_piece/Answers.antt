@@ -7,7 +7,7 @@ use Rattle.tb_base.specs.Records.{Fits}
 use Rattle.tb_model.specs.Cubes.{cube_of}
 use Rattle.tb_base.specs.declared.records.Record.{Record}
 use Rattle.tb_base.specs.Parts.Part.{keys}
-use Rattle.tb_piece.specs.Pieces.{between}
+use Rattle.tb_base.specs.Pieces.{between}
 use Rattle.tb_cube.specs.declared.axes.Axis.{Axis}
 use Rattle.tb_cube.specs.declared.packing.Form.{Form}
 use Rattle.tb_cube.specs.declared.packing.Form.TheVariants.{Dense}
