@@ -12,9 +12,9 @@ use Rattle.tb_board.specs.Custodians.{CustodianValue}
 use Rattle.tb_board.specs.Holders.{HolderValue}
 use Rattle.tb_board.specs.Starts.{StartValue}
 use Rattle.tb_front.specs.Holders.{IsLater, Name}
-use Rattle.tb_script.specs.Runs.{IsAnalystOf, IsOwnerOf, Learns}
+use Rattle.tb_script.specs.Runs.{IsOwnerOf, Learns}
 use Rattle.tb_session.specs.Outputs.{Lead, ReplyValue, text_of}
-use Rattle.tb_session.specs.Parties.{GoesOn, role_of, seen_by, state_of}
+use Rattle.tb_session.specs.Parties.{GoesOn, IsAnalystOf, role_of, seen_by, state_of}
 use Rattle.tb_session.specs.PartySessions.{AreLegal, IsPartyStep}
 use Rattle.tb_session.specs.Transcripts.{IsLegal}
 use Rattle.tb_session.specs.declared.party.Party.{Party}

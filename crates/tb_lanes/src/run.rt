@@ -6,10 +6,10 @@ ghost use Rattle.tb_io.specs.Taken.{Took, TookPart};
 ghost use Rattle.tb_lanes.specs.Phases.{PhasesGo, Standing, at_first};
 ghost use Rattle.tb_lanes.specs.Runs.{IsOwner, standing_of};
 ghost use Rattle.tb_model.specs.Schemas.{shape_of};
-ghost use Rattle.tb_script.specs.Runs.{IsAnalystOf, IsOwnerOf};
+ghost use Rattle.tb_script.specs.Runs.{IsOwnerOf};
 ghost use Rattle.tb_script.specs.Scripts.{lanes_of};
 ghost use Rattle.tb_script.specs.declared.run.RunEnd.TheVariants as run_end;
-ghost use Rattle.tb_session.specs.Parties.{IsCustodianOf, seen_by};
+ghost use Rattle.tb_session.specs.Parties.{IsAnalystOf, IsCustodianOf, seen_by};
 
 use crate::lane::Lane;
 use crate::phase::run_phase;
@@ -23,7 +23,7 @@ use tb_build::Gate;
 use tb_io::{Sink, SureSink, Wrote};
 use tb_release::Edits;
 use tb_script::{RunEnd, Script};
-use tb_session::Party;
+use tb_session::{Party, analyst_of};
 use tb_text::Setup;
 
 // A lane for each gate, with an analyst who has seen no more than the custodian. Where it is out of
@@ -48,9 +48,7 @@ fn lanes_of<B: Named, G: Gate + Drop>(
         let Some(gate) = gates.pop() else {
             unreachable!()
         };
-        let mut pass = board.pass(rt);
-        board.confirm(custodian, &mut pass);
-        let party = Party::Analyst(pass);
+        let party = analyst_of(board, rt, custodian);
         let sink = SureSink::new(alloc);
         lanes.push(Lane {
             party,

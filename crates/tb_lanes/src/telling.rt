@@ -2,14 +2,14 @@
 
 ghost use Rattle.std.specs.Prelude.{◌≡◌, ℕ, List, All};
 ghost use Rattle.tb_lanes.specs.Lanes.{IsConfirmed, IsTold};
-ghost use Rattle.tb_script.specs.Runs.{IsAnalystOf, IsOwnerOf};
+ghost use Rattle.tb_script.specs.Runs.{IsOwnerOf};
 ghost use Rattle.tb_serve.specs.Each.{Each};
-ghost use Rattle.tb_session.specs.Parties.{seen_by};
+ghost use Rattle.tb_session.specs.Parties.{IsAnalystOf, seen_by};
 
 use crate::lane::Lane;
 use tb_board::{Board, Custodian, Named};
-use tb_script::{confirm, tell};
-use tb_session::Party;
+use tb_script::tell;
+use tb_session::{Party, confirm};
 
 // The analyst of a lane learns what the custodian has seen.
 fn tell_lane<B: Named, G>(board: &Board<B>, custodian: &mut Custodian, lane: &mut Lane<G>)
@@ -38,6 +38,13 @@ fn tell_lanes<B: Named, G>(board: &Board<B>, custodian: &mut Custodian, lanes: &
 }
 
 // The custodian confirms the pass of a lane's analyst.
+#[tactic(
+    auto,
+    using(
+        tb_session::proofs::Analysts::analyst_front,
+        tb_session::proofs::Analysts::analyst_behind
+    )
+)]
 fn confirm_lane<B: Named, G>(board: &Board<B>, custodian: &mut Custodian, lane: &mut Lane<G>)
     requires front { custodian.old.writer.name ≡ B.name }
     requires analyst { IsAnalystOf B.name custodian.old.writer.start.shape lane.old.party }

@@ -15,10 +15,10 @@ use Rattle.tb_model.specs.Releases.{ReleaseValue}
 use Rattle.tb_model.specs.Setups.{SetupValue}
 use Rattle.tb_release.specs.Batches.{BatchValue}
 use Rattle.tb_release.specs.declared.edits.Edit.{Edit}
-use Rattle.tb_script.specs.Runs.{IsAnalystOf, IsLaneReply, IsOwnerOf, Learns, LineLeads, LineSays}
+use Rattle.tb_script.specs.Runs.{IsLaneReply, IsOwnerOf, Learns, LineLeads, LineSays}
 use Rattle.tb_script.specs.Scripts.{ScriptLine, role_of_lane}
 use Rattle.tb_session.specs.Outputs.{AreReplies, Lead, ReplyValue, price_of, text_of}
-use Rattle.tb_session.specs.Parties.{GoesOn, IsAnswered, IsPartyOf, role_of, seen_by, state_at, state_of}
+use Rattle.tb_session.specs.Parties.{GoesOn, IsAnalystOf, IsAnswered, IsPartyOf, role_of, seen_by, state_at, state_of}
 use Rattle.tb_session.specs.Replies.{IsReply, StateValue}
 use Rattle.tb_session.specs.Transcripts.{IsStep}
 use Rattle.tb_session.specs.declared.party.Party.{Party}

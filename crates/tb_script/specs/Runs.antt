@@ -11,7 +11,7 @@ use Rattle.tb_model.specs.Setups.{SetupValue}
 use Rattle.tb_release.specs.declared.edits.Edit.{Edit}
 use Rattle.tb_script.specs.Scripts.{ScriptLine, role_of_lane}
 use Rattle.tb_session.specs.Outputs.{ReplyValue}
-use Rattle.tb_session.specs.Parties.{IsCustodianOf, IsPassOf, seen_by, state_at, state_of}
+use Rattle.tb_session.specs.Parties.{IsCustodianOf, seen_by, state_at, state_of}
 use Rattle.tb_session.specs.Replies.{IsReply, StateValue}
 use Rattle.tb_session.specs.declared.party.Party.{Party}
 use Rattle.tb_session.specs.declared.party.Party.TheVariants as party
@@ -27,12 +27,7 @@ IsLaneReply setup base state one reply next =
 
 -- ---- what the functions of a run say
 
--- an analyst of the front of this name, over this shape
-abbrev pub IsAnalystOf : Name → List ℕ → Party → Type 0
-IsAnalystOf name shape (party.Analyst pass) = IsPassOf name shape pass
-IsAnalystOf name shape (party.Custodian custodian held) = ⊥
-
--- the custodian of it
+-- the custodian of the front of this name, over this shape
 abbrev pub IsOwnerOf : Name → List ℕ → Party → Type 0
 IsOwnerOf name shape (party.Analyst pass) = ⊥
 IsOwnerOf name shape (party.Custodian custodian held) = IsCustodianOf name shape custodian held

@@ -19,5 +19,5 @@ mod script;
 
 pub use fault::ScriptFault;
 pub use limits::{MOST_LANE_BYTES, MOST_LANES, MOST_SCRIPT_BYTES};
-pub use run::{RunEnd, analysts, confirm, run_script, tell};
+pub use run::{RunEnd, analysts, run_script, tell};
 pub use script::Script;

@@ -2,17 +2,15 @@
 
 ghost use Rattle.std.specs.Prelude.{◌≡◌, ◌<◌, ◌+◌, ◌≤◌, [], ℕ, All, IfOk, List, length};
 ghost use Rattle.tb_board.specs.Custodians.{IsWhole};
-ghost use Rattle.tb_front.specs.Holders.{IsLater};
 ghost use Rattle.tb_io.specs.Faults.{HasRisen};
 ghost use Rattle.tb_io.specs.Taken.{Took, TookPart};
 ghost use Rattle.tb_io.specs.declared.answers.Wrote.TheVariants as wrote;
 ghost use Rattle.tb_io.specs.declared.limits.TheConstants.{MOST_LINE_BYTES};
 ghost use Rattle.tb_model.specs.Schemas.{shape_of};
-ghost use Rattle.tb_script.specs.Runs.{IsAnalystOf, IsLaneReply, IsOwnerOf, Learns, LineLeads};
-ghost use Rattle.tb_script.specs.Runs.{LineSays};
+ghost use Rattle.tb_script.specs.Runs.{IsLaneReply, IsOwnerOf, Learns, LineLeads, LineSays};
 ghost use Rattle.tb_script.specs.declared.run.RunEnd.TheVariants as run_end;
 ghost use Rattle.tb_session.specs.Outputs.{AreReplies, ReplyValue, price_of, text_of};
-ghost use Rattle.tb_session.specs.Parties.{IsCustodianOf, seen_by, state_at};
+ghost use Rattle.tb_session.specs.Parties.{IsAnalystOf, IsCustodianOf, state_at};
 
 use crate::script::Script;
 use std::alloc::Global;
@@ -24,7 +22,7 @@ use tb_board::{Board, Custodian, Named};
 use tb_build::Open;
 use tb_io::{Sink, Wrote};
 use tb_release::Edits;
-use tb_session::{Party, Role, answer};
+use tb_session::{Party, Role, analyst_of, answer, confirm};
 use tb_text::Setup;
 
 /// How the run of a script ends: each line was answered, a write failed, or it is out of memory.
@@ -47,21 +45,6 @@ pub fn tell<B: Named>(board: &Board<B>, custodian: &mut Custodian, party: &mut P
             let note = board.note(custodian.pass());
             board.learn(pass, note);
         }
-        Party::Custodian(_, _) => {}
-    }
-}
-
-/// The custodian confirms an analyst's pass, which tells that it has seen a beginning of what the
-/// custodian wrote.
-pub fn confirm<B: Named>(board: &Board<B>, custodian: &mut Custodian, party: &mut Party)
-    requires front { custodian.old.writer.name ≡ B.name }
-    requires analyst { IsAnalystOf B.name custodian.old.writer.start.shape party.old }
-    ensures same { custodian.new ≡ custodian.old }
-    ensures also { party.new ≡ party.old }
-    ensures behind { IsLater (seen_by party.old) custodian.old.writer }
-{
-    match party {
-        Party::Analyst(pass) => board.confirm(custodian, pass),
         Party::Custodian(_, _) => {}
     }
 }
@@ -144,9 +127,8 @@ pub fn analysts<B: Named>(
 {
     let mut parties = Vec::with_capacity(alloc, lanes)?;
     for _ in 0..lanes {
-        let mut pass = board.pass(rt);
-        board.confirm(custodian, &mut pass);
-        parties.push(Party::Analyst(pass))?;
+        let party = analyst_of(board, rt, custodian);
+        parties.push(party)?;
     }
     Ok(parties)
 }

@@ -1,6 +1,6 @@
 -- Parties that leave their ports and are confirmed.
 use Rattle.std.proofs.Common.{◌≡◌, ◌≢◌, ◌∙◌, refl, sym, ap, ℕ, zero, suc, ◌<◌, ◌≤◌, List, length, arith, subst, get_or-set_same, get_or-set_other, Some, None}
-use Rattle.std.specs.Prelude.{slice_index_or, Option}
+use Rattle.std.specs.Prelude.{slice_index_or, IfSome, Option}
 use Rattle.std.proofs.Math.ListN.{set}
 use Rattle.std.proofs.lemmas.List.{get_or_default}
 use Rattle.tb_board.specs.Custodians.{CustodianValue}
@@ -8,17 +8,18 @@ use Rattle.tb_board.specs.Holders.{HolderValue}
 use Rattle.tb_release.specs.declared.edits.Edit.{Edit}
 use Rattle.tb_serve.specs.Each.{Each}
 use Rattle.tb_serve.specs.Ports.{PortValue}
-use Rattle.tb_serve.specs.Stages.{IsBehind, IsConfirmed, IsCustodian}
+use Rattle.tb_serve.specs.Stages.{IsConfirmed, IsCustodian}
 use Rattle.tb_serve.proofs.Each.{Halfway}
+use Rattle.tb_session.specs.Parties.{IsBehind}
 use Rattle.tb_session.specs.declared.party.Party.{Party}
 use Rattle.tb_session.specs.declared.party.Party.TheVariants as party
 
 -- a party that left its port was confirmed
 pub confirmed_one : (writer now : HolderValue) (one : Option Party) (p q : PortValue) → now ≡ writer → one ≡ p.party
-    → q ≡ record p { party = None } → IsBehind now one → IsConfirmed writer p q
+    → q ≡ record p { party = None } → IfSome one (IsBehind now) → IsConfirmed writer p q
 confirmed_one writer now one p q same is rest behind = record {
   rest = rest;
-  behind = subst (λ (x : HolderValue × Option Party). IsBehind x.0 x.1) (λ i. (same i, is i)) behind;
+  behind = subst (λ (x : HolderValue × Option Party). IfSome x.1 (IsBehind x.0)) (λ i. (same i, is i)) behind;
 }
 
 abbrev without_party : PortValue → PortValue
@@ -40,7 +41,7 @@ module _ (custodian : CustodianValue) (held : List Edit) (old now : List PortVal
     confirmed_at zero d lt = record {
       rest = (h.done 0 d lt).rest ∙ ap without_party (get_or-set_same old 0 new d some ∙ left) ∙ ap without_party
           (get_or_default old 0 e d some);
-      behind = subst (λ (x : Option Party). IsBehind custodian.writer x) (there d) tt;
+      behind = subst (λ (x : Option Party). IfSome x (IsBehind custodian.writer)) (there d) tt;
     }
     confirmed_at (suc i) d lt =
         let ne : suc i ≢ 0 = omega arith in

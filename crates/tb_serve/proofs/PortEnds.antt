@@ -13,14 +13,15 @@ use Rattle.tb_io.specs.Listeners.{CanBind, Connection, IsSameBut, ListenerValue}
 use Rattle.tb_release.specs.Batches.{BatchValue}
 use Rattle.tb_serve.specs.Ports.{PortValue}
 use Rattle.tb_serve.specs.Serves.{EndsAt, HasServed, IsPortServed, role_at}
-use Rattle.tb_serve.specs.Stages.{IsReady, GetsReady, HasCustodian, HasLines, IsBehind, IsBoundAt, IsCleared, IsConfirmed, IsCustodian, IsFresh, IsLeft, IsOfFront, IsSameButLines, IsSeated, IsUntouched, party_at}
+use Rattle.tb_serve.specs.Stages.{IsReady, GetsReady, HasCustodian, HasLines, IsBoundAt, IsCleared, IsConfirmed, IsCustodian, IsFresh, IsLeft, IsOfFront, IsSameButLines, IsSeated, IsUntouched, party_at}
 use Rattle.tb_serve.specs.Visits.{AreVisits, Visit}
 use Rattle.tb_serve.specs.Workers.{CanWork, HasGiven, HasWorked, HasWorkedAt, went_of}
-use Rattle.tb_session.specs.Parties.{IsPartyOf, role_of, seen_by}
+use Rattle.tb_session.specs.Parties.{IsBehind, IsPartyOf, role_of, seen_by}
 use Rattle.tb_session.specs.declared.party.Party.{Party}
 use Rattle.tb_session.specs.declared.party.Party.TheVariants as party
 use Rattle.tb_session.specs.declared.party.Role.{Role}
 use Rattle.tb_session.specs.declared.party.Role.TheVariants as role
+use Rattle.tb_session.proofs.Analysts.{party_front}
 
 -- ---- a port that got ready
 pub can_bind : (o p : PortValue) → IsFresh o → HasLines o p → CanBind p.listener
@@ -72,23 +73,19 @@ first_seen k (suc i) = refl
 some_is : {A : Type 0} (x y : A) → Some x ≡ Some y → x ≡ y
 some_is x y e = cc (e)
 
-front_of : (name : Name) (shape : List ℕ) (p : Party) → IsPartyOf name shape p → IsOfFront name p
-front_of name shape (party.Analyst pass) own = own.front
-front_of name shape (party.Custodian custodian held) own = own.front
-
 pub still_own : (name : Name) (setup : SetupValue) (most : ℕ) (q r : PortValue) → HasWorkedAt name setup most q r
     → IfSome r.party (IsOfFront name)
-still_own name setup most q r w = subst (λ (o : Option Party). IfSome o (IsOfFront name)) (sym w.now) (front_of name
+still_own name setup most q r w = subst (λ (o : Option Party). IfSome o (IsOfFront name)) (sym w.now) (party_front name
     (shape_of setup.schema) w.to w.worked.visited.own)
 
 is_custodian : (p : Party) → role_of p ≡ role.Custodian → HasCustodian (Some p)
 is_custodian (party.Analyst pass) is = absurd (cc (is))
 is_custodian (party.Custodian custodian held) is = tt
 
-analyst_behind : (writer : HolderValue) (to : Party) → role_of to ≡ role.Analyst → IsBehind writer (Some to)
+prefix_behind : (writer : HolderValue) (to : Party) → role_of to ≡ role.Analyst → IsBehind writer to
     → IsPrefix (seen_by to).list writer.list
-analyst_behind writer (party.Analyst pass) who behind = behind.begins
-analyst_behind writer (party.Custodian custodian held) who behind = absurd (cc (who))
+prefix_behind writer (party.Analyst pass) who behind = behind.begins
+prefix_behind writer (party.Custodian custodian held) who behind = absurd (cc (who))
 
 custodian_seen : (last : CustodianValue) (to : Party) → IsCustodian last (Some to) → seen_by to ≡ last.writer
 custodian_seen last (party.Analyst pass) is = absurd is
@@ -152,8 +149,8 @@ module _ (name : Name) (setup : SetupValue) (most : ℕ) (k : CustodianValue) (i
       }
 
   -- an analyst's port ends at a beginning of what the custodian's writer wrote
-  pub ends_behind : (writer : HolderValue) → role_at i ≡ role.Analyst → IsBehind writer r.party → IsPrefix (seen_by w.to).list writer.list
-  ends_behind writer who behind = analyst_behind writer w.to (to_role ∙ who) (subst (λ (o : Option Party). IsBehind writer o) w.now behind)
+  pub ends_behind : (writer : HolderValue) → role_at i ≡ role.Analyst → IfSome r.party (IsBehind writer) → IsPrefix (seen_by w.to).list writer.list
+  ends_behind writer who behind = prefix_behind writer w.to (to_role ∙ who) (subst (λ (o : Option Party). IfSome o (IsBehind writer)) w.now behind)
 
   -- the custodian's at all of it
   pub ends_there : (last : CustodianValue) → IsCustodian last r.party → seen_by w.to ≡ last.writer
@@ -170,7 +167,7 @@ module _ (name : Name) (setup : SetupValue) (most : ℕ) (k : CustodianValue) (i
 
 -- where the first port's custodian stands, and any other port's analyst
 pub ends_at : (name : Name) (setup : SetupValue) (most : ℕ) (k last : CustodianValue) (i : ℕ) (p q r : PortValue) → IsSeated k i p q
-    → (w : HasWorkedAt name setup most q r) → IsBehind last.writer r.party
+    → (w : HasWorkedAt name setup most q r) → IfSome r.party (IsBehind last.writer)
     → (i ≡ 0 → IsCustodian last r.party) → EndsAt (role_at i) (seen_by w.to).list last.writer.list
 ends_at name setup most k last zero p q r seated w behind there = ap (λ (h : HolderValue). h.list)
     (ends_there name setup most k 0 p q r seated w last (there refl))

@@ -6,13 +6,15 @@ use Rattle.std.proofs.lemmas.List.{get_or_default, length-set}
 use mathlib.Core.List.{IsPrefix}
 use Rattle.tb_board.specs.Custodians.{CustodianValue}
 use Rattle.tb_board.specs.Holders.{HolderValue}
-use Rattle.tb_front.specs.Holders.{IsLater}
+use Rattle.tb_front.specs.Holders.{IsLater, Name}
 use Rattle.tb_front.proofs.Holding.{later_both}
 use Rattle.tb_release.specs.Batches.{BatchValue}
 use Rattle.tb_serve.specs.Each.{Each}
 use Rattle.tb_serve.specs.Ports.{PortValue}
 use Rattle.tb_serve.specs.Stages.{IsSeated}
 use Rattle.tb_serve.proofs.Each.{Halfway}
+use Rattle.tb_session.specs.Parties.{IsAnalystOf, IsBehind}
+use Rattle.tb_session.specs.declared.party.Party.{Party}
 use Rattle.tb_session.specs.declared.party.Party.TheVariants as party
 
 -- who has seen a beginning of nothing has seen just that
@@ -22,6 +24,11 @@ seen_none p w l e = later_both p w l (record {
   base = sym l.base;
   begins = subst (λ (xs : List BatchValue). IsPrefix xs p.list) (sym e) (p.list, refl);
 })
+
+pub analyst_at_first : (name : Name) (shape : List ℕ) (one : Party) (w : HolderValue) → IsAnalystOf name shape one → IsBehind w one
+    → w.list ≡ [] → one ≡ party.Analyst w
+analyst_at_first name shape (party.Analyst pass) w is behind empty = ap (λ (h : HolderValue). party.Analyst h) (seen_none pass w behind empty)
+analyst_at_first name shape (party.Custodian custodian held) w is behind empty = absurd is
 
 -- the first port is as it was, and each other one got an analyst
 abbrev pub IsSeatedLater : CustodianValue → ℕ → PortValue → PortValue → Type 0

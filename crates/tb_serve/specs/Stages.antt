@@ -3,14 +3,14 @@ use Rattle.std.specs.Prelude.{◌≡◌, ◌⊎◌, ℕ, zero, suc, ◌+◌, ◌
 use Rattle.std.specs.Prelude.{Option, None, Some, IfSome, slice_index_or}
 use Rattle.tb_board.specs.Custodians.{CustodianValue}
 use Rattle.tb_board.specs.Holders.{HolderValue}
-use Rattle.tb_front.specs.Holders.{IsLater, Name}
+use Rattle.tb_front.specs.Holders.{Name}
 use Rattle.tb_io.specs.Faults.{HasRisen}
 use Rattle.tb_io.specs.Listeners.{CanAccept, CanBind, IsSameBut}
 use Rattle.tb_serve.specs.Each.{Each}
 use Rattle.tb_serve.specs.Ports.{PortValue, fresh_port}
 use Rattle.tb_serve.specs.declared.readiness.Readiness.{Readiness}
 use Rattle.tb_serve.specs.declared.readiness.Readiness.TheVariants as readiness
-use Rattle.tb_session.specs.Parties.{seen_by}
+use Rattle.tb_session.specs.Parties.{IsBehind, seen_by}
 use Rattle.tb_session.specs.declared.party.Party.{Party}
 use Rattle.tb_session.specs.declared.party.Party.TheVariants as party
 
@@ -93,12 +93,6 @@ IsOfFront name one = (seen_by one).name ≡ name
 abbrev pub HasOwnParty : Name → PortValue → Type 0
 HasOwnParty name port = IfSome port.party (IsOfFront name)
 
--- an analyst has seen a beginning of what the custodian's writer wrote
-abbrev pub IsBehind : HolderValue → Option Party → Type 0
-IsBehind writer (Some (party.Analyst pass)) = IsLater pass writer
-IsBehind writer (Some (party.Custodian custodian held)) = Unit {0}
-IsBehind writer None = Unit {0}
-
 -- this is the custodian, with some held edits
 abbrev pub IsCustodian : CustodianValue → Option Party → Type 0
 IsCustodian custodian (Some (party.Analyst pass)) = ⊥
@@ -114,7 +108,7 @@ HasCustodian None = ⊥
 -- a port's party left, and its pass was confirmed
 pub record IsConfirmed (writer : HolderValue) (before after : PortValue) : Type 0 where
   pub rest : after ≡ record before { party = None }
-  pub behind : IsBehind writer before.party
+  pub behind : IfSome before.party (IsBehind writer)
 
 -- a port is left without a party and a reader of lines
 abbrev pub IsCleared : PortValue → PortValue → Type 0

@@ -3,23 +3,24 @@
 ghost use Rattle.std.specs.Prelude.{◌≡◌, ◌<◌, All, IfSome, length, slice_index_or};
 ghost use Rattle.tb_serve.specs.Each.{Each};
 ghost use Rattle.tb_serve.specs.Ports.{PortValue};
-ghost use Rattle.tb_serve.specs.Stages.{HasCustodian, IsBehind, IsCleared, IsConfirmed};
-ghost use Rattle.tb_serve.specs.Stages.{HasOwnParty, IsCustodian, IsOfFront};
+ghost use Rattle.tb_serve.specs.Stages.{HasCustodian, HasOwnParty, IsCleared, IsConfirmed};
+ghost use Rattle.tb_serve.specs.Stages.{IsCustodian, IsOfFront};
+ghost use Rattle.tb_session.specs.Parties.{IsBehind};
 
 use crate::port::Port;
 use tb_board::{Board, Custodian, Named};
 use tb_io::Listen;
-use tb_session::Party;
+use tb_session::{Party, confirm};
 
-// Takes a party that isn't the custodian, and confirms its pass.
+// Has the custodian confirm a port's party, and lets it go.
 fn confirm_one<B: Named>(board: &Board<B>, custodian: &mut Custodian, party: Option<Party>)
     requires front { custodian.old.writer.name ≡ B.name }
     requires own { IfSome party (IsOfFront B.name) }
     ensures same { custodian.new ≡ custodian.old }
-    ensures behind { IsBehind custodian.old.writer party }
+    ensures behind { IfSome party (IsBehind custodian.old.writer) }
 {
-    if let Some(Party::Analyst(mut pass)) = party {
-        board.confirm(custodian, &mut pass);
+    if let Some(mut party) = party {
+        confirm(board, custodian, &mut party);
     }
 }
 

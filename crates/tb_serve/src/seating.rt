@@ -21,9 +21,7 @@ fn first_analyst<B: Named>(board: &Board<B>, rt: &impl Wait, custodian: &mut Cus
     ensures same { custodian.new ≡ custodian.old }
     ensures party { result ≡ party.Analyst custodian.old.writer }
 {
-    let mut pass = board.pass(rt);
-    board.confirm(custodian, &mut pass);
-    Party::Analyst(pass)
+    analyst_of(board, rt, custodian)
 }
 
 // Gives the first port the custodian, and each other one an analyst who has seen no batch.

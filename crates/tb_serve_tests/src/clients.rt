@@ -1,138 +1,148 @@
-// Clients of sessions over loopback: some that stay, and some that go away.
+// Clients of whole sessions over loopback: one that stays, and some that hang up or take their time.
 
-use super::tasks::LONG;
-use std::io::{Read as _, Write as _};
-use std::net::{Ipv4Addr, Net, Shutdown, TcpListener, TcpStream};
-use std::thread;
-use std::time::{Clock, Duration};
+use super::streams::{connect, free_port, is_at_end, is_free, reads, sends};
+use std::net::{Net, Shutdown, TcpListener, TcpStream};
+use std::time::Clock;
 
-// How often a client tries to connect, 10 ms after one another.
-const TRIES: u32 = 1_000;
+// How often a client that never reads sends many lines at most: more than any buffers hold.
+const MOST_SENDS: u32 = 1_000_000;
 
-/// What a client does in its session.
+// A query, and its reply at release 0.
+const QUERY: &[u8; 10] = b"table SEX\n";
+
+const TABLE: &[u8] = b"release 0\nSEX,count\n1,1\n2,2\n.\n";
+
+// A query at fault, its reply, and how many a client sends at once.
+const FAULTY: &[u8; 13] = b"table NOSUCH\n";
+
+const REFUSAL: &[u8] = b"refused 3 UnknownName 2\n";
+
+const AT_ONCE: usize = 100;
+
+/// What a client does.
 #[derive(Clone, Copy)]
 pub enum Client {
-    /// It sends an `a`, and reads one and the end.
-    OneByte,
-    /// The same of a `b`.
-    SendsB,
-    /// It sends more bytes than the server reads, and reads one and the end.
-    ManyBytes,
-    /// It closes at once.
-    Leaves,
-    /// It sends a byte, and closes when it read an `x`.
-    BreaksOff,
-    /// It sends many bytes at once, and the first read finds all replies.
-    AtOnce,
-    /// It waits for each reply.
-    InTurn,
-    /// It closes its writing half, and reads to the end.
-    ToTheEnd,
-    /// It closes with a reply that it didn't read: the connection is reset.
-    Resets,
+    /// Sends a query byte by byte, and reads the reply.
+    ByteByByte,
+    /// Sends many lines at once, and reads all replies.
+    ManyAtOnce,
+    /// Hangs up in the middle of a line.
+    LeavesInLine,
+    /// Hangs up in the middle of a reply.
+    LeavesInReply,
+    /// Sends lines until the server takes no more, never reads, and closes.
+    NeverReads,
+    /// Sends a query, closes its writing half, and reads just its reply and the end.
+    Stays,
 }
 
-// Connects as soon as there is a listener.
-fn connect<R: Net<Listener = TcpListener, Stream = TcpStream> + Clock>(
-    rt: &R,
-    port: u16,
-) -> Option<TcpStream> {
-    for _ in 0..TRIES {
-        if let Ok(stream) = TcpStream::connect(rt, (Ipv4Addr::LOCALHOST, port)) {
-            return Some(stream);
+static LEAVING: [Client; 5] = [
+    Client::ByteByByte,
+    Client::ManyAtOnce,
+    Client::LeavesInLine,
+    Client::LeavesInReply,
+    Client::NeverReads,
+];
+
+// Each client but the one that stays.
+fn leaving() -> &'static [Client] {
+    &LEAVING
+}
+
+/// The first of two free ports in a row. Callers at the same time look at other ones.
+pub fn free_ports<R: Net<Listener = TcpListener, Stream = TcpStream>>(rt: &R) -> Option<u16> {
+    let any = free_port(rt)?;
+    for first in 20_000 + any % 10_000..31_000 {
+        if is_free(rt, first) && is_free(rt, first + 1) {
+            return Some(first);
         }
-        thread::sleep(rt, Duration::from_millis(10));
     }
     None
 }
 
-fn sends(stream: &mut TcpStream, bytes: &[u8]) -> bool {
-    stream.write_all(bytes).is_ok()
+fn ask_byte_by_byte(stream: &mut TcpStream) -> bool {
+    for byte in QUERY {
+        if !sends(stream, &[*byte]) {
+            return false;
+        }
+    }
+    reads(stream, TABLE)
 }
 
-// Whether just these bytes come next.
-fn reads(stream: &mut TcpStream, bytes: &[u8]) -> bool {
-    let mut back = [0; 1];
-    for byte in bytes {
-        if stream.read_exact(&mut back).is_err() || back[0] != *byte {
+// Sends many queries at fault at once.
+fn sends_many(stream: &mut TcpStream) -> bool {
+    sends(stream, [*FAULTY; AT_ONCE].as_flattened())
+}
+
+fn ask_at_once(stream: &mut TcpStream) -> bool {
+    if !sends_many(stream) {
+        return false;
+    }
+    for _ in 0..AT_ONCE {
+        if !reads(stream, REFUSAL) {
             return false;
         }
     }
     true
 }
 
-// Whether the end comes next.
-fn is_at_end(stream: &mut TcpStream) -> bool {
-    matches!(stream.read(&mut [0; 1]), Ok(0))
-}
-
-// Sends these bytes, and reads this one and the end.
-fn gets_one(stream: &mut TcpStream, bytes: &[u8], byte: u8) -> bool {
-    sends(stream, bytes) && reads(stream, &[byte]) && is_at_end(stream)
-}
-
-// Sends bytes at once, and returns whether the first read finds all replies.
-fn gets_at_once(stream: &mut TcpStream) -> bool {
-    let mut back = [0; 200];
-    sends(stream, &[b'a'; 100])
-        && matches!(stream.read(&mut back), Ok(100))
-        && back[..100] == [b'a'; 100]
-}
-
-// Sends a byte once the reply to the one before it came.
-fn gets_in_turn(stream: &mut TcpStream) -> bool {
-    for byte in b'a'..b'k' {
-        if !sends(stream, &[byte]) || !reads(stream, &[byte]) {
-            return false;
+fn never_read(stream: &mut TcpStream) -> bool {
+    if stream.set_nonblocking(true).is_err() {
+        return false;
+    }
+    for _ in 0..MOST_SENDS {
+        if !sends_many(stream) {
+            return true;
         }
     }
-    true
+    false
 }
 
-// Whether the replies to this byte and a `B` come next.
-fn reads_long_after(stream: &mut TcpStream, byte: u8) -> bool {
-    reads(stream, &[byte]) && reads(stream, &[b'x'; LONG])
-}
-
-// Sends all bytes and their end, and returns whether the right replies come back before the end,
-// long ones between short ones.
-fn gets_to_the_end(stream: &mut TcpStream) -> bool {
-    sends(stream, b"aBbBc")
+fn ask_to_the_end(stream: &mut TcpStream) -> bool {
+    sends(stream, QUERY)
         && stream.shutdown(Shutdown::Write).is_ok()
-        && reads_long_after(stream, b'a')
-        && reads_long_after(stream, b'b')
-        && reads(stream, b"c")
+        && reads(stream, TABLE)
         && is_at_end(stream)
 }
 
-// Sends a byte more once the first reply is there, which it doesn't read.
-fn resets(stream: &mut TcpStream) -> bool {
-    sends(stream, b"a") && matches!(stream.peek(&mut [0; 1]), Ok(1)) && sends(stream, b"c")
-}
-
-// What a client does with its stream.
+// What a client does with its stream, and whether it got what it read.
 fn act(stream: &mut TcpStream, client: Client) -> bool {
     match client {
-        Client::OneByte => gets_one(stream, b"a", b'a'),
-        Client::SendsB => gets_one(stream, b"b", b'b'),
-        Client::ManyBytes => gets_one(stream, &[b'a'; 10_000], b'a'),
-        Client::Leaves => true,
-        Client::BreaksOff => sends(stream, b"a") && reads(stream, b"x"),
-        Client::AtOnce => gets_at_once(stream),
-        Client::InTurn => gets_in_turn(stream),
-        Client::ToTheEnd => gets_to_the_end(stream),
-        Client::Resets => resets(stream),
+        Client::ByteByByte => ask_byte_by_byte(stream),
+        Client::ManyAtOnce => ask_at_once(stream),
+        Client::LeavesInLine => sends(stream, b"table S"),
+        Client::LeavesInReply => sends(stream, QUERY) && reads(stream, b"release"),
+        Client::NeverReads => never_read(stream),
+        Client::Stays => ask_to_the_end(stream),
     }
 }
 
-/// A whole session of a client, and whether what came back to it is right.
-pub fn visit<R: Net<Listener = TcpListener, Stream = TcpStream> + Clock>(
+// A whole session of a client, who sends each piece at once, and whether it got what it read.
+fn visit<R: Net<Listener = TcpListener, Stream = TcpStream> + Clock>(
     rt: &R,
     port: u16,
     client: Client,
 ) -> bool {
     match connect(rt, port) {
-        Some(mut stream) => act(&mut stream, client),
+        Some(mut stream) => stream.set_nodelay(true).is_ok() && act(&mut stream, client),
         None => false,
     }
+}
+
+/// Sessions of each client that goes away, and of one that stays after each, and how many of these
+/// twice five got what they read.
+pub fn visits<R: Net<Listener = TcpListener, Stream = TcpStream> + Clock>(
+    rt: &R,
+    port: u16,
+) -> u32 {
+    let mut right: u32 = 0;
+    for client in leaving() {
+        if visit(rt, port, *client) {
+            right = right.saturating_add(1);
+        }
+        if visit(rt, port, Client::Stays) {
+            right = right.saturating_add(1);
+        }
+    }
+    right
 }

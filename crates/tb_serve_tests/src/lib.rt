@@ -1,12 +1,40 @@
-//! Tests of listeners: sessions over loopback, with clients that stay and clients that go away,
-//! what waits between the two ends of a session, and sessions in memory.
+//! Tests of listeners and of the sessions of several ports.
+//!
+//! By `tb_io` alone: sessions over loopback, with clients that stay and clients that go away, what
+//! waits between the two ends of a session, and sessions in memory. By `tb_serve`: many sessions
+//! beside publications, and sessions over loopback whose clients go away. By the top call: clients
+//! that wait for each other's replies, and listeners that fail.
 #![tactic(auto)]
 
 #[cfg(test)]
+mod accepting;
+#[cfg(test)]
 mod clients;
+#[cfg(test)]
+mod command;
+#[cfg(test)]
+mod compared;
+#[cfg(test)]
+mod failing;
+#[cfg(test)]
+mod held;
 #[cfg(test)]
 mod loopback;
 #[cfg(test)]
-mod memory;
+mod making;
+#[cfg(test)]
+mod many;
+#[cfg(test)]
+mod peers;
+#[cfg(test)]
+mod ports;
+#[cfg(test)]
+mod running;
+#[cfg(test)]
+mod streams;
+#[cfg(test)]
+mod talks;
 #[cfg(test)]
 mod tasks;
+#[cfg(test)]
+mod waiting;

@@ -1,144 +1,88 @@
-// Sessions over loopback, between a listener of the system and clients that stay or go away.
+// Whole sessions over loopback. What a client does ends its own session alone: the next one at its
+// port is served.
 
-use super::clients::{Client, visit};
-use super::tasks::{Served, Task, serves_two};
-use std::net::{Ipv4Addr, Net, TcpListener, TcpStream};
+ghost use Rattle.std.specs.Prelude.{◌≡◌, All, IfOk, vec_len};
+ghost use Rattle.tb_serve.specs.Stages.{IsFresh};
+
+use super::clients::{free_ports, visits};
+use super::running::serves;
+use std::alloc::Global;
+use std::net::{Net, TcpListener, TcpStream};
+use std::sync::Wait;
 use std::thread::{Threads, join};
 use std::time::Clock;
-use tb_io::{Bound, Listen, RealListen};
+use tb_base::Memory;
+use tb_io::RealListen;
+use tb_serve::Port;
 
-// A port that is free now.
-fn free_port<R: Net<Listener = TcpListener, Stream = TcpStream>>(rt: &R) -> Option<u16> {
-    let Ok(listener) = TcpListener::bind(rt, (Ipv4Addr::LOCALHOST, 0)) else {
-        return None;
-    };
-    match listener.local_addr() {
-        Ok(addr) => Some(addr.port()),
-        Err(_) => None,
+// How many sessions each port has: two for each client.
+const SESSIONS: u32 = 10;
+
+// The custodian's port and an analyst's.
+fn ports<R: Net<Listener = TcpListener, Stream = TcpStream> + Eprint>(
+    rt: &R,
+    alloc: Global,
+) -> Result<Vec<Port<RealListen<'_, R>>>, Memory>
+    ensures ports { IfOk result (λ net. vec_len net ≡ 2) }
+    ensures fresh { IfOk result (λ net. All IsFresh net.items) }
+{
+    let mut net = Vec::new(alloc);
+    for _ in 0..2_usize {
+        net.push(Port::of(RealListen::new(rt, alloc)))?;
+    }
+    Ok(net)
+}
+
+// Whether all sessions at two ports, from this one on, are served.
+fn serves_two<R: Net<Listener = TcpListener, Stream = TcpStream> + Eprint + Threads + Wait + Sync>(
+    rt: &R,
+    alloc: Global,
+    first: u16,
+) -> bool {
+    let report = b"worker 0 sessions 10\nworker 1 sessions 10\nrelease 0\n";
+    match ports(rt, alloc) {
+        Ok(mut net) => serves(rt, alloc, first.min(60_000), 1, SESSIONS, &mut net, report),
+        Err(_) => false,
     }
 }
 
-// Serves two sessions of a port, and returns whether the first one ends so and the second one is
-// served.
-fn serves<
-    R: Net<Listener = TcpListener, Stream = TcpStream> + Eprint + AllocGlobal + Threads + Sync,
->(rt: &R, port: u16, task: Task, served: Served) -> bool {
-    let mut listener = RealListen::new(rt, rt.alloc());
-    serves_two(rt, &mut listener, port, task, served)
-}
-
-// Whether a client gets what is right, and the next one too.
-fn visits<R: Net<Listener = TcpListener, Stream = TcpStream> + Clock>(
-    rt: &R,
-    port: u16,
-    client: Client,
-) -> bool {
-    let first = visit(rt, port, client);
-    let second = visit(rt, port, Client::SendsB);
-    first && second
-}
-
-// The same of both sides.
-fn both<
+// Whether all sessions at two ports are served, and how many at each got what they read.
+fn serves_and_visits<
     R: Net<Listener = TcpListener, Stream = TcpStream>
         + Eprint
         + AllocGlobal
         + Clock
         + Threads
+        + Wait
         + Sync,
->(rt: &R, port: u16, task: Task, client: Client, served: Served) -> (bool, bool) {
+>(rt: &R, first: u16, second: u16) -> (bool, (u32, u32)) {
     join(
         rt,
-        || serves(rt, port, task, served),
-        || visits(rt, port, client),
+        || serves_two(rt, rt.alloc(), first),
+        || (visits(rt, first), visits(rt, second)),
     )
 }
 
-// Whether the session of a client ends so on the server's side, what comes back to the client is
-// right, and a session after it is served.
-fn ends_so<
+// Whether all clients at two free ports get what they read, and all sessions are served.
+fn clients_go_away<
     R: Net<Listener = TcpListener, Stream = TcpStream>
         + Eprint
         + AllocGlobal
         + Clock
         + Threads
+        + Wait
         + Sync,
->(rt: &R, task: Task, client: Client, served: Served) -> bool {
-    match free_port(rt) {
-        Some(port) => both(rt, port, task, client, served) == (true, true),
+>(rt: &R) -> bool {
+    match free_ports(rt) {
+        Some(first) => {
+            let (served, right) = serves_and_visits(rt, first, first.saturating_add(1));
+            served && right == (10, 10)
+        }
         None => false,
     }
 }
 
-// Whether each client gets all replies in their time.
-fn replies_leave_together<
-    R: Net<Listener = TcpListener, Stream = TcpStream>
-        + Eprint
-        + AllocGlobal
-        + Clock
-        + Threads
-        + Sync,
->(rt: &R) -> bool {
-    ends_so(rt, Task::Reply, Client::AtOnce, Served::AtEnd)
-        && ends_so(rt, Task::Reply, Client::InTurn, Served::AtEnd)
-        && ends_so(rt, Task::Reply, Client::ToTheEnd, Served::AtEnd)
-        && ends_so(rt, Task::Reply, Client::Resets, Served::Broken)
-}
-
-// Whether a listener can be bound to a port.
-fn binds<R: Net<Listener = TcpListener, Stream = TcpStream> + Eprint + AllocGlobal>(
-    rt: &R,
-    port: u16,
-) -> bool {
-    let mut listener = RealListen::new(rt, rt.alloc());
-    listener.bind(port) == Bound::Ready
-}
-
-// Whether a port is free for one listener, and then not for a second one.
-fn binds_once<R: Net<Listener = TcpListener, Stream = TcpStream> + Eprint + AllocGlobal>(
-    rt: &R,
-    port: u16,
-) -> bool {
-    let mut listener = RealListen::new(rt, rt.alloc());
-    listener.bind(port) == Bound::Ready && !binds(rt, port)
-}
-
-// The second session begins once the first was given back.
 #[test]
-fn sessions_come_one_after_another(rt: HostRuntime) {
-    assert!(&rt; ends_so(&rt, Task::Echo, Client::OneByte, Served::Byte(b'a')));
-}
-
-// The first client sends more than the server reads, and still reads all that was written and the
-// end.
-#[test]
-fn unread_bytes_keep_nothing_from_a_client(rt: HostRuntime) {
-    assert!(&rt; ends_so(&rt, Task::Echo, Client::ManyBytes, Served::Byte(b'a')));
-}
-
-#[test]
-fn client_that_closes_at_once_ends_its_session_alone(rt: HostRuntime) {
-    assert!(&rt; ends_so(&rt, Task::Echo, Client::Leaves, Served::AtEnd));
-}
-
-#[test]
-fn write_to_a_client_that_went_away_fails(rt: HostRuntime) {
-    assert!(&rt; ends_so(&rt, Task::Pour, Client::BreaksOff, Served::Cut));
-}
-
-#[test]
-fn ends_of_a_session_move_between_threads(rt: HostRuntime) {
-    assert!(&rt; ends_so(&rt, Task::EchoApart, Client::OneByte, Served::Byte(b'a')));
-}
-
-// What a session wrote waits, and is written out together before the session waits for its client.
-#[test]
-fn replies_leave_together_before_the_session_waits(rt: HostRuntime) {
-    assert!(&rt; replies_leave_together(&rt));
-}
-
-#[test]
-fn port_in_use_is_not_bound(rt: HostRuntime) {
-    let port = free_port(&rt);
-    assert!(&rt; matches!(port, Some(port) if binds_once(&rt, port)));
+fn clients_end_their_own_sessions_alone(rt: HostRuntime) {
+    assert!(&rt; clients_go_away(&rt));
 }

@@ -1,14 +1,19 @@
 -- An analyst's reply, over the batches that were seen.
 use Rattle.std.proofs.Common.{◌≡◌, subst, refl, ℕ, Bool, true, false, List}
 use Rattle.std.specs.Prelude.{if◌then◌else◌}
+use Rattle.tb_board.specs.Holders.{HolderValue}
+use Rattle.tb_front.specs.Holders.{IsLater, Name}
 use Rattle.tb_model.specs.Releases.{ReleaseValue}
 use Rattle.tb_model.specs.Setups.{SetupValue}
 use Rattle.tb_release.specs.Batches.{BatchValue}
 use Rattle.tb_release.specs.Chains.{release_after}
 use Rattle.tb_session.specs.Lines.{is_passed_over}
 use Rattle.tb_session.specs.Outputs.{ReplyValue}
+use Rattle.tb_session.specs.Parties.{IsAnalystOf, IsBehind, IsPartyOf, seen_by}
 use Rattle.tb_session.specs.Replies.{IsAnswer, IsReply, IsReplyTo, StateValue}
 use Rattle.tb_session.specs.declared.asks.Asks.TheVariants as asks
+use Rattle.tb_session.specs.declared.party.Party.{Party}
+use Rattle.tb_session.specs.declared.party.Party.TheVariants as party
 use Rattle.tb_session.specs.declared.party.Role.TheVariants as role
 
 -- an analyst's reply changes nothing, and is one wherever the same batches were seen
@@ -26,3 +31,16 @@ analyst_stays setup base at after line reply is = (over_any (is_passed_over line
 -- and is one wherever they were
 pub analyst_anywhere : (setup : SetupValue) (base : ReleaseValue) (at after state : StateValue) (line : List ℕ) (reply : ReplyValue) → at.chain ≡ state.chain → IsReply role.Analyst setup base at line reply after → IsReply role.Analyst setup base state line reply state
 analyst_anywhere setup base at after state line reply same is = (over_any (is_passed_over line) setup base at after state line reply same is).1
+
+-- ---- parties whose pass is confirmed
+pub party_front : (name : Name) (shape : List ℕ) (p : Party) → IsPartyOf name shape p → (seen_by p).name ≡ name
+party_front name shape (party.Analyst pass) is = is.front
+party_front name shape (party.Custodian custodian held) is = is.front
+
+pub analyst_front : (name : Name) (shape : List ℕ) (p : Party) → IsAnalystOf name shape p → (seen_by p).name ≡ name
+analyst_front name shape (party.Analyst pass) is = is.front
+analyst_front name shape (party.Custodian custodian held) is = absurd is
+
+pub analyst_behind : (name : Name) (shape : List ℕ) (w : HolderValue) (p : Party) → IsAnalystOf name shape p → IsBehind w p → IsLater (seen_by p) w
+analyst_behind name shape w (party.Analyst pass) is behind = behind
+analyst_behind name shape w (party.Custodian custodian held) is behind = absurd is

@@ -2,7 +2,7 @@
 use Rattle.std.specs.Prelude.{◌≡◌, ◌⊎◌, ◌≤◌, ◌+◌, ℕ, List, [], All, Option}
 use Rattle.tb_board.specs.Custodians.{CustodianValue, IsWhole}
 use Rattle.tb_board.specs.Holders.{HolderValue, IsChainSeen, release_seen}
-use Rattle.tb_front.specs.Holders.{Name}
+use Rattle.tb_front.specs.Holders.{IsLater, Name}
 use Rattle.tb_io.specs.Taken.{IsWritten}
 use Rattle.tb_io.specs.declared.answers.Wrote.{Wrote}
 use Rattle.tb_model.specs.Releases.{ReleaseValue}
@@ -35,6 +35,16 @@ pub record IsCustodianOf (name : Name) (shape : List ℕ) (custodian : Custodian
 abbrev pub IsPartyOf : Name → List ℕ → Party → Type 0
 IsPartyOf name shape (party.Analyst pass) = IsPassOf name shape pass
 IsPartyOf name shape (party.Custodian custodian held) = IsCustodianOf name shape custodian held
+
+-- an analyst of the front of this name, over this shape
+abbrev pub IsAnalystOf : Name → List ℕ → Party → Type 0
+IsAnalystOf name shape (party.Analyst pass) = IsPassOf name shape pass
+IsAnalystOf name shape (party.Custodian custodian held) = ⊥
+
+-- an analyst has seen a beginning of what the custodian's writer wrote
+abbrev pub IsBehind : HolderValue → Party → Type 0
+IsBehind writer (party.Analyst pass) = IsLater pass writer
+IsBehind writer (party.Custodian custodian held) = Unit {0}
 
 -- whether it is an analyst or the custodian
 abbrev pub role_of : Party → Role

@@ -1,5 +1,6 @@
 //! The lines of a party, answered over a board: one line, an analyst's query or what the custodian
-//! asks for; and a session, the lines that come from a source.
+//! asks for; and a session, the lines that come from a source. Analysts, whose passes the custodian
+//! confirms.
 //!
 //! It stands on `tb_board` (the desk behind its lock), `tb_build` (a cube that isn't kept),
 //! `tb_core` (one that is), `tb_query`, `tb_plan`, `tb_rollup` and `tb_scan` (a table's cells),
@@ -25,6 +26,7 @@
 mod answerer;
 mod answering;
 mod asks;
+mod confirming;
 mod count;
 pub mod laws;
 mod limits;
@@ -40,6 +42,7 @@ mod sessions;
 
 pub use answering::answer;
 pub use asks::Asks;
+pub use confirming::{analyst_of, confirm};
 pub use limits::FIRST_CAPACITY;
 pub use line::is_passed_over;
 pub use party::{Party, Role};

@@ -1,6 +1,6 @@
 use Rattle.std.proofs.Common.{◌≡◌, ◌+◌, length, vec_len}
 use Rattle.std.specs.Prelude.{All}
-use Rattle.tb_script.specs.Runs.{IsAnalystOf}
+use Rattle.tb_session.specs.Parties.{IsAnalystOf}
 use Rattle.tb_lanes.proofs.run.lanes_of.Given as goal
 
 -- there are lanes for the gates so far

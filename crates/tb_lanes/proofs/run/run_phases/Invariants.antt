@@ -4,9 +4,9 @@ use Rattle.tb_io.specs.Taken.{Took}
 use Rattle.tb_lanes.specs.Phases.{PhasesGo, Standing}
 use Rattle.tb_lanes.specs.Runs.{Stand, standing_of}
 use Rattle.tb_model.specs.Schemas.{shape_of}
-use Rattle.tb_script.specs.Runs.{IsAnalystOf, IsOwnerOf}
+use Rattle.tb_script.specs.Runs.{IsOwnerOf}
 use Rattle.tb_script.specs.Scripts.{lanes_of}
-use Rattle.tb_session.specs.Parties.{seen_by}
+use Rattle.tb_session.specs.Parties.{IsAnalystOf, seen_by}
 use Rattle.tb_lanes.proofs.run.run_phases.Given as goal
 
 -- the phases so far led to where all stand, and their text was taken

@@ -1,7 +1,7 @@
 use Rattle.std.proofs.Common.{◌≡◌}
 use Rattle.std.specs.Prelude.{All}
 use Rattle.tb_lanes.specs.Lanes.{IsConfirmed}
-use Rattle.tb_script.specs.Runs.{IsAnalystOf}
+use Rattle.tb_session.specs.Parties.{IsAnalystOf}
 use Rattle.tb_serve.proofs.Each.{Halfway}
 use Rattle.tb_lanes.proofs.telling.confirm_lanes.Given as goal
 

@@ -3,7 +3,7 @@ use Rattle.std.proofs.lemmas.List.Elements.{All-set}
 use Rattle.tb_board.specs.Custodians.{CustodianValue}
 use Rattle.tb_lanes.specs.declared.lane.Lane.{Lane}
 use Rattle.tb_lanes.specs.Lanes.{IsTold}
-use Rattle.tb_script.specs.Runs.{IsAnalystOf}
+use Rattle.tb_session.specs.Parties.{IsAnalystOf}
 use Rattle.tb_serve.proofs.Each.{half_more, half_whole}
 use Rattle.tb_lanes.proofs.telling.tell_lanes.Goals as goal
 

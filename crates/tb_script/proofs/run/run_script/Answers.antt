@@ -2,9 +2,8 @@ use Rattle.std.proofs.Common.{◌∙◌, [], arith}
 use Rattle.std.proofs.lemmas.List.{get_or_default, length-set}
 use Rattle.std.proofs.lemmas.List.Elements.{All-set}
 use Rattle.tb_model.specs.Schemas.{shape_of}
-use Rattle.tb_script.specs.Runs.{IsAnalystOf}
 use Rattle.tb_script.specs.Scripts.{nth_line, no_line, role_of_lane}
-use Rattle.tb_session.specs.Parties.{state_at}
+use Rattle.tb_session.specs.Parties.{IsAnalystOf, state_at}
 use Rattle.tb_script.proofs.Running.{line_here, reply-cut, reply-taken}
 use Rattle.tb_script.proofs.run.run_script.Goals as goal
 

@@ -1,9 +1,9 @@
 use Rattle.std.proofs.Common.{◌≡◌, ◌≤◌, [], length, take}
 use Rattle.std.specs.Prelude.{All}
 use Rattle.tb_model.specs.Schemas.{shape_of}
-use Rattle.tb_script.specs.Runs.{IsAnalystOf, IsOwnerOf}
+use Rattle.tb_script.specs.Runs.{IsOwnerOf}
 use Rattle.tb_script.specs.Scripts.{lanes_of}
-use Rattle.tb_session.specs.Parties.{state_at}
+use Rattle.tb_session.specs.Parties.{IsAnalystOf, state_at}
 use Rattle.tb_script.proofs.Running.{AreTaken}
 use Rattle.tb_script.proofs.run.run_script.Given as goal
 

@@ -1,10 +1,10 @@
 use Rattle.std.proofs.Common.{◌≡◌, All, vec_len}
 use Rattle.tb_serve.specs.Stages.{IsFresh}
-use Rattle.tb_late_tests.proofs.ports.fill.Given as goal
+use Rattle.tb_serve_tests.proofs.loopback.ports.Given as goal
 
 -- as many ports as the loop's counter says, all fresh
 abbrev pub invariant-loop : goal.invariant-loop
-invariant-loop l = record {
+invariant-loop g l = record {
   count : vec_len l.net ≡ l.counter;
   fresh : All IsFresh l.net.items;
 }
