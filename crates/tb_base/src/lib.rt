@@ -6,8 +6,8 @@
 //! count and the key sum of some records), `Parts` (its two numbers, each summed modulo its own),
 //! `Tallies` (what stands at one place of a column), `Records`, `Pieces` (records by column),
 //! `Codes` (how a record's numbers are kept), `Persons`, `Sets`, `Numbers`, `Statuses`, `Bytes` and
-//! `Words` (text, blanks, and the words of a line); `Lists` and `OneAnswer` (a text that is read has
-//! exactly one answer) serve the crates above. Cells are summed here alone.
+//! `Words` (text, blanks, and the words of a line); `Lists` and `OneAnswer` (a text that is read
+//! has exactly one answer) serve the crates above. Cells are summed here alone.
 //!
 //! Lemmas for the crates above: `proofs/CellLemmas` (how a cell changes with its records),
 //! `CellsBy` (the same of the cells of several groups), `PartLemmas` (the two numbers of cells, and

@@ -8,8 +8,8 @@ use std::alloc::Global;
 use std::hash::{Hash, Hasher};
 use std::marker::Model;
 
-/// How many variables are kept in place, without an allocation of their own: as many as a schema may
-/// have.
+/// How many variables are kept in place, without an allocation of their own: as many as a schema
+/// may have.
 pub const VARIABLES_IN_PLACE: usize = 64;
 
 /// A set of variables, seen as their numbers in ascending order. Two sets are equal, and hash

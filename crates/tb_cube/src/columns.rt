@@ -1,7 +1,7 @@
 // Records of a piece put into the cells of their categories, read by column. Many cells of one or
 // two variables are found code by code; for few cells, or more variables, the numbers of the
-// records' cells are worked out a variable at a time, and then their keys are put in. Where a column
-// is missing the records are read.
+// records' cells are worked out a variable at a time, and then their keys are put in. Where a
+// column is missing the records are read.
 
 ghost use Rattle.std.specs.Prelude.{◌≡◌, ℕ, List, ◌*◌, ◌+◌, ◌%◌, ◌<◌, ◌≤◌, ◌^◌, All, true, length};
 ghost use Rattle.std.specs.Prelude.{replicate, slice_index, take};

@@ -7,8 +7,8 @@
 //! from a state), `Lines` (fields between commas, and some lines for each of some numbers) and
 //! `Variables` (the four variables and their codes).
 //!
-//! Lemmas: `proofs/Steps` (what is written so far, and then the lines of the rest, is the whole) and
-//! `Fields` (a line is put together from its last field). `Vectors` has worked draws and lines.
+//! Lemmas: `proofs/Steps` (what is written so far, and then the lines of the rest, is the whole)
+//! and `Fields` (a line is put together from its last field). `Vectors` has worked draws and lines.
 #![tactic(auto)]
 
 mod classes;

@@ -130,11 +130,11 @@ fn run_phases<B: Named + Send + Sync, R: Threads + Wait + Sync, G: Gate + Send, 
 /// Writes, phase by phase, the line `phase I`, and for each lane with a line in that phase, in the
 /// order of first appearance in the script, the line `lane NAME` and the replies to its lines. The
 /// lanes of a phase are answered at the same time, each in a thread of its own where one can be
-/// made, past the gate at the place of its number; at the end the gates stand where they stood. What
-/// the custodian published before a phase is seen by all of it. A phase's text is written once all
-/// its lanes have ended; where one of them was out of memory for its text, the run is, and nothing
-/// of that phase is written. It takes memory for the lanes, for their answers, and for the text of
-/// one phase at a time.
+/// made, past the gate at the place of its number; at the end the gates stand where they stood.
+/// What the custodian published before a phase is seen by all of it. A phase's text is written once
+/// all its lanes have ended; where one of them was out of memory for its text, the run is, and
+/// nothing of that phase is written. It takes memory for the lanes, for their answers, and for the
+/// text of one phase at a time.
 pub fn run_lanes<B: Named + Send + Sync, K: Sink, G: Gate + Send + Drop>(
     setup: &Setup,
     board: &Board<B>,

@@ -38,13 +38,7 @@ fn tell_lanes<B: Named, G>(board: &Board<B>, custodian: &mut Custodian, lanes: &
 }
 
 // The custodian confirms the pass of a lane's analyst.
-#[tactic(
-    auto,
-    using(
-        tb_session::proofs::Analysts::analyst_front,
-        tb_session::proofs::Analysts::analyst_behind
-    )
-)]
+#[tactic(auto, using(tb_session::proofs::Analysts::analyst_front, tb_session::proofs::Analysts::analyst_behind))]
 fn confirm_lane<B: Named, G>(board: &Board<B>, custodian: &mut Custodian, lane: &mut Lane<G>)
     requires front { custodian.old.writer.name ≡ B.name }
     requires analyst { IsAnalystOf B.name custodian.old.writer.start.shape lane.old.party }

@@ -1,7 +1,7 @@
 // A release while it is edited.
 
-ghost use Rattle.std.specs.Prelude.{◌≡◌, ◌+◌, ◌==◌, ◌<◌, ◌≤◌, [], true, false, not, All, IfOk, IfErr};
-ghost use Rattle.std.specs.Prelude.{length};
+ghost use Rattle.std.specs.Prelude.{◌≡◌, ◌+◌, ◌==◌, ◌<◌, ◌≤◌, [], true, false, not, All, IfOk};
+ghost use Rattle.std.specs.Prelude.{IfErr, length};
 ghost use Rattle.std.specs.Option.{ForSome, option_map_or};
 ghost use Rattle.tb_base.specs.Persons.{has_person};
 ghost use Rattle.tb_base.specs.Records.{AllFit};
@@ -9,8 +9,8 @@ ghost use Rattle.tb_pages.specs.Pages.{record_of};
 ghost use Rattle.tb_release.specs.declared.edits.Edit.TheVariants as edits;
 ghost use Rattle.tb_release.specs.declared.limits.TheConstants.{MOST_CHANGES, MOST_EDITS};
 ghost use Rattle.tb_release.specs.declared.limits.TheConstants.{MOST_RELEASES};
-ghost use Rattle.tb_release.specs.Drafts.{AreMade, CanSet, HaveVariables, IsDraft, IsDraftOf, IsMade};
-ghost use Rattle.tb_release.specs.Drafts.{release_of};
+ghost use Rattle.tb_release.specs.Drafts.{AreMade, CanSet, HaveVariables, IsDraft, IsDraftOf};
+ghost use Rattle.tb_release.specs.Drafts.{IsMade, release_of};
 ghost use Rattle.tb_release.specs.Laws.{EditFits};
 ghost use Rattle.tb_release.specs.Possible.{CanAdd, IsPossible, first_refusal, refusal};
 ghost use Rattle.tb_release.specs.Results.{IsWhy};

@@ -110,8 +110,8 @@ fn answer_lane<B: Named, R: Threads + Wait + Sync, K: Sink, L: Ledger>(
     }
 }
 
-/// An analyst for each lane, of which none has seen more than the custodian. It takes memory for the
-/// list.
+/// An analyst for each lane, of which none has seen more than the custodian. It takes memory for
+/// the list.
 pub fn analysts<B: Named>(
     rt: &impl Wait,
     alloc: Global,

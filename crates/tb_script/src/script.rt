@@ -165,8 +165,8 @@ impl Script {
         }
     }
 
-    /// How many lines stand in the phases up to one of this number, from 1. They are the first lines,
-    /// since phase comes after phase.
+    /// How many lines stand in the phases up to one of this number, from 1. They are the first
+    /// lines, since phase comes after phase.
     pub fn lines_up_to(&self, phase: u32) -> usize
         ensures within { (i : ℕ) → i < result → (nth_line self.now i).phase ≤ phase }
         ensures rest { (i : ℕ) → result ≤ i → i < length self.now.lines

@@ -1,4 +1,5 @@
-// Clients of whole sessions over loopback: one that stays, and some that hang up or take their time.
+// Clients of whole sessions over loopback: one that stays, and some that hang up or take their
+// time.
 
 use super::streams::{connect, free_port, is_at_end, is_free, reads, sends};
 use std::net::{Net, Shutdown, TcpListener, TcpStream};

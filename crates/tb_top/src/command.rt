@@ -276,9 +276,9 @@ pub fn generated_inputs<'a>() -> Inputs<'a>
     }
 }
 
-/// What the arguments ask for: `script CLASSES RECODES PTABLE PEOPLE THRESHOLD SCRIPT`, `lanes` with
-/// the same after it, `serve CLASSES RECODES PTABLE PEOPLE THRESHOLD PORT WORKERS SESSIONS`, RECODES
-/// being a file's name or `-`, or `gen N START`. None at all other arguments.
+/// What the arguments ask for: `script CLASSES RECODES PTABLE PEOPLE THRESHOLD SCRIPT`, `lanes`
+/// with the same after it, `serve CLASSES RECODES PTABLE PEOPLE THRESHOLD PORT WORKERS SESSIONS`,
+/// RECODES being a file's name or `-`, or `gen N START`. None at all other arguments.
 pub fn read_command(words: &[String]) -> Option<Command<'_>>
     ensures { result ≡ command_of (map string_bytes words.now) }
 {

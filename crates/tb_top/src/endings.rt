@@ -3,7 +3,8 @@
 ghost use Rattle.std.specs.Prelude.{◌≡◌};
 ghost use Rattle.tb_io.specs.Taken.{IsWritten};
 ghost use Rattle.tb_top.specs.Asking.{file_end, input_of as input_of_file};
-ghost use Rattle.tb_top.specs.Endings.{input_name, input_status, last_line, refusal_line, status_of};
+ghost use Rattle.tb_top.specs.Endings.{input_name, input_status, last_line, refusal_line};
+ghost use Rattle.tb_top.specs.Endings.{status_of};
 ghost use Rattle.tb_top.specs.declared.endings.End.TheVariants as end;
 
 use std::alloc::AllocFailed;

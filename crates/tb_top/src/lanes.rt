@@ -49,8 +49,8 @@ fn answer_on_board<B: Named + Send + Sync, R: Threads + Wait + Sync, O: Sink>(
     }
 }
 
-/// Answers the lanes of a script over a census, phase by phase. It takes memory for a board, for the
-/// lanes and their answers.
+/// Answers the lanes of a script over a census, phase by phase. It takes memory for a board, for
+/// the lanes and their answers.
 pub fn answer_lanes<R: Threads + Wait + Sync, O: Sink>(
     rt: &R,
     alloc: Global,

@@ -1,7 +1,7 @@
 // The files of a run, read in their order.
 
-ghost use Rattle.std.specs.Prelude.{◌≡◌, ◌≤◌, [], ◌∷◌, ◌++◌, Option, Some, true, false, length, IfOk};
-ghost use Rattle.std.specs.Prelude.{option_map};
+ghost use Rattle.std.specs.Prelude.{◌≡◌, ◌≤◌, [], ◌∷◌, ◌++◌, Option, Some, true, false, length};
+ghost use Rattle.std.specs.Prelude.{IfOk, option_map};
 ghost use Rattle.tb_base.specs.declared.people.TheConstants.{MOST_PERSONS};
 ghost use Rattle.tb_base.specs.Records.{AllFit};
 ghost use Rattle.tb_model.specs.Releases.{first_release};
@@ -13,7 +13,8 @@ ghost use Rattle.tb_top.specs.Asking.{most_bytes, people_in, perturbation_in, re
 ghost use Rattle.tb_top.specs.Asking.{schema_in, script_in};
 ghost use Rattle.tb_top.specs.Commands.{asks_to_serve, class_files, command_files, input_files};
 ghost use Rattle.tb_top.specs.Commands.{named, recodes_files};
-ghost use Rattle.tb_top.specs.Loading.{AskedIsFirst, IsFirst, Loads, asked_value, census_value, reading};
+ghost use Rattle.tb_top.specs.Loading.{AskedIsFirst, IsFirst, Loads, asked_value, census_value};
+ghost use Rattle.tb_top.specs.Loading.{reading};
 
 use crate::command::{Command, FileName, Inputs};
 use crate::endings::{End, Input};
@@ -288,8 +289,8 @@ fn load_for_service<F: Files>(
 
 /// Reads the files of a command: CLASSES and RECODES, both before either is checked, then PTABLE,
 /// PEOPLE and the task's, if it has one, each checked before the next is read. For a generated
-/// population it reads none, and makes them. It takes memory for each file while it is read, and for
-/// what it says.
+/// population it reads none, and makes them. It takes memory for each file while it is read, and
+/// for what it says.
 pub fn load<F: Files>(alloc: Global, files: &mut F, command: &Command<'_>) -> Result<Asked, End>
     ensures first { IfOk result AskedIsFirst }
     ensures kind { IfOk result (λ asked. is_service (asked_value asked)

@@ -2,7 +2,8 @@
 
 ghost use Rattle.std.specs.Prelude.{◌≡◌, ◌==◌, if◌then◌else◌};
 ghost use Rattle.tb_io.specs.Taken.{IsWritten};
-ghost use Rattle.tb_top.specs.Summaries.{byte_sum as sum_of_bytes, line_feeds as feeds_of, summary_line};
+ghost use Rattle.tb_top.specs.Summaries.{byte_sum as sum_of_bytes, line_feeds as feeds_of};
+ghost use Rattle.tb_top.specs.Summaries.{summary_line};
 
 use crate::population::Population;
 use itoa::Buffer;

@@ -216,10 +216,10 @@ fn answer<R: Threads + Wait + Sync, O: Sink, N: Listen + Send, L: Ledger>(
 /// which the custodian's lines before it led, and a query is refused for the first fault of its
 /// text, whatever cubes are kept. A line that finds no memory gets the reply `memory`, and the next
 /// line is answered. The counter rises by how many records and changes are lent: for a table the
-/// release's records at most once, or, where a cube is kept, the changes that it is behind. It takes
-/// memory for the files, for what they say, for one table at a time, for at most 64 cubes or as many
-/// as `cache K` says, for the edits that are held, for the next release while it is made, and with
-/// `gen` for the replies.
+/// release's records at most once, or, where a cube is kept, the changes that it is behind. It
+/// takes memory for the files, for what they say, for one table at a time, for at most 64 cubes or
+/// as many as `cache K` says, for the edits that are held, for the next release while it is made,
+/// and with `gen` for the replies.
 pub fn tablebuilder<F: Files, O: Sink, N: Listen + Send, L: Ledger>(
     rt: &(impl Threads + Wait + Sync),
     alloc: Global,

@@ -12,7 +12,8 @@ use tb_io::{SureFiles, SureSink};
 
 const ONE_PERSON: &[u8] = b"gen 1 1 lines 7211 bytes 64917 sum 4228453\n";
 
-// Per round two tables of 306 lines, one of 58, 50 edits and a publication; and one line of numbers.
+// Per round two tables of 306 lines, one of 58, 50 edits and a publication; and one line of
+// numbers.
 const MANY_PERSONS: &[u8] = b"gen 20000 7 lines 7211 bytes 76127 sum 4497808\n";
 
 // Whether a run without files writes this text, and is done.

@@ -1,6 +1,7 @@
 // What the parser makes of tokens, and why it stops.
 
-ghost use Rattle.std.specs.Prelude.{◌≡◌, ◌∷◌, ◌<◌, [], IfOk, IfSome, MatchOption, MatchResult, length};
+ghost use Rattle.std.specs.Prelude.{◌≡◌, ◌∷◌, ◌<◌, [], IfOk, IfSome, MatchOption, MatchResult};
+ghost use Rattle.std.specs.Prelude.{length};
 ghost use Rattle.tb_query.specs.Reading.{IsNext, Leads, NotNext, StopsBy, before};
 ghost use Rattle.tb_query.specs.Steps.{dimension, dimensions as dimensions_read, name as name_due};
 ghost use Rattle.tb_query.specs.Steps.{test};
