@@ -12,7 +12,7 @@ use std::sync::Wait;
 use tb_board::{Board, Custodian, Named};
 use tb_io::Listen;
 use tb_release::Edits;
-use tb_session::Party;
+use tb_session::{Party, analyst_of};
 
 // An analyst who has seen no batch, as the custodian confirms.
 fn first_analyst<B: Named>(board: &Board<B>, rt: &impl Wait, custodian: &mut Custodian) -> Party
