@@ -5,7 +5,7 @@ ghost use Rattle.tb_model.specs.Schemas.{shape_of};
 ghost use Rattle.tb_session.specs.Parties.{IsPartyOf};
 
 use super::asking::ask_all;
-use super::making::{analyst, opening, owner, setup};
+use super::making::{analyst, opening, owner};
 use std::alloc::Global;
 use std::marker::Brand;
 use std::sync::Wait;
@@ -16,6 +16,7 @@ use tb_board::{Board, Named, Opening};
 use tb_build::{Gate, Open};
 use tb_io::MemSink;
 use tb_session::Party;
+use tb_small_values::setup;
 use tb_text::Setup;
 
 // The first caller is at its gate, may go on, and was answered twice.

@@ -1,4 +1,4 @@
-// The small setup, and a board over it.
+// A board over the small setup, and its parties.
 
 ghost use Rattle.std.specs.Prelude.{◌≡◌, IfOk};
 ghost use Rattle.tb_board.specs.Custodians.{IsWhole};
@@ -9,28 +9,11 @@ use std::alloc::Global;
 use std::sync::Wait;
 use tb_base::Memory;
 use tb_board::{Board, Custodian, Named, Opening};
-use tb_ptable::PTable;
 use tb_release::Edits;
 use tb_schema::Schema;
 use tb_session::Party;
-use tb_small::PTABLE;
-use tb_small_values::{release, schema};
+use tb_small_values::release;
 use tb_text::Setup;
-
-fn ptable(alloc: Global) -> Result<PTable, Memory> {
-    match PTable::read(alloc, PTABLE) {
-        Ok(ptable) => Ok(ptable),
-        Err(_) => Err(Memory),
-    }
-}
-
-pub fn setup(alloc: Global) -> Result<Setup, Memory> {
-    Ok(Setup {
-        schema: schema(alloc)?,
-        ptable: ptable(alloc)?,
-        threshold: 0,
-    })
-}
 
 fn opening_over(alloc: Global, schema: &Schema) -> Result<Opening, Memory>
     ensures { IfOk result (λ opening. opening.start.shape ≡ shape_of schema.now) }

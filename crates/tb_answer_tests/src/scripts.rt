@@ -3,7 +3,7 @@
 ghost use Rattle.std.specs.Prelude.{◌≡◌, ◌<◌};
 ghost use Rattle.tb_model.specs.Schemas.{shape_of};
 
-use super::making::{opening, setup};
+use super::making::opening;
 use std::alloc::Global;
 use std::marker::Brand;
 use std::sync::Wait;
@@ -14,6 +14,7 @@ use tb_base::{Memory, Steps};
 use tb_board::{Board, Named, Opening};
 use tb_io::MemSink;
 use tb_script::{MOST_SCRIPT_BYTES, RunEnd, Script, run_script};
+use tb_small_values::setup;
 use tb_text::Setup;
 
 // What a script shows, the script, and its replies.

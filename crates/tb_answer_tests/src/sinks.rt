@@ -5,7 +5,7 @@ ghost use Rattle.tb_model.specs.Schemas.{shape_of};
 ghost use Rattle.tb_session.specs.Parties.{IsPartyOf};
 
 use super::asking::ask;
-use super::making::{opening, owner, setup};
+use super::making::{opening, owner};
 use std::alloc::Global;
 use std::marker::Brand;
 use std::sync::Wait;
@@ -15,6 +15,7 @@ use tb_board::{Board, Named, Opening};
 use tb_build::Open;
 use tb_io::MemSink;
 use tb_session::Party;
+use tb_small_values::setup;
 use tb_text::Setup;
 
 // Answers a line into a sink of so many bytes, and returns whether it took these and all of the

@@ -5,7 +5,7 @@ ghost use Rattle.tb_model.specs.Schemas.{shape_of};
 ghost use Rattle.tb_session.specs.Parties.{IsPartyOf};
 
 use super::asking::ask_all;
-use super::making::{analyst, opening, setup};
+use super::making::{analyst, opening};
 use std::alloc::Global;
 use std::marker::Brand;
 use std::sync::Wait;
@@ -15,6 +15,7 @@ use tb_board::{Board, Named, Opening};
 use tb_build::Gate;
 use tb_io::MemSink;
 use tb_session::Party;
+use tb_small_values::setup;
 use tb_text::Setup;
 
 // A gate that counts how often it is reached.

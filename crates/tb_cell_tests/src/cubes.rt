@@ -5,12 +5,13 @@ ghost use Rattle.tb_base.specs.Records.{AllFit};
 ghost use Rattle.tb_core.specs.Desks.{HasCube};
 ghost use Rattle.tb_model.specs.Schemas.{shape_of};
 
+use super::making::add;
 use std::alloc::Global;
 use std::marker::Brand;
 use std::sync::ledger::{Blank, Ledger};
 use std::test::Fail;
 use std::thread::Threads;
-use tb_base::{Cell, Codes, MOST_PERSONS, Memory, People, Record, Shape, Steps, VarSet};
+use tb_base::{Cell, MOST_PERSONS, Memory, People, Shape, Steps, VarSet};
 use tb_build::{Gate, build, build_in_parts};
 use tb_grid::{MOST_CELLS, cells_over};
 use tb_release::{Release, records_fit};
@@ -68,12 +69,8 @@ fn many_worked() -> [Cell; 2] {
 pub(crate) fn people_up_to(alloc: Global, last: u32) -> Result<People, Memory> {
     let mut people = People::with_room(alloc, last as usize);
     for person in 1..=last {
-        let second = person % 2;
-        let codes = Codes::of(alloc, &[second as u16, 0, 0])?;
-        let key = second as u8;
-        if people.add(Record { person, key, codes }).is_err() {
-            return Err(Memory);
-        }
+        let second = (person % 2) as u16;
+        add(alloc, &mut people, person, second as u8, &[second, 0, 0])?;
     }
     Ok(people)
 }
@@ -155,8 +152,14 @@ fn parts_are_enough(rt: HostRuntime) -> Result<(), Fail> {
     let schema = schema(rt.alloc())?;
     let release = release(rt.alloc(), &schema)?;
     let want = worked();
-    let alloc = rt.alloc();
-    let right = is_right_in_parts::<Brand, _>(Blank::new(1), &rt, alloc, &schema, &release, &want)?;
+    let right = is_right_in_parts::<Brand, _>(
+        Blank::new(1),
+        &rt,
+        rt.alloc(),
+        &schema,
+        &release,
+        &want,
+    )?;
     assert!(rt; right);
     Ok(())
 }

@@ -12,6 +12,8 @@ mod cubes;
 #[cfg(test)]
 mod event_runs;
 #[cfg(test)]
+mod making;
+#[cfg(test)]
 mod packed_cubes;
 #[cfg(test)]
 mod pages;

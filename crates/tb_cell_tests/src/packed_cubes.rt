@@ -7,12 +7,13 @@ ghost use Rattle.tb_core.specs.Desks.{HasCube};
 ghost use Rattle.tb_model.specs.Schemas.{shape_of};
 
 use super::cubes::first;
+use super::making::add;
 use std::alloc::Global;
 use std::marker::Brand;
 use std::sync::ledger::{Blank, Ledger};
 use std::test::Fail;
 use std::thread::Threads;
-use tb_base::{Codes, Memory, People, Record, Shape, Steps, VarSet};
+use tb_base::{Cell, Memory, People, Shape, Steps, VarSet};
 use tb_build::{Open, build};
 use tb_cube::Cube;
 use tb_grid::{MOST_CELLS, cells_over};
@@ -24,18 +25,8 @@ use tb_small_values::schema;
 fn people_of(alloc: Global, many: u16) -> Result<People, Memory> {
     let mut people = People::with_room(alloc, many as usize);
     for cell in 0..many {
-        let codes = Codes::of(alloc, &[cell / 6, cell / 2 % 3, cell % 2])?;
-        let person = cell as u32;
-        if people
-            .add(Record {
-                person,
-                key: 7,
-                codes,
-            })
-            .is_err()
-        {
-            return Err(Memory);
-        }
+        let codes = [cell / 6, cell / 2 % 3, cell % 2];
+        add(alloc, &mut people, cell as u32, 7, &codes)?;
     }
     Ok(people)
 }
@@ -51,13 +42,21 @@ fn all_variables(alloc: Global, shape: &Shape) -> Result<VarSet, Memory>
     Ok(vars)
 }
 
+// Whether this is the cell at a place.
+fn is_at(cells: &[Cell], place: usize, cell: Cell) -> bool {
+    match cells.get(place) {
+        Some(one) => *one == cell,
+        None => false,
+    }
+}
+
 // Whether a cube has the cells of a dense one.
 fn are_same(cube: &Cube, dense: &Cube) -> bool
     requires { dense.now.dense ≡ true }
 {
     let cells = dense.as_slice();
     for place in 0..cube.cells() {
-        if cells.get(place).copied() != Some(cube.cell(place)) {
+        if !is_at(cells, place, cube.cell(place)) {
             return false;
         }
     }

@@ -3,7 +3,7 @@
 ghost use Rattle.std.specs.Prelude.{◌≡◌, length, vec_len};
 ghost use Rattle.tb_script.specs.Scripts.{lanes_of};
 
-use super::making::{opening, read, run_past, setup};
+use super::making::{opening, read, run_past};
 use std::alloc::Global;
 use std::marker::Brand;
 use std::sync::Wait;
@@ -14,6 +14,7 @@ use tb_base::Memory;
 use tb_build::Gate;
 use tb_io::SureSink;
 use tb_script::{RunEnd, Script};
+use tb_small_values::setup;
 use tb_text::Setup;
 
 // A gate that sets its own flag, and waits for the other's.

@@ -1,4 +1,4 @@
-// The small setup, a board over it, and scripts that are run over that.
+// A board over the small setup, and scripts that are run over that.
 
 ghost use Rattle.std.specs.Prelude.{◌≡◌, IfOk, length, vec_len};
 ghost use Rattle.tb_model.specs.Schemas.{shape_of};
@@ -13,27 +13,10 @@ use tb_board::{Board, Named, Opening};
 use tb_build::Gate;
 use tb_io::Sink;
 use tb_lanes::{open_gates, run_lanes};
-use tb_ptable::PTable;
 use tb_schema::Schema;
 use tb_script::{MOST_SCRIPT_BYTES, RunEnd, Script};
-use tb_small::PTABLE;
-use tb_small_values::{release, schema};
+use tb_small_values::release;
 use tb_text::Setup;
-
-fn ptable_of(alloc: Global, file: &[u8]) -> Result<PTable, Memory> {
-    match PTable::read(alloc, file) {
-        Ok(ptable) => Ok(ptable),
-        Err(_) => Err(Memory),
-    }
-}
-
-pub fn setup(alloc: Global) -> Result<Setup, Memory> {
-    Ok(Setup {
-        schema: schema(alloc)?,
-        ptable: ptable_of(alloc, PTABLE)?,
-        threshold: 0,
-    })
-}
 
 fn opening_over(alloc: Global, schema: &Schema) -> Result<Opening, Memory>
     ensures { IfOk result (λ opening. opening.start.shape ≡ shape_of schema.now) }

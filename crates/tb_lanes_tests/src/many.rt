@@ -1,12 +1,12 @@
 // A phase of as many lanes as there may be.
 
-use super::making::setup;
 use super::scripts::writes;
 use std::alloc::Global;
 use std::sync::Wait;
 use std::test::Fail;
 use std::thread::Threads;
 use tb_base::Memory;
+use tb_small_values::setup;
 use tb_text::Setup;
 
 // Adds a lane's name between these bytes.

@@ -1,6 +1,6 @@
 // Worked scripts, and a sink that fails.
 
-use super::making::{run, setup};
+use super::making::run;
 use std::alloc::Global;
 use std::sync::Wait;
 use std::test::Fail;
@@ -8,6 +8,7 @@ use std::thread::Threads;
 use tb_base::Memory;
 use tb_io::{MemSink, SureSink};
 use tb_script::RunEnd;
+use tb_small_values::setup;
 use tb_text::Setup;
 
 // What a script shows, the script, and what is written.

@@ -1,6 +1,4 @@
 pub mod Each
-pub mod Visiting
-pub mod Working
 pub mod Binding
 pub mod Seats
 pub mod Confirming

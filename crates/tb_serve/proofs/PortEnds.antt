@@ -14,14 +14,15 @@ use Rattle.tb_release.specs.Batches.{BatchValue}
 use Rattle.tb_serve.specs.Ports.{PortValue}
 use Rattle.tb_serve.specs.Serves.{EndsAt, HasServed, IsPortServed, role_at}
 use Rattle.tb_serve.specs.Stages.{IsReady, GetsReady, HasCustodian, HasLines, IsBoundAt, IsCleared, IsConfirmed, IsCustodian, IsFresh, IsLeft, IsOfFront, IsSameButLines, IsSeated, IsUntouched, party_at}
-use Rattle.tb_serve.specs.Visits.{AreVisits, Visit}
-use Rattle.tb_serve.specs.Workers.{CanWork, HasGiven, HasWorked, HasWorkedAt, went_of}
+use Rattle.tb_serve.specs.Workers.{CanWork, HasWorkedAt}
 use Rattle.tb_session.specs.Parties.{IsBehind, IsPartyOf, role_of, seen_by}
 use Rattle.tb_session.specs.declared.party.Party.{Party}
 use Rattle.tb_session.specs.declared.party.Party.TheVariants as party
 use Rattle.tb_session.specs.declared.party.Role.{Role}
 use Rattle.tb_session.specs.declared.party.Role.TheVariants as role
 use Rattle.tb_session.proofs.Analysts.{party_front}
+use Rattle.tb_worker.specs.Visits.{AreVisits, Visit}
+use Rattle.tb_worker.specs.Work.{HasGiven, HasWorked, went_of}
 
 -- ---- a port that got ready
 pub can_bind : (o p : PortValue) → IsFresh o → HasLines o p → CanBind p.listener

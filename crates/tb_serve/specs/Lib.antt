@@ -1,4 +1,3 @@
-pub mod Visits
 pub mod Each
 pub mod Ports
 pub mod PortCodes

@@ -13,10 +13,10 @@ use Rattle.tb_serve.specs.Each.{Each}
 use Rattle.tb_serve.specs.Ports.{PortValue}
 use Rattle.tb_serve.specs.Reports.{memory_line, net_line, report, some_failed}
 use Rattle.tb_serve.specs.Stages.{HasRisenSome, IsUntouched}
-use Rattle.tb_serve.specs.Visits.{AreVisits, Visit}
-use Rattle.tb_serve.specs.Workers.{HasGiven, IsEnough}
 use Rattle.tb_session.specs.declared.party.Role.{Role}
 use Rattle.tb_session.specs.declared.party.Role.TheVariants as role
+use Rattle.tb_worker.specs.Visits.{AreVisits, Visit}
+use Rattle.tb_worker.specs.Work.{HasGiven, IsEnough}
 
 -- who is served at port i: the custodian at the first, and analysts at the others
 abbrev pub role_at : ℕ → Role

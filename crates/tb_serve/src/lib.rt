@@ -1,28 +1,24 @@
 //! The command `serve`: listeners with their ports, and a worker for each, over one board.
 //!
-//! It stands on `tb_session` (one session), `tb_board` (what all sessions are answered over),
-//! `tb_build` (a cube that isn't kept) and `tb_io` (listeners, readers of lines, sinks). Its
+//! It stands on `tb_worker` (the sessions of one listener), `tb_session` (parties), `tb_board`
+//! (what all sessions are answered over) and `tb_io` (listeners, readers of lines, sinks). Its
 //! contracts cite `specs/Ports` (a port as it is seen), `Each` (what becomes of each port),
-//! `Visits` (sessions one after another), `Workers` (what a worker did), `Stages` (what is done
-//! with all ports before and after that), `Reports` (what is written at the end) and `Serves` (what
-//! the whole call did).
+//! `Workers` (what is true of a port whose worker ended), `Stages` (what is done with all ports
+//! before and after that), `Reports` (what is written at the end) and `Serves` (what the whole call
+//! did).
 //!
-//! Of the proofs, `Each` serves every loop over the ports; `Visiting` leads from one session to a
-//! list of them, and `Working` to what a worker did; `Binding`, `Seats` and `Confirming` serve the
-//! stages; `PortEnds` follows one port from its party to its end and `Wholes` all of them; `Lines`
-//! and `Endings` have what is written.
+//! Of the proofs, `Each` serves every loop over the ports; `Binding`, `Seats` and `Confirming`
+//! serve the stages; `PortEnds` follows one port from its party to its end and `Wholes` all of
+//! them; `Lines` and `Endings` have what is written.
 #![tactic(auto)]
 
 mod closing;
-mod next;
 mod port;
 mod preparing;
 mod readiness;
 mod report;
 mod seating;
 mod serving;
-mod shift;
-mod worker;
 mod workers;
 
 pub use port::Port;

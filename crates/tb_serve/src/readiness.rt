@@ -1,5 +1,5 @@
 /// Whether ports are ready for their parties, memory was refused, or a bind failed.
-#[derive(Clone, Copy, Debug, PartialEq, Eq)]
+#[derive(Clone, Copy)]
 pub enum Readiness {
     Ready,
     NoMemory,

@@ -6,7 +6,6 @@ ghost use Rattle.tb_serve.specs.Ports.{PortValue};
 ghost use Rattle.tb_serve.specs.Workers.{CanWork, HasWorkedAt};
 
 use crate::port::Port;
-use crate::worker::serve_sessions;
 use std::alloc::Global;
 use std::marker::Brand;
 use std::sync::Wait;
@@ -17,6 +16,7 @@ use tb_base::Steps;
 use tb_board::{Board, Named};
 use tb_io::Listen;
 use tb_text::Setup;
+use tb_worker::serve_sessions;
 
 // Serves the sessions of a port, and counts its steps.
 fn work_counted<L: Ledger, B: Named, N: Listen, R: Threads + Wait + Sync>(

@@ -21,8 +21,6 @@ mod held;
 #[cfg(test)]
 mod loopback;
 #[cfg(test)]
-mod making;
-#[cfg(test)]
 mod many;
 #[cfg(test)]
 mod peers;

@@ -1,19 +1,28 @@
 // Whole calls of the server over the small setup.
 
-ghost use Rattle.std.specs.Prelude.{◌≡◌, ◌<◌, ◌+◌, All, vec_len};
+ghost use Rattle.std.specs.Prelude.{◌≡◌, ◌<◌, ◌+◌, All, IfOk, vec_len};
 ghost use Rattle.tb_base.specs.Records.{AllFit};
 ghost use Rattle.tb_model.specs.Schemas.{shape_of};
 ghost use Rattle.tb_serve.specs.Stages.{IsFresh};
 
 use super::compared::Compared;
-use super::making::{first, setup};
 use std::alloc::Global;
 use std::sync::Wait;
 use std::thread::Threads;
-use tb_base::Status;
+use tb_base::{Memory, Status};
 use tb_io::Listen;
+use tb_release::Release;
 use tb_serve::{Port, serve};
+use tb_small_values::{release, setup};
 use tb_text::Setup;
+
+// Release 0 of four persons.
+fn first(alloc: Global, setup: &Setup) -> Result<Release, Memory>
+    ensures number { IfOk result (λ r. r.number ≡ 0) }
+    ensures fit { IfOk result (λ r. AllFit (shape_of setup.now.schema) r.records) }
+{
+    release(alloc, &setup.schema)
+}
 
 // Serves a setup from its release 0 on, and returns whether that is done and writes just this text.
 fn serves_first<N: Listen + Send, R: Threads + Wait + Sync>(

@@ -2,7 +2,6 @@
 
 ghost use Rattle.std.specs.Prelude.{◌≡◌, ◌<◌, None, length};
 
-use super::making::setup;
 use super::talking::one_session;
 use std::alloc::Global;
 use std::sync::Wait;
@@ -11,6 +10,7 @@ use std::thread::Threads;
 use tb_base::Memory;
 use tb_io::{MemSink, Read, Source};
 use tb_session::SessionEnd;
+use tb_small_values::setup;
 use tb_text::Setup;
 
 const STREAM: &[u8] = b"#\r\ntable SEX\r\nquit";

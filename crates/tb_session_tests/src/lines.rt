@@ -1,6 +1,5 @@
 // The longest line, and the most lines.
 
-use super::making::setup;
 use super::talking::one_session;
 use std::alloc::Global;
 use std::sync::Wait;
@@ -9,6 +8,7 @@ use std::thread::Threads;
 use tb_base::Memory;
 use tb_io::{MemSink, SureSource};
 use tb_session::SessionEnd;
+use tb_small_values::setup;
 use tb_text::Setup;
 
 // A session over `begin`, then `times` times `piece`, then `end`; how many bytes the sink takes;

@@ -1,6 +1,5 @@
 // Sessions over sources and sinks in memory, by how they end and what was taken.
 
-use super::making::setup;
 use super::talking::{one_session, two_sessions};
 use std::alloc::Global;
 use std::sync::Wait;
@@ -9,6 +8,7 @@ use std::thread::Threads;
 use tb_base::Memory;
 use tb_io::{MemSink, MemSource};
 use tb_session::SessionEnd;
+use tb_small_values::setup;
 use tb_text::Setup;
 
 // A session: the bytes, the most bytes of a read, the reads that fail, and how many bytes the sink

@@ -8,11 +8,13 @@ ghost use Rattle.tb_release.specs.Laws.{EditFits};
 
 use std::alloc::Global;
 use tb_base::{Memory, People};
+use tb_ptable::PTable;
 use tb_records::read_people;
 use tb_release::{Edit, Edits, Release};
 use tb_revise::read_edit;
 use tb_schema::Schema;
-use tb_small::{CLASSES, PEOPLE, RECODES};
+use tb_small::{CLASSES, PEOPLE, PTABLE, RECODES};
+use tb_text::Setup;
 
 /// SEX, AGE and AREA, with the recode AGE2.
 pub fn schema(alloc: Global) -> Result<Schema, Memory> {
@@ -20,6 +22,22 @@ pub fn schema(alloc: Global) -> Result<Schema, Memory> {
         Ok(schema) => Ok(schema),
         Err(_) => Err(Memory),
     }
+}
+
+fn ptable(alloc: Global) -> Result<PTable, Memory> {
+    match PTable::read(alloc, PTABLE) {
+        Ok(ptable) => Ok(ptable),
+        Err(_) => Err(Memory),
+    }
+}
+
+/// The schema with the perturbation table, and the threshold 0.
+pub fn setup(alloc: Global) -> Result<Setup, Memory> {
+    Ok(Setup {
+        schema: schema(alloc)?,
+        ptable: ptable(alloc)?,
+        threshold: 0,
+    })
 }
 
 /// The four persons.

@@ -1,7 +1,7 @@
 use Rattle.std.proofs.Common.{◌∙◌, sym, ap, refl, subst}
 use Rattle.tb_io.specs.Listeners.{ListenerValue}
 use Rattle.tb_serve.specs.Ports.{PortValue}
-use Rattle.tb_serve.specs.Workers.{HasWorked}
+use Rattle.tb_worker.specs.Work.{HasWorked}
 use Rattle.tb_serve.proofs.workers.work_counted.Goals as goal
 
 pub returns : goal.returns

@@ -1,7 +1,7 @@
 use Rattle.std.proofs.Common.{◌≡◌, List, length}
-use Rattle.tb_serve.specs.Visits.{Visit}
-use Rattle.tb_serve.specs.Workers.{AreServed}
-use Rattle.tb_serve.proofs.worker.serve_sessions.Given as goal
+use Rattle.tb_worker.specs.Visits.{Visit}
+use Rattle.tb_worker.specs.Work.{AreServed}
+use Rattle.tb_worker.proofs.worker.serve_sessions.Given as goal
 
 -- the sessions so far were served
 abbrev pub invariant-loop-served : goal.invariant-loop-served

@@ -11,9 +11,9 @@ use Rattle.tb_model.specs.Setups.{SetupValue}
 use Rattle.tb_io.specs.Listeners.{CanAccept, Connection, Gives, IsSameBut, ListenerValue, given_back}
 use Rattle.tb_io.specs.Sources.{IsAtEnd}
 use Rattle.tb_release.specs.Batches.{BatchValue}
-use Rattle.tb_serve.specs.Visits.{AreVisits, IsVisit, Visit}
-use Rattle.tb_serve.specs.Workers.{AreServed, HasGiven, HasStepped, HasWorked, came_of, went_of}
-use Rattle.tb_serve.specs.declared.next.Next.TheVariants as next
+use Rattle.tb_worker.specs.Visits.{AreVisits, IsVisit, Visit}
+use Rattle.tb_worker.specs.Work.{AreServed, HasGiven, HasStepped, HasWorked, came_of, went_of}
+use Rattle.tb_worker.specs.declared.next.Next.TheVariants as next
 use Rattle.tb_session.specs.Parties.{GoesOn, IsPartyOf, role_of, seen_by}
 use Rattle.tb_session.specs.declared.party.Party.{Party}
 use Rattle.tb_session.specs.declared.party.Role.{Role}

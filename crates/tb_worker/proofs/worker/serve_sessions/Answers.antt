@@ -1,9 +1,9 @@
 use Rattle.std.proofs.Common.{◌∷◌, [], ◌++◌, List, refl, arith}
 use Rattle.std.proofs.lemmas.List.{length-append}
 use Rattle.tb_io.specs.Listeners.{IsSameBut, ListenerValue}
-use Rattle.tb_serve.specs.Visits.{Visit}
-use Rattle.tb_serve.proofs.Working.{can_again, none_served, served_more, worked_all, worked_badly, worked_out}
-use Rattle.tb_serve.proofs.worker.serve_sessions.Goals as goal
+use Rattle.tb_worker.specs.Visits.{Visit}
+use Rattle.tb_worker.proofs.Working.{can_again, none_served, served_more, worked_all, worked_badly, worked_out}
+use Rattle.tb_worker.proofs.worker.serve_sessions.Goals as goal
 
 -- nothing changed
 same_but : (l : ListenerValue) → IsSameBut l l

@@ -3,7 +3,7 @@ use Rattle.std.proofs.Common.{◌≡◌, refl, ℕ, List, [], Option, inl, inr}
 use Rattle.tb_io.specs.Faults.{HasRisen}
 use Rattle.tb_model.specs.Setups.{SetupValue}
 use Rattle.tb_io.specs.Listeners.{Connection}
-use Rattle.tb_serve.specs.Visits.{HasCause, IsVisit}
+use Rattle.tb_worker.specs.Visits.{HasCause, IsVisit}
 use Rattle.tb_session.specs.Outputs.{ReplyValue}
 use Rattle.tb_session.specs.Parties.{GoesOn, held_by, role_of, seen_by, state_of}
 use Rattle.tb_session.specs.PartySessions.{AreLegal, with_none_held}

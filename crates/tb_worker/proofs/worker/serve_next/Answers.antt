@@ -1,6 +1,6 @@
-use Rattle.tb_serve.proofs.Visiting.{goes_on, visit_of}
-use Rattle.tb_serve.proofs.Working.{none_came, none_served, one_served}
-use Rattle.tb_serve.proofs.worker.serve_next.Goals as goal
+use Rattle.tb_worker.proofs.Visiting.{goes_on, visit_of}
+use Rattle.tb_worker.proofs.Working.{none_came, none_served, one_served}
+use Rattle.tb_worker.proofs.worker.serve_next.Goals as goal
 
 pub returns-in-Session : goal.returns-in-Session
 returns-in-Session g c =

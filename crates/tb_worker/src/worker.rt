@@ -3,7 +3,7 @@
 ghost use Rattle.std.specs.Prelude.{◌≡◌};
 ghost use Rattle.tb_model.specs.Schemas.{shape_of};
 ghost use Rattle.tb_io.specs.Listeners.{CanAccept};
-ghost use Rattle.tb_serve.specs.Workers.{HasStepped, HasWorked};
+ghost use Rattle.tb_worker.specs.Work.{HasStepped, HasWorked};
 ghost use Rattle.tb_session.specs.Parties.{IsPartyOf};
 
 use crate::next::Next;
@@ -57,8 +57,13 @@ fn serve_next<B: Named, N: Listen, R: Threads + Wait + Sync, L: Ledger>(
     }
 }
 
-// Serves sessions until so many were served, none is to come, or an accept failed.
-pub(crate) fn serve_sessions<B: Named, N: Listen, R: Threads + Wait + Sync, L: Ledger>(
+/// Serves the sessions of a listener, one after another, until so many were served, none is to
+/// come, or an accept failed, and tells how many it served and whether an accept failed.
+///
+/// Each session is accepted, answered as one of this party over the board, and given back; one that
+/// ends by a fault ends no other. The party goes on from one session to the next, and a custodian
+/// holds no edits when one begins. It takes memory for the replies alone, and counts their steps.
+pub fn serve_sessions<B: Named, N: Listen, R: Threads + Wait + Sync, L: Ledger>(
     setup: &Setup,
     board: &Board<B>,
     rt: &R,
