@@ -12,6 +12,7 @@ use std::sync::Wait;
 use std::sync::atomic::{AtomicBool, Ordering};
 use std::test::Fail;
 use std::thread::{Threads, join};
+use tb_base::Memory;
 use tb_board::{Board, Named, Opening};
 use tb_build::{Gate, Open};
 use tb_io::MemSink;
@@ -212,10 +213,22 @@ fn beside<B: Named + Send + Sync, R: Threads + Wait + Sync>(
     are_answered(rt, alloc, setup, &board, own, one, two) && published == Some(true)
 }
 
+fn beside_over<R: Threads + Wait + Sync>(
+    rt: &R,
+    alloc: Global,
+    setup: &Setup,
+) -> Result<bool, Memory> {
+    let opening = opening(alloc, setup)?;
+    Ok(beside::<Brand, R>(rt, alloc, setup, opening))
+}
+
+fn beside_over_small<R: Threads + Wait + Sync>(rt: &R, alloc: Global) -> Result<bool, Memory> {
+    let setup = setup(alloc)?;
+    beside_over(rt, alloc, &setup)
+}
+
 #[test]
 fn cube_is_built_outside_the_lock(rt: HostRuntime) -> Result<(), Fail> {
-    let setup = setup(rt.alloc())?;
-    let opening = opening(rt.alloc(), &setup)?;
-    assert!(rt; beside::<Brand, _>(&rt, rt.alloc(), &setup, opening));
+    assert!(rt; beside_over_small(&rt, rt.alloc())?);
     Ok(())
 }

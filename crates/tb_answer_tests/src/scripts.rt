@@ -141,11 +141,30 @@ fn is_so<R: Threads + Wait + Sync>(
     answers(rt, alloc, setup, &script, row.replies)
 }
 
+// The place of the first row of which it isn't.
+fn wrong_row<R: Threads + Wait + Sync>(
+    rt: &R,
+    alloc: Global,
+    setup: &Setup,
+) -> Result<Option<usize>, Memory> {
+    for (i, row) in rows().iter().enumerate() {
+        if !is_so(rt, alloc, setup, row)? {
+            return Ok(Some(i));
+        }
+    }
+    Ok(None)
+}
+
+fn wrong_row_over_small<R: Threads + Wait + Sync>(
+    rt: &R,
+    alloc: Global,
+) -> Result<Option<usize>, Memory> {
+    let setup = setup(alloc)?;
+    wrong_row(rt, alloc, &setup)
+}
+
 #[test]
 fn worked_scripts(rt: HostRuntime) -> Result<(), Fail> {
-    let setup = setup(rt.alloc())?;
-    for row in rows() {
-        assert!(&rt; is_so(&rt, rt.alloc(), &setup, row)?, "{}", row.name);
-    }
+    assert_eq!(&rt; wrong_row_over_small(&rt, rt.alloc())?, None);
     Ok(())
 }

@@ -11,6 +11,7 @@ use std::marker::Brand;
 use std::sync::Wait;
 use std::test::Fail;
 use std::thread::Threads;
+use tb_base::Memory;
 use tb_board::{Board, Named, Opening};
 use tb_build::Open;
 use tb_io::MemSink;
@@ -60,10 +61,25 @@ fn is_published<B: Named, R: Threads + Wait + Sync>(
     drops && publishes && shows
 }
 
+fn is_published_over<R: Threads + Wait + Sync>(
+    rt: &R,
+    alloc: Global,
+    setup: &Setup,
+) -> Result<bool, Memory> {
+    let opening = opening(alloc, setup)?;
+    Ok(is_published::<Brand, R>(rt, alloc, setup, opening))
+}
+
+fn is_published_over_small<R: Threads + Wait + Sync>(
+    rt: &R,
+    alloc: Global,
+) -> Result<bool, Memory> {
+    let setup = setup(alloc)?;
+    is_published_over(rt, alloc, &setup)
+}
+
 #[test]
 fn published_where_the_reply_is_cut(rt: HostRuntime) -> Result<(), Fail> {
-    let setup = setup(rt.alloc())?;
-    let opening = opening(rt.alloc(), &setup)?;
-    assert!(&rt; is_published::<Brand, _>(&rt, rt.alloc(), &setup, opening));
+    assert!(&rt; is_published_over_small(&rt, rt.alloc())?);
     Ok(())
 }

@@ -11,6 +11,7 @@ use std::marker::Brand;
 use std::sync::Wait;
 use std::test::Fail;
 use std::thread::Threads;
+use tb_base::Memory;
 use tb_board::{Board, Named, Opening};
 use tb_build::Gate;
 use tb_io::MemSink;
@@ -67,10 +68,22 @@ fn asks_over<B: Named, R: Threads + Wait + Sync>(
     asks(rt, alloc, setup, &board, party) == Some(true)
 }
 
+fn is_asked_over<R: Threads + Wait + Sync>(
+    rt: &R,
+    alloc: Global,
+    setup: &Setup,
+) -> Result<bool, Memory> {
+    let opening = opening(alloc, setup)?;
+    Ok(asks_over::<Brand, R>(rt, alloc, setup, opening))
+}
+
+fn is_asked_over_small<R: Threads + Wait + Sync>(rt: &R, alloc: Global) -> Result<bool, Memory> {
+    let setup = setup(alloc)?;
+    is_asked_over(rt, alloc, &setup)
+}
+
 #[test]
 fn wider_cube_needs_no_gate(rt: HostRuntime) -> Result<(), Fail> {
-    let setup = setup(rt.alloc())?;
-    let opening = opening(rt.alloc(), &setup)?;
-    assert!(rt; asks_over::<Brand, _>(&rt, rt.alloc(), &setup, opening));
+    assert!(rt; is_asked_over_small(&rt, rt.alloc())?);
     Ok(())
 }

@@ -14,6 +14,7 @@ use std::thread::{Threads, join};
 use tb_base::Shape;
 use tb_board::{Board, Custodian, Named, Opening, Step};
 use tb_front::{Note, Pass};
+use tb_schema::Schema;
 use tb_small_values::schema;
 
 // Publishes release 1, without 104, takes it, and writes a note of that.
@@ -86,9 +87,17 @@ fn tell_by_note<B: Named + Send + Sync, R: Threads + Wait + Abort + Sync>(
     Ok(())
 }
 
+fn tell_over<R: Threads + Wait + Abort + Sync>(
+    rt: &R,
+    alloc: Global,
+    schema: &Schema,
+) -> Result<(), Fail> {
+    let opening = opening(alloc, schema)?;
+    tell_by_note::<Brand, R>(rt, alloc, opening, schema.shape())
+}
+
 #[test]
 fn a_note_goes_between_threads(rt: HostRuntime) -> Result<(), Fail> {
     let schema = schema(rt.alloc())?;
-    let opening = opening(rt.alloc(), &schema)?;
-    tell_by_note::<Brand, _>(&rt, rt.alloc(), opening, schema.shape())
+    tell_over(&rt, rt.alloc(), &schema)
 }

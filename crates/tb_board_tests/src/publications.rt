@@ -14,6 +14,7 @@ use std::thread::{Threads, join};
 use tb_base::Shape;
 use tb_board::{Board, Custodian, Named, Opening};
 use tb_release::EditFault;
+use tb_schema::Schema;
 use tb_small_values::schema;
 
 // All four leave, one after another, and the last release's number is returned.
@@ -63,9 +64,17 @@ fn ask_beside_publications<B: Named + Send + Sync, R: Threads + Wait + Abort + S
     Ok(())
 }
 
+fn ask_over<R: Threads + Wait + Abort + Sync>(
+    rt: &R,
+    alloc: Global,
+    schema: &Schema,
+) -> Result<(), Fail> {
+    let opening = opening(alloc, schema)?;
+    ask_beside_publications::<Brand, R>(rt, alloc, opening, schema.shape())
+}
+
 #[test]
 fn takes_and_offers_beside_publications(rt: HostRuntime) -> Result<(), Fail> {
     let schema = schema(rt.alloc())?;
-    let opening = opening(rt.alloc(), &schema)?;
-    ask_beside_publications::<Brand, _>(&rt, rt.alloc(), opening, schema.shape())
+    ask_over(&rt, rt.alloc(), &schema)
 }

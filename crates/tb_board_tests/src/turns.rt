@@ -17,6 +17,7 @@ use tb_core::{CubeFor, Offer, Stats, cube_for};
 use tb_cube::Cube;
 use tb_front::Pass;
 use tb_release::EditFault;
+use tb_schema::Schema;
 use tb_small_values::schema;
 
 // One person leaves with the next release, whose number is returned.
@@ -208,9 +209,13 @@ fn turn_by_turn<B: Named, R: Wait + Abort>(
     Ok(())
 }
 
+fn turns_over<R: Wait + Abort>(rt: &R, alloc: Global, schema: &Schema) -> Result<(), Fail> {
+    let opening = opening(alloc, schema)?;
+    turn_by_turn::<Brand, R>(rt, alloc, opening, schema.shape())
+}
+
 #[test]
 fn ample_memory_is_enough(rt: HostRuntime) -> Result<(), Fail> {
     let schema = schema(rt.alloc())?;
-    let opening = opening(rt.alloc(), &schema)?;
-    turn_by_turn::<Brand, _>(&rt, rt.alloc(), opening, schema.shape())
+    turns_over(&rt, rt.alloc(), &schema)
 }

@@ -6,6 +6,7 @@ ghost use Rattle.tb_model.specs.Schemas.{shape_of};
 
 use std::alloc::Global;
 use std::test::Fail;
+use tb_base::Memory;
 use tb_release::{EditFault, EditFaultKind, Release, next};
 use tb_rows::FaultKind;
 use tb_schema::Schema;
@@ -135,16 +136,30 @@ fn told(alloc: Global, schema: &Schema, case: &Case) -> Told {
     }
 }
 
+// Whether that is what the case says.
+fn is_right(alloc: Global, schema: &Schema, case: &Case) -> bool {
+    let (_, _, number, word, count) = case;
+    told(alloc, schema, case) == (*number, *word, *count)
+}
+
+// The place of the first case of which it isn't.
+fn wrong_case(alloc: Global, schema: &Schema) -> Option<usize> {
+    for (i, case) in cases().iter().enumerate() {
+        if !is_right(alloc, schema, case) {
+            return Some(i);
+        }
+    }
+    None
+}
+
+fn wrong_case_of_small(alloc: Global) -> Result<Option<usize>, Memory> {
+    let schema = schema(alloc)?;
+    Ok(wrong_case(alloc, &schema))
+}
+
 #[test]
 fn batches_of_lines(rt: HostRuntime) -> Result<(), Fail> {
-    let schema = schema(rt.alloc())?;
-    for (i, case) in cases().iter().enumerate() {
-        let (_, _, number, word, count) = case;
-        assert!(rt;
-            told(rt.alloc(), &schema, case) == (*number, *word, *count),
-            "{word} {count}, row {i}"
-        );
-    }
+    assert_eq!(rt; wrong_case_of_small(rt.alloc())?, None);
     Ok(())
 }
 

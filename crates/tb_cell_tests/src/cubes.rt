@@ -137,39 +137,71 @@ fn is_right_in_parts<L: Ledger, R: Threads + Sync>(
     Ok(true)
 }
 
+// Release 0 of as many persons.
+fn many(alloc: Global, schema: &Schema) -> Result<Release, Memory>
+    ensures { IfOk result (λ release. AllFit (shape_of schema.now) release.records) }
+{
+    first(alloc, schema, people_up_to(alloc, MANY)?)
+}
+
+// Whether that is so of the four persons, of them in parts, and of many.
+fn four_are_right<R: Threads + Sync>(
+    rt: &R,
+    alloc: Global,
+    schema: &Schema,
+) -> Result<bool, Memory> {
+    let release = release(alloc, schema)?;
+    is_right::<Brand, R>(Blank::new(1), rt, alloc, schema, &release, &worked())
+}
+
+fn parts_are_right<R: Threads + Sync>(
+    rt: &R,
+    alloc: Global,
+    schema: &Schema,
+) -> Result<bool, Memory> {
+    let release = release(alloc, schema)?;
+    is_right_in_parts::<Brand, R>(Blank::new(1), rt, alloc, schema, &release, &worked())
+}
+
+fn many_are_right<R: Threads + Sync>(
+    rt: &R,
+    alloc: Global,
+    schema: &Schema,
+) -> Result<bool, Memory> {
+    let release = many(alloc, schema)?;
+    is_right::<Brand, R>(Blank::new(1), rt, alloc, schema, &release, &many_worked())
+}
+
+// The same over the small schema.
+fn is_right_of_four<R: Threads + Sync>(rt: &R, alloc: Global) -> Result<bool, Memory> {
+    let schema = schema(alloc)?;
+    four_are_right(rt, alloc, &schema)
+}
+
+fn is_right_of_parts<R: Threads + Sync>(rt: &R, alloc: Global) -> Result<bool, Memory> {
+    let schema = schema(alloc)?;
+    parts_are_right(rt, alloc, &schema)
+}
+
+fn is_right_of_many<R: Threads + Sync>(rt: &R, alloc: Global) -> Result<bool, Memory> {
+    let schema = schema(alloc)?;
+    many_are_right(rt, alloc, &schema)
+}
+
 #[test]
 fn ample_memory_is_enough(rt: HostRuntime) -> Result<(), Fail> {
-    let schema = schema(rt.alloc())?;
-    let release = release(rt.alloc(), &schema)?;
-    let want = worked();
-    let right = is_right::<Brand, _>(Blank::new(1), &rt, rt.alloc(), &schema, &release, &want)?;
-    assert!(rt; right);
+    assert!(rt; is_right_of_four(&rt, rt.alloc())?);
     Ok(())
 }
 
 #[test]
 fn parts_are_enough(rt: HostRuntime) -> Result<(), Fail> {
-    let schema = schema(rt.alloc())?;
-    let release = release(rt.alloc(), &schema)?;
-    let want = worked();
-    let right = is_right_in_parts::<Brand, _>(
-        Blank::new(1),
-        &rt,
-        rt.alloc(),
-        &schema,
-        &release,
-        &want,
-    )?;
-    assert!(rt; right);
+    assert!(rt; is_right_of_parts(&rt, rt.alloc())?);
     Ok(())
 }
 
 #[test]
 fn many_persons_are_counted(rt: HostRuntime) -> Result<(), Fail> {
-    let schema = schema(rt.alloc())?;
-    let release = first(rt.alloc(), &schema, people_up_to(rt.alloc(), MANY)?)?;
-    let want = many_worked();
-    let right = is_right::<Brand, _>(Blank::new(1), &rt, rt.alloc(), &schema, &release, &want)?;
-    assert!(rt; right);
+    assert!(rt; is_right_of_many(&rt, rt.alloc())?);
     Ok(())
 }

@@ -5,6 +5,7 @@ use std::test::Fail;
 use tb_base::{Memory, VarSet};
 use tb_core::{Cells, Event, Offered, Offers, Outcome, Ran, Replies, Reply, run};
 use tb_release::{Edit, Edits};
+use tb_schema::Schema;
 use tb_small_values::{release, schema};
 
 // A caller takes the cube over AREA, over SEX or over both, or the custodian drops a person.
@@ -191,10 +192,14 @@ fn events_of(alloc: Global, deeds: &[(Deed, u32)]) -> Result<Vec<Event>, Memory>
     Ok(events)
 }
 
+fn ran_over(alloc: Global, schema: &Schema, events: &[Event]) -> Result<Ran, Memory> {
+    let base = release(alloc, schema)?;
+    run(alloc, schema.shape(), base, 4, 2, events)
+}
+
 fn ran_of(alloc: Global, events: &[Event]) -> Result<Ran, Memory> {
     let schema = schema(alloc)?;
-    let base = release(alloc, &schema)?;
-    run(alloc, schema.shape(), base, 4, 2, events)
+    ran_over(alloc, &schema, events)
 }
 
 fn is_right(alloc: Global) -> Result<bool, Memory> {

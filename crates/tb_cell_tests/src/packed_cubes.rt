@@ -63,13 +63,20 @@ fn are_same(cube: &Cube, dense: &Cube) -> bool
     cells.len() == cube.cells()
 }
 
+// The same, and of its dense copy.
+fn has_cells(cube: &Cube, dense: &Cube) -> Result<bool, Memory>
+    requires { dense.now.dense ≡ true }
+{
+    let copy = cube.copy()?;
+    Ok(are_same(cube, dense) && copy.as_slice() == dense.as_slice())
+}
+
 // Whether a cube that was packed keeps so many cells, in the form that is wanted, and its cells are
 // as before.
 fn keeps(cube: &mut Cube, is_dense: bool, kept: usize) -> Result<bool, Memory> {
     let before = cube.copy()?;
     cube.pack()?;
-    let after = cube.copy()?;
-    let same = are_same(cube, &before) && before.as_slice() == after.as_slice();
+    let same = has_cells(cube, &before)?;
     Ok(same && cube.is_dense() == is_dense && cube.kept() == kept)
 }
 
@@ -95,7 +102,26 @@ fn keeps_of<L: Ledger, R: Threads + Sync>(
     keeps(&mut cube, is_dense, kept)
 }
 
-// The same where so many cells have a person.
+// Release 0 where so many cells have a person.
+fn release_of(alloc: Global, schema: &Schema, many: u16) -> Result<Release, Memory>
+    ensures { IfOk result (λ release. AllFit (shape_of schema.now) release.records) }
+{
+    first(alloc, schema, people_of(alloc, many)?)
+}
+
+// The same of its cube.
+fn keeps_of_cells<R: Threads + Sync>(
+    rt: &R,
+    alloc: Global,
+    schema: &Schema,
+    many: u16,
+    is_dense: bool,
+    kept: usize,
+) -> Result<bool, Memory> {
+    let release = release_of(alloc, schema, many)?;
+    keeps_of::<Brand, R>(Blank::new(1), rt, alloc, schema, &release, is_dense, kept)
+}
+
 fn keeps_with<R: Threads + Sync>(
     rt: &R,
     alloc: Global,
@@ -104,8 +130,7 @@ fn keeps_with<R: Threads + Sync>(
     kept: usize,
 ) -> Result<bool, Memory> {
     let schema = schema(alloc)?;
-    let release = first(alloc, &schema, people_of(alloc, many)?)?;
-    keeps_of::<Brand, R>(Blank::new(1), rt, alloc, &schema, &release, is_dense, kept)
+    keeps_of_cells(rt, alloc, &schema, many, is_dense, kept)
 }
 
 #[test]

@@ -188,33 +188,66 @@ fn is_right(alloc: Global, schema: &Schema, case: &Case) -> bool {
     }
 }
 
+// The place of the first case whose pages aren't these.
+fn wrong_case(alloc: Global, schema: &Schema) -> Option<usize> {
+    for (i, case) in cases().iter().enumerate() {
+        if !is_right(alloc, schema, case) {
+            return Some(i);
+        }
+    }
+    None
+}
+
+fn wrong_case_of_small(alloc: Global) -> Result<Option<usize>, Memory> {
+    let schema = schema(alloc)?;
+    Ok(wrong_case(alloc, &schema))
+}
+
 #[test]
 fn pages_after_batches(rt: HostRuntime) -> Result<(), Fail> {
-    let schema = schema(rt.alloc())?;
-    for (i, case) in cases().iter().enumerate() {
-        assert!(rt; is_right(rt.alloc(), &schema, case), "row {i}");
-    }
+    assert_eq!(rt; wrong_case_of_small(rt.alloc())?, None);
     Ok(())
 }
 
-// Whether each of four releases, each made while those before it stand, has its own pages.
+// Whether each of four releases, each made while those before it stand, has its own pages: the
+// last, the last two, the last three, all.
+fn last_is_apart(alloc: Global, schema: &Schema, two: &Release) -> Result<bool, EditFault>
+    requires { AllFit (shape_of schema.now) two.now.records }
+{
+    let three = lead(alloc, schema, two, &[Deed::Drop(2, 3), Deed::Add(1, 1)])?;
+    Ok(are_pages(&three, &[(1_021, 3), (1_024, 0), (953, 3)]))
+}
+
+fn two_are_apart(alloc: Global, schema: &Schema, one: &Release) -> Result<bool, EditFault>
+    requires { AllFit (shape_of schema.now) one.now.records }
+{
+    let two = lead(alloc, schema, one, &[Deed::Amend(2_500, 2_500)])?;
+    let others = last_is_apart(alloc, schema, &two)?;
+    Ok(others && are_pages(&two, &[(1_023, 1), (1_024, 0), (952, 2)]))
+}
+
+fn three_are_apart(alloc: Global, schema: &Schema, zero: &Release) -> Result<bool, EditFault>
+    requires { AllFit (shape_of schema.now) zero.now.records }
+{
+    let one = lead(alloc, schema, zero, &[Deed::Drop(1, 1)])?;
+    let others = two_are_apart(alloc, schema, &one)?;
+    Ok(others && are_pages(&one, &[(1_023, 1), (1_024, 0), (952, 0)]))
+}
+
 fn are_apart(alloc: Global, schema: &Schema) -> Result<bool, EditFault> {
     let zero = first(alloc, schema, people_up_to(alloc, 3_000)?)?;
-    let one = lead(alloc, schema, &zero, &[Deed::Drop(1, 1)])?;
-    let two = lead(alloc, schema, &one, &[Deed::Amend(2_500, 2_500)])?;
-    let three = lead(alloc, schema, &two, &[Deed::Drop(2, 3), Deed::Add(1, 1)])?;
-    Ok(
-        are_pages(&zero, &[(1_024, 0), (1_024, 0), (952, 0)])
-            && are_pages(&one, &[(1_023, 1), (1_024, 0), (952, 0)])
-            && are_pages(&two, &[(1_023, 1), (1_024, 0), (952, 2)])
-            && are_pages(&three, &[(1_021, 3), (1_024, 0), (953, 3)]),
-    )
+    let others = three_are_apart(alloc, schema, &zero)?;
+    Ok(others && are_pages(&zero, &[(1_024, 0), (1_024, 0), (952, 0)]))
+}
+
+fn are_apart_over_small(alloc: Global) -> Result<bool, EditFault> {
+    let schema = schema(alloc)?;
+    are_apart(alloc, &schema)
 }
 
 #[test]
 fn older_releases_stay(rt: HostRuntime) -> Result<(), Fail> {
-    let schema = schema(rt.alloc())?;
-    let right = matches!(are_apart(rt.alloc(), &schema), Ok(true));
+    let right = matches!(are_apart_over_small(rt.alloc()), Ok(true));
     assert!(rt; right);
     Ok(())
 }

@@ -108,9 +108,13 @@ fn lanes_meet<R: Threads + Wait + Sync>(
     meet(rt, alloc, setup, &script)
 }
 
+fn lanes_meet_over_small<R: Threads + Wait + Sync>(rt: &R, alloc: Global) -> Result<bool, Memory> {
+    let setup = setup(alloc)?;
+    lanes_meet(rt, alloc, &setup)
+}
+
 #[test]
 fn lanes_run_at_the_same_time(rt: HostRuntime) -> Result<(), Fail> {
-    let setup = setup(rt.alloc())?;
-    assert!(&rt; lanes_meet(&rt, rt.alloc(), &setup)?);
+    assert!(&rt; lanes_meet_over_small(&rt, rt.alloc())?);
     Ok(())
 }

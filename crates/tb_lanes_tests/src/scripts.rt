@@ -89,10 +89,17 @@ fn first_wrong<R: Threads + Wait + Sync>(
     Ok("none")
 }
 
+fn first_wrong_over_small<R: Threads + Wait + Sync>(
+    rt: &R,
+    alloc: Global,
+) -> Result<&'static str, Memory> {
+    let setup = setup(alloc)?;
+    first_wrong(rt, alloc, &setup)
+}
+
 #[test]
 fn worked_scripts(rt: HostRuntime) -> Result<(), Fail> {
-    let setup = setup(rt.alloc())?;
-    assert_eq!(&rt; first_wrong(&rt, rt.alloc(), &setup)?, "none");
+    assert_eq!(&rt; first_wrong_over_small(&rt, rt.alloc())?, "none");
     Ok(())
 }
 
@@ -108,10 +115,14 @@ const AFTER: &[u8] =
 
 // Who asks beside a publication sees the release before it or after it; who asks in the next phase
 // sees the one after it.
+fn writes_over_small<R: Threads + Wait + Sync>(rt: &R, alloc: Global) -> Result<bool, Memory> {
+    let setup = setup(alloc)?;
+    writes(rt, alloc, &setup, BESIDE, BEFORE, AFTER)
+}
+
 #[test]
 fn ample_memory_is_enough(rt: HostRuntime) -> Result<(), Fail> {
-    let setup = setup(rt.alloc())?;
-    assert!(&rt; writes(&rt, rt.alloc(), &setup, BESIDE, BEFORE, AFTER)?);
+    assert!(&rt; writes_over_small(&rt, rt.alloc())?);
     Ok(())
 }
 
@@ -128,9 +139,13 @@ fn is_cut<R: Threads + Wait + Sync>(
     Ok(end == RunEnd::WriteFault && ten.taken() == want)
 }
 
+fn is_cut_over_small<R: Threads + Wait + Sync>(rt: &R, alloc: Global) -> Result<bool, Memory> {
+    let setup = setup(alloc)?;
+    is_cut(rt, alloc, &setup, b"a publish\n", b"phase 1\nla")
+}
+
 #[test]
 fn a_sink_fails(rt: HostRuntime) -> Result<(), Fail> {
-    let setup = setup(rt.alloc())?;
-    assert!(&rt; is_cut(&rt, rt.alloc(), &setup, b"a publish\n", b"phase 1\nla")?);
+    assert!(&rt; is_cut_over_small(&rt, rt.alloc())?);
     Ok(())
 }

@@ -3,7 +3,7 @@
 use crate::making::schema;
 use std::alloc::Global;
 use std::test::Fail;
-use tb_base::Codes;
+use tb_base::{Codes, Memory};
 use tb_release::{Edit, Sets};
 use tb_revise::{EditTextFault, read_edit};
 use tb_schema::Schema;
@@ -26,13 +26,32 @@ fn is_drop(edit: &Edit, who: u32) -> bool {
     }
 }
 
+// Whether a line is read so.
+fn reads_as_drop(alloc: Global, schema: &Schema, line: &str, who: u32) -> bool {
+    match read_edit(alloc, schema, line.as_bytes()) {
+        Ok(edit) => is_drop(&edit, who),
+        Err(_) => false,
+    }
+}
+
+// The place of the first line that isn't.
+fn wrong_drop(alloc: Global, schema: &Schema) -> Option<usize> {
+    for (i, (line, who)) in drops().iter().enumerate() {
+        if !reads_as_drop(alloc, schema, line, *who) {
+            return Some(i);
+        }
+    }
+    None
+}
+
+fn wrong_drop_of_small(alloc: Global) -> Result<Option<usize>, Memory> {
+    let schema = schema(alloc)?;
+    Ok(wrong_drop(alloc, &schema))
+}
+
 #[test]
 fn drops_are_read(rt: HostRuntime) -> Result<(), Fail> {
-    let schema = schema(rt.alloc())?;
-    for (line, who) in drops() {
-        let edit = read_edit(rt.alloc(), &schema, line.as_bytes())?;
-        assert!(rt; is_drop(&edit, *who), "{line}");
-    }
+    assert_eq!(rt; wrong_drop_of_small(rt.alloc())?, None);
     Ok(())
 }
 
@@ -80,13 +99,32 @@ fn is_add(edit: &Edit, row: &Added) -> bool {
     }
 }
 
+// Whether a row's line is read so.
+fn reads_as_add(alloc: Global, schema: &Schema, row: &Added) -> bool {
+    match read_edit(alloc, schema, row.0.as_bytes()) {
+        Ok(edit) => is_add(&edit, row),
+        Err(_) => false,
+    }
+}
+
+// The place of the first row whose line isn't.
+fn wrong_add(alloc: Global, schema: &Schema) -> Option<usize> {
+    for (i, row) in adds().iter().enumerate() {
+        if !reads_as_add(alloc, schema, row) {
+            return Some(i);
+        }
+    }
+    None
+}
+
+fn wrong_add_of_small(alloc: Global) -> Result<Option<usize>, Memory> {
+    let schema = schema(alloc)?;
+    Ok(wrong_add(alloc, &schema))
+}
+
 #[test]
 fn adds_are_read(rt: HostRuntime) -> Result<(), Fail> {
-    let schema = schema(rt.alloc())?;
-    for row in adds() {
-        let edit = read_edit(rt.alloc(), &schema, row.0.as_bytes())?;
-        assert!(rt; is_add(&edit, row), "{}", row.0);
-    }
+    assert_eq!(rt; wrong_add_of_small(rt.alloc())?, None);
     Ok(())
 }
 
@@ -110,13 +148,36 @@ fn is_amend(edit: &Edit, who: u32, settings: &[(u16, u16)]) -> bool {
     }
 }
 
+// Whether a line is read so.
+fn reads_as_amend(
+    alloc: Global,
+    schema: &Schema,
+    line: &[u8],
+    who: u32,
+    settings: &[(u16, u16)],
+) -> bool {
+    match read_edit(alloc, schema, line) {
+        Ok(edit) => is_amend(&edit, who, settings),
+        Err(_) => false,
+    }
+}
+
+// Whether settings stay in their order, with blanks round them and without.
+fn amends_are_right(alloc: Global, schema: &Schema) -> bool {
+    let blanks = b"amend  200\tAGE=65+\t SEX=2\t";
+    let three = b"amend 101 AREA=E2 SEX=2 AGE=16-64";
+    reads_as_amend(alloc, schema, blanks, 200, &[(1, 2), (0, 1)])
+        && reads_as_amend(alloc, schema, three, 101, &[(2, 1), (0, 1), (1, 1)])
+}
+
+fn amends_of_small_are_right(alloc: Global) -> Result<bool, Memory> {
+    let schema = schema(alloc)?;
+    Ok(amends_are_right(alloc, &schema))
+}
+
 #[test]
 fn amends_are_read(rt: HostRuntime) -> Result<(), Fail> {
-    let schema = schema(rt.alloc())?;
-    let blanks = read_edit(rt.alloc(), &schema, b"amend  200\tAGE=65+\t SEX=2\t")?;
-    assert!(rt; is_amend(&blanks, 200, &[(1, 2), (0, 1)]));
-    let three = read_edit(rt.alloc(), &schema, b"amend 101 AREA=E2 SEX=2 AGE=16-64")?;
-    assert!(rt; is_amend(&three, 101, &[(2, 1), (0, 1), (1, 1)]));
+    assert!(rt; amends_of_small_are_right(rt.alloc())?);
     Ok(())
 }
 
@@ -191,15 +252,24 @@ fn is_refused(alloc: Global, schema: &Schema, line: &[u8], number: u8, word: &st
     }
 }
 
+// The place of the first line that isn't refused so.
+fn wrong_refusal(alloc: Global, schema: &Schema) -> Option<usize> {
+    for (i, (line, number, word)) in refused().iter().enumerate() {
+        if !is_refused(alloc, schema, line, *number, word) {
+            return Some(i);
+        }
+    }
+    None
+}
+
+fn wrong_refusal_of_small(alloc: Global) -> Result<Option<usize>, Memory> {
+    let schema = schema(alloc)?;
+    Ok(wrong_refusal(alloc, &schema))
+}
+
 #[test]
 fn edit_refusals(rt: HostRuntime) -> Result<(), Fail> {
-    let schema = schema(rt.alloc())?;
-    for (i, (line, number, word)) in refused().iter().enumerate() {
-        assert!(rt;
-            is_refused(rt.alloc(), &schema, line, *number, word),
-            "{word}, row {i}"
-        );
-    }
+    assert_eq!(rt; wrong_refusal_of_small(rt.alloc())?, None);
     Ok(())
 }
 

@@ -49,16 +49,31 @@ fn past() -> &'static [(&'static str, &'static str, u32)] {
     &PAST
 }
 
+// Whether the query of most places is read.
+fn most_are_read(alloc: Global) -> Result<bool, Memory> {
+    let schema = sizes(alloc)?;
+    prints_as(alloc, &schema, MOST.as_bytes(), MOST.as_bytes())
+}
+
+// The place of the first line past a limit that isn't refused so.
+fn wrong_past(alloc: Global, schema: &Schema) -> Option<usize> {
+    for (i, (line, word, position)) in past().iter().enumerate() {
+        if !is_refused(alloc, schema, line.as_bytes(), word, *position) {
+            return Some(i);
+        }
+    }
+    None
+}
+
+fn wrong_past_of_sizes(alloc: Global) -> Result<Option<usize>, Memory> {
+    let schema = sizes(alloc)?;
+    Ok(wrong_past(alloc, &schema))
+}
+
 #[test]
 fn most_places(rt: HostRuntime) -> Result<(), Fail> {
-    let schema = sizes(rt.alloc())?;
-    assert!(rt; prints_as(rt.alloc(), &schema, MOST.as_bytes(), MOST.as_bytes())?);
-    for (line, word, position) in past() {
-        assert!(rt;
-            is_refused(rt.alloc(), &schema, line.as_bytes(), word, *position),
-            "{line}"
-        );
-    }
+    assert!(rt; most_are_read(rt.alloc())?);
+    assert_eq!(rt; wrong_past_of_sizes(rt.alloc())?, None);
     Ok(())
 }
 
@@ -96,10 +111,19 @@ fn filters_stand_between(alloc: Global, schema: &Schema) -> Result<bool, Memory>
     )
 }
 
+fn sizes_end_at_most_filters(alloc: Global) -> Result<bool, Memory> {
+    let schema = sizes(alloc)?;
+    ends_at_most_filters(alloc, &schema)
+}
+
+fn filters_of_sizes_stand_between(alloc: Global) -> Result<bool, Memory> {
+    let schema = sizes(alloc)?;
+    filters_stand_between(alloc, &schema)
+}
+
 #[test]
 fn most_filters(rt: HostRuntime) -> Result<(), Fail> {
-    let schema = sizes(rt.alloc())?;
-    assert!(rt; ends_at_most_filters(rt.alloc(), &schema)?);
-    assert!(rt; filters_stand_between(rt.alloc(), &schema)?);
+    assert!(rt; sizes_end_at_most_filters(rt.alloc())?);
+    assert!(rt; filters_of_sizes_stand_between(rt.alloc())?);
     Ok(())
 }

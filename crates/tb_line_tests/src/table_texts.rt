@@ -132,14 +132,17 @@ fn few_cells(alloc: Global, counts: &[(u32, u8)]) -> Result<Vec<Cell>, Memory>
     Ok(cells)
 }
 
+fn ptable(alloc: Global) -> Result<PTable, Memory> {
+    match PTable::read(alloc, PTABLE) {
+        Ok(ptable) => Ok(ptable),
+        Err(_) => Err(Memory),
+    }
+}
+
 fn setup_of(alloc: Global, row: &Row) -> Result<Setup, Memory> {
-    let schema = schema_of(alloc, row.classes, Some(RECODES))?;
-    let Ok(ptable) = PTable::read(alloc, PTABLE) else {
-        return Err(Memory);
-    };
     Ok(Setup {
-        schema,
-        ptable,
+        schema: schema_of(alloc, row.classes, Some(RECODES))?,
+        ptable: ptable(alloc)?,
         threshold: row.threshold,
     })
 }
@@ -208,10 +211,21 @@ fn is_cut_anywhere(alloc: Global, setup: &Setup, row: &Row, cells: &[Cell]) -> R
     Ok(true)
 }
 
+// Whether both are so over these cells.
+fn is_right(alloc: Global, setup: &Setup, row: &Row, cells: &[Cell]) -> Result<bool, Memory>
+    requires { All (λ cell. cell.count ≤ MOST_PERSONS) cells.now }
+{
+    Ok(prints(alloc, setup, row, cells)? && is_cut_anywhere(alloc, setup, row, cells)?)
+}
+
+fn is_so_over(alloc: Global, setup: &Setup, row: &Row) -> Result<bool, Memory> {
+    let cells = few_cells(alloc, row.cells)?;
+    is_right(alloc, setup, row, &cells)
+}
+
 fn is_so(alloc: Global, row: &Row) -> Result<bool, Memory> {
     let setup = setup_of(alloc, row)?;
-    let cells = few_cells(alloc, row.cells)?;
-    Ok(prints(alloc, &setup, row, &cells)? && is_cut_anywhere(alloc, &setup, row, &cells)?)
+    is_so_over(alloc, &setup, row)
 }
 
 #[test]
@@ -222,10 +236,14 @@ fn worked_tables(rt: HostRuntime) -> Result<(), Fail> {
     Ok(())
 }
 
+fn is_written_over(alloc: Global, setup: &Setup, row: &Row) -> Result<bool, Memory> {
+    let cells = few_cells(alloc, row.cells)?;
+    writes(alloc, setup, row, &cells)
+}
+
 fn is_written(alloc: Global, row: &Row) -> Result<bool, Memory> {
     let setup = setup_of(alloc, row)?;
-    let cells = few_cells(alloc, row.cells)?;
-    writes(alloc, &setup, row, &cells)
+    is_written_over(alloc, &setup, row)
 }
 
 #[test]
@@ -251,18 +269,23 @@ fn add_hundred(classes: &mut Vec<u8>, name: &[u8]) -> Result<(), Memory> {
     Ok(())
 }
 
-// The setup of two variables of a hundred categories each.
-fn large_setup(alloc: Global) -> Result<Setup, Memory> {
+// Two variables of a hundred categories each.
+fn large_classes(alloc: Global) -> Result<Vec<u8>, Memory> {
     let mut classes = Vec::from_slice(alloc, b"variable,code,label\n")?;
     add_hundred(&mut classes, b"A,")?;
     add_hundred(&mut classes, b"B,")?;
-    let schema = schema_of(alloc, &classes, None)?;
-    let Ok(ptable) = PTable::read(alloc, PTABLE) else {
-        return Err(Memory);
-    };
+    Ok(classes)
+}
+
+fn large_schema(alloc: Global) -> Result<Schema, Memory> {
+    let classes = large_classes(alloc)?;
+    schema_of(alloc, &classes, None)
+}
+
+fn large_setup(alloc: Global) -> Result<Setup, Memory> {
     Ok(Setup {
-        schema,
-        ptable,
+        schema: large_schema(alloc)?,
+        ptable: ptable(alloc)?,
         threshold: 0,
     })
 }
@@ -304,16 +327,27 @@ fn is_long(alloc: Global, setup: &Setup, query: &Query, cells: &[Cell]) -> Resul
     Ok(text.len() > 65_536 && is_in_pieces(alloc, setup, query, cells, &text)?)
 }
 
-// Whether that is so of the table of two variables of a hundred categories.
+// Whether that is so of cells of 10,000 places.
+fn is_long_of_many(alloc: Global, setup: &Setup, query: &Query) -> Result<bool, Memory>
+    requires names { All (IsName setup.now.schema) query.now.dimensions }
+{
+    let cells = many_cells(alloc)?;
+    is_long(alloc, setup, query, &cells)
+}
+
+// And so of the table of two variables of a hundred categories.
 fn is_long_of_two(alloc: Global, setup: &Setup) -> Result<bool, Memory> {
     let query = query_of(alloc, &setup.schema, b"table A by B")?;
-    let cells = many_cells(alloc)?;
-    is_long(alloc, setup, &query, &cells)
+    is_long_of_many(alloc, setup, &query)
+}
+
+fn is_long_of_large(alloc: Global) -> Result<bool, Memory> {
+    let setup = large_setup(alloc)?;
+    is_long_of_two(alloc, &setup)
 }
 
 #[test]
 fn long_table(rt: HostRuntime) -> Result<(), Fail> {
-    let setup = large_setup(rt.alloc())?;
-    assert!(&rt; is_long_of_two(rt.alloc(), &setup)?);
+    assert!(&rt; is_long_of_large(rt.alloc())?);
     Ok(())
 }

@@ -73,16 +73,32 @@ fn is_so<R: Threads + Wait + Sync>(
     Ok(end == SessionEnd::Ended && sink.taken() == TEXT)
 }
 
-#[test]
-fn every_cut_gives_the_same(rt: HostRuntime) -> Result<(), Fail> {
-    let setup = setup(rt.alloc())?;
+// The first two cuts of which it isn't.
+fn wrong_cuts<R: Threads + Wait + Sync>(
+    rt: &R,
+    alloc: Global,
+    setup: &Setup,
+) -> Result<Option<(usize, usize)>, Memory> {
     for first in 0..STREAM.len() {
         for second in first..STREAM.len() {
-            assert!(&rt;
-                is_so(&rt, rt.alloc(), &setup, first, second)?,
-                "{first}, {second}"
-            );
+            if !is_so(rt, alloc, setup, first, second)? {
+                return Ok(Some((first, second)));
+            }
         }
     }
+    Ok(None)
+}
+
+fn wrong_cuts_over_small<R: Threads + Wait + Sync>(
+    rt: &R,
+    alloc: Global,
+) -> Result<Option<(usize, usize)>, Memory> {
+    let setup = setup(alloc)?;
+    wrong_cuts(rt, alloc, &setup)
+}
+
+#[test]
+fn every_cut_gives_the_same(rt: HostRuntime) -> Result<(), Fail> {
+    assert_eq!(&rt; wrong_cuts_over_small(&rt, rt.alloc())?, None);
     Ok(())
 }

@@ -166,12 +166,31 @@ fn is_so<R: Threads + Wait + Sync>(
     ends_so(rt, alloc, setup, &mut source, row.bound, row.end, row.text)
 }
 
+// The place of the first row of which it isn't.
+fn wrong_talk<R: Threads + Wait + Sync>(
+    rt: &R,
+    alloc: Global,
+    setup: &Setup,
+) -> Result<Option<usize>, Memory> {
+    for (i, row) in talks().iter().enumerate() {
+        if !is_so(rt, alloc, setup, row)? {
+            return Ok(Some(i));
+        }
+    }
+    Ok(None)
+}
+
+fn wrong_talk_over_small<R: Threads + Wait + Sync>(
+    rt: &R,
+    alloc: Global,
+) -> Result<Option<usize>, Memory> {
+    let setup = setup(alloc)?;
+    wrong_talk(rt, alloc, &setup)
+}
+
 #[test]
 fn bytes_one_at_a_time(rt: HostRuntime) -> Result<(), Fail> {
-    let setup = setup(rt.alloc())?;
-    for row in talks() {
-        assert!(&rt; is_so(&rt, rt.alloc(), &setup, row)?, "{}", row.name);
-    }
+    assert_eq!(&rt; wrong_talk_over_small(&rt, rt.alloc())?, None);
     Ok(())
 }
 
@@ -202,9 +221,16 @@ fn batch_stands<R: Threads + Wait + Sync>(
     Ok(end == SessionEnd::Ended && sink.taken() == text.as_slice())
 }
 
+fn batch_stands_over_small<R: Threads + Wait + Sync>(
+    rt: &R,
+    alloc: Global,
+) -> Result<bool, Memory> {
+    let setup = setup(alloc)?;
+    batch_stands(rt, alloc, &setup)
+}
+
 #[test]
 fn a_batch_stands_whose_reply_is_cut(rt: HostRuntime) -> Result<(), Fail> {
-    let setup = setup(rt.alloc())?;
-    assert!(rt; batch_stands(&rt, rt.alloc(), &setup)?);
+    assert!(rt; batch_stands_over_small(&rt, rt.alloc())?);
     Ok(())
 }

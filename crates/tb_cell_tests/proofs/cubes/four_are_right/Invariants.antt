@@ -1,4 +1,4 @@
-use Rattle.tb_cell_tests.proofs.cubes.many_persons_are_counted.Given as goal
+use Rattle.tb_cell_tests.proofs.cubes.four_are_right.Given as goal
 
 -- the ledger of the blank
 abbrev pub ghosts-is_right : goal.ghosts-is_right

@@ -1,4 +1,4 @@
-use Rattle.tb_answer_tests.proofs.gates.cube_is_built_outside_the_lock.Given as goal
+use Rattle.tb_answer_tests.proofs.gates.beside_over.Given as goal
 
 -- the front of the opening
 abbrev pub ghosts-beside : goal.ghosts-beside

@@ -1,4 +1,4 @@
-use Rattle.tb_board_tests.proofs.turns.ample_memory_is_enough.Given as goal
+use Rattle.tb_board_tests.proofs.turns.turns_over.Given as goal
 
 -- the front of the opening
 abbrev pub ghosts-turn_by_turn : goal.ghosts-turn_by_turn

@@ -1,4 +1,4 @@
-use Rattle.tb_answer_tests.proofs.sinks.published_where_the_reply_is_cut.Given as goal
+use Rattle.tb_answer_tests.proofs.sinks.is_published_over.Given as goal
 
 -- the front of the opening
 abbrev pub ghosts-is_published : goal.ghosts-is_published

@@ -1,4 +1,4 @@
-use Rattle.tb_cell_tests.proofs.cubes.parts_are_enough.Given as goal
+use Rattle.tb_cell_tests.proofs.cubes.parts_are_right.Given as goal
 
 -- the ledger of the blank
 abbrev pub ghosts-is_right_in_parts : goal.ghosts-is_right_in_parts

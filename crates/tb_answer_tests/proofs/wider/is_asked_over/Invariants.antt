@@ -1,4 +1,4 @@
-use Rattle.tb_answer_tests.proofs.wider.wider_cube_needs_no_gate.Given as goal
+use Rattle.tb_answer_tests.proofs.wider.is_asked_over.Given as goal
 
 -- the front of the opening
 abbrev pub ghosts-asks_over : goal.ghosts-asks_over
