@@ -8,7 +8,7 @@ use tb_rows::FaultKind;
 use tb_schema::{ClassFile, SchemaKind};
 use tb_top::Input;
 
-static SCHEMA_KINDS: [SchemaKind; 12] = [
+static SCHEMA_KINDS: [SchemaKind; 13] = [
     SchemaKind::BadHeader,
     SchemaKind::BadName,
     SchemaKind::BadCode,
@@ -21,6 +21,7 @@ static SCHEMA_KINDS: [SchemaKind; 12] = [
     SchemaKind::BadCsv,
     SchemaKind::BadLabel,
     SchemaKind::TooMany,
+    SchemaKind::BadKeys,
 ];
 
 static PTABLE_KINDS: [PTableKind; 7] = [

@@ -6,7 +6,7 @@ use Rattle.std.proofs.Math.Nat.{mod-add-mod, add-mod-mod}
 use Rattle.std.proofs.lemmas.Bool.{eq-eqb, ne_eqb}
 use Rattle.std.proofs.lemmas.List.{take_more}
 use Rattle.std.proofs.lemmas.List.Sums.{sum_by-cons, sum_by_push}
-use Rattle.tb_base.specs.declared.cells.TheConstants.{KEY_RANGE}
+use Rattle.tb_base.specs.declared.keys.TheConstants.{MOST_KEYS}
 use Rattle.tb_base.specs.declared.cells.Cell.{Cell}
 use Rattle.tb_base.specs.Cells.{with_key}
 use Rattle.tb_base.specs.declared.people.TheConstants.{MOST_PERSONS}
@@ -91,13 +91,13 @@ keys-at place (suc n) (x ∷ xs) [] e f = absurd (omega (arith, f))
 keys-at place (suc n) (x ∷ xs) (k ∷ ks) e f =
     keys-step place x k xs ks (sel_l (zip2 eqb xs (replicate n place)) ks (replicate n 0)) (keys-at place n xs ks (omega (arith, e)) (omega (arith, f))) (eqb x place) refl
 
--- where two vectors agree, as lanes of 8 bits made of wider ones; m is a wider lane with all bits set
-one-narrowed : (f : ℕ → ℕ) (g : ℕ → ℕ → ℕ) (m : ℕ) → top 7 (f (g m 0)) ≡ true → top 7 (f (g 0 0)) ≡ false → (b : Bool) → top 7 (f (g (cond b m 0) 0)) ≡ b
+-- where two vectors agree, as lanes of 16 bits made of wider ones; m is a wider lane with all bits set
+one-narrowed : (f : ℕ → ℕ) (g : ℕ → ℕ → ℕ) (m : ℕ) → top 15 (f (g m 0)) ≡ true → top 15 (f (g 0 0)) ≡ false → (b : Bool) → top 15 (f (g (cond b m 0) 0)) ≡ b
 one-narrowed f g m all clear true = all
 one-narrowed f g m all clear false = clear
 
-pub narrowed : (f : ℕ → ℕ) (g : ℕ → ℕ → ℕ) (m : ℕ) → top 7 (f (g m 0)) ≡ true → top 7 (f (g 0 0)) ≡ false → (t : ℕ → ℕ → Bool) (n : ℕ) (xs ys : List ℕ) → length xs ≡ n → length ys ≡ n
-    → map (top 7) (map f (zip2 g (zip2 (λ a b. cond (t a b) m 0) xs ys) (replicate n 0))) ≡ zip2 t xs ys
+pub narrowed : (f : ℕ → ℕ) (g : ℕ → ℕ → ℕ) (m : ℕ) → top 15 (f (g m 0)) ≡ true → top 15 (f (g 0 0)) ≡ false → (t : ℕ → ℕ → Bool) (n : ℕ) (xs ys : List ℕ) → length xs ≡ n → length ys ≡ n
+    → map (top 15) (map f (zip2 g (zip2 (λ a b. cond (t a b) m 0) xs ys) (replicate n 0))) ≡ zip2 t xs ys
 narrowed f g m all clear t zero [] ys e h = refl
 narrowed f g m all clear t (suc n) [] ys e h = absurd (omega (arith, e))
 narrowed f g m all clear t zero (x ∷ xs) ys e h = absurd (omega (arith, e))
@@ -147,9 +147,13 @@ all-lanes m f is xs none =
     let e : 0 + sum xs ≡ sum xs = omega arith in
     ap (λ a. fold_l f a xs) (sym none) ∙ folded-lanes m f is xs 0 ∙ ap (λ s. s % m) e
 
+-- what lanes of 16 bits keep of a sum of keys is enough: the largest key range divides 2 ^ 16
+pub within-lanes : (s : ℕ) → (s % 2 ^ 16) % MOST_KEYS ≡ s % MOST_KEYS
+within-lanes s = omega arith
+
 -- the cell of some keys
 abbrev cell_of_keys : List ℕ → Cell
-cell_of_keys keys = record { count = length keys; key = sum keys % KEY_RANGE }
+cell_of_keys keys = record { count = length keys; key = sum keys % MOST_KEYS }
 
 -- one more position
 push-step : (place x k : ℕ) (before : List ℕ) (b : Bool) → eqb x place ≡ b
@@ -159,8 +163,8 @@ push-step place x k before true h =
     let keys : sum (before ++ k ∷ []) ≡ sum before + k = sum_by_push (λ (y : ℕ). y) before k in
     let made : ℕ → ℕ → Cell = λ n s. record { count = n; key = s } in
     ap (λ l. cell_of_keys (before ++ l)) (keys-cons place x k [] [] true h)
-    ∙ ap₂ (λ n s. made n (s % KEY_RANGE)) counts keys
-    ∙ ap (made (length before + 1)) (sym (mod-add-mod (sum before) KEY_RANGE k))
+    ∙ ap₂ (λ n s. made n (s % MOST_KEYS)) counts keys
+    ∙ ap (made (length before + 1)) (sym (mod-add-mod (sum before) MOST_KEYS k))
 push-step place x k before false h = ap (λ l. cell_of_keys (before ++ l)) (keys-cons place x k [] [] false h) ∙ ap cell_of_keys (append-nil before)
 
 pub tally-more : (place : ℕ) (xs ks : List ℕ) (i : ℕ) (b : Bool) → length ks ≡ length xs → i < length xs → eqb (get_or xs i 0) place ≡ b

@@ -5,6 +5,7 @@ use Rattle.std.proofs.Math.Nat.{mod-eq_of_lt, mod-add-mod}
 use Rattle.std.proofs.lemmas.Bool.{ne_eqb}
 use Rattle.std.proofs.lemmas.Bool.Decides.{eqb_tells}
 use Rattle.std.proofs.lemmas.List.{get_or-set_same, get_or-set_other}
+use Rattle.std.proofs.lemmas.Nat.{mod_below}
 use Rattle.tb_base.specs.declared.cells.Cell.{Cell}
 use Rattle.tb_base.specs.Cells.{empty_cell, merged}
 use Rattle.tb_base.specs.Parts.{modulus, part, part_at, Part}
@@ -19,6 +20,11 @@ same-cell x y same =
 pub empty-part : (p : Part) → part p empty_cell ≡ 0
 empty-part counts = refl
 empty-part keys = refl
+
+-- a part that was reduced is below its modulus
+pub reduced-below : (p : Part) (n : ℕ) → n % modulus p < modulus p
+reduced-below counts n = mod_below n (modulus counts) (omega arith)
+reduced-below keys n = mod_below n (modulus keys) (omega arith)
 
 -- where the counts are small, a merge has the sums of the parts
 pub part-merged : (p : Part) (x y : Cell) → x.count + y.count < 2 ^ 32 → part p (merged x y) ≡ (part p x + part p y) % modulus p

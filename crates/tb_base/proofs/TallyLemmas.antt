@@ -1,14 +1,18 @@
 -- Cells to which tallies are added, part by part, and records that are put in by tallies of chunks.
-use Rattle.std.proofs.Common.{◌≡◌, ℕ, ◌+◌, ◌%◌, ◌<◌, ◌≤◌, Bool, true, false, cond, List, [], ◌∷◌, ◌++◌, length, map, set, refl, ap, sym, subst, ◌∙◌, inl, inr, arith}
+use Rattle.std.proofs.Common.{◌≡◌, ℕ, ◌+◌, ◌%◌, ◌<◌, ◌≤◌, Bool, true, false, cond, List, [], ◌∷◌, ◌++◌, length, map, get_or, set, refl, ap, sym, subst, ◌∙◌, inl, inr, arith}
 use Rattle.std.specs.Prelude.{All, ◌==◌, nat_lt}
 use Rattle.std.specs.List.{sum, sum_by, AllByRecursion}
 use Rattle.std.proofs.Math.Nat.{mod-mod, add-mod-mod}
+use Rattle.std.proofs.lemmas.Nat.{mod_below}
+use Rattle.std.proofs.lemmas.List.{get_or-set_same, get_or-set_other}
 use Rattle.std.proofs.lemmas.Bool.{lt-ltb, le-ltb, cases_lt}
 use Rattle.std.proofs.lemmas.Bool.Decides.{eqb_tells}
 use Rattle.std.proofs.lemmas.List.Elements.{All-from_recursion, recursion_from_All}
 use Rattle.std.proofs.lemmas.List.Sums.{sum_by-cons, sum_by-append}
 use Rattle.tb_base.specs.declared.cells.Cell.{Cell}
+use Rattle.tb_base.specs.declared.keys.TheConstants.{MOST_KEYS}
 use Rattle.tb_base.specs.declared.records.Record.{Record}
+use Rattle.tb_base.specs.Cells.{IsReduced}
 use Rattle.tb_base.specs.Parts.{modulus, part, part_at, weight, Part}
 use Rattle.tb_base.specs.Parts.Part.{counts, keys}
 use Rattle.tb_base.specs.Tallies.{tallied_at, keys_at, tally_of, AreTallied}
@@ -70,6 +74,15 @@ one-tallied place old cells places ks more new long there made parts before p i 
 pub all-tallied : (old new : List Cell) (places ks : List ℕ) (place : ℕ) → length old ≤ place → TalliedBelow place old places ks new → AreTallied old places ks new
 all-tallied old new places ks place done before p i below =
     before p i below ∙ ap (λ b. (part_at p old i + cond b (tallied_at p i places ks) 0) % modulus p) (lt-ltb i place (omega (arith, below, done)))
+
+-- the cells below a number have key sums below the largest key range, and so has that one
+pub one-reduced : (place : ℕ) (cells : List Cell) (new : Cell) (sum : ℕ) → place < length cells → new.key ≡ sum % MOST_KEYS
+    → ((i : ℕ) (d : Cell) → i < place → IsReduced (get_or cells i d)) → (i : ℕ) (d : Cell) → i < place + 1 → IsReduced (get_or (set cells place new) i d)
+one-reduced place cells new sum there is before i d below =
+    elim (eqb_tells i place) [
+      | inl h ↦ rw (h.1, get_or-set_same cells place new d there, is) (mod_below sum MOST_KEYS (omega arith))
+      | inr h ↦ rw (get_or-set_other cells place i new d h.1) (before i d (omega (arith, below, h.1)))
+    ]
 
 -- what records add at a place
 abbrev pub at_place : (Record → ℕ) → Part → List Record → ℕ → ℕ

@@ -1,6 +1,7 @@
 pub mod Bytes
 pub mod Cells
 pub mod Codes
+pub mod Keys
 pub mod Lists
 pub mod Numbers
 pub mod OneAnswer

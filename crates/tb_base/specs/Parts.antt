@@ -1,7 +1,7 @@
 -- The two numbers of a cell, each summed modulo its own number.
 use Rattle.std.specs.Prelude.{◌^◌, ℕ, List, slice_index_or}
 use Rattle.tb_base.specs.declared.cells.Cell.{Cell}
-use Rattle.tb_base.specs.declared.cells.TheConstants.{KEY_RANGE}
+use Rattle.tb_base.specs.declared.keys.TheConstants.{MOST_KEYS}
 use Rattle.tb_base.specs.Cells.{empty_cell}
 
 -- the two numbers of a cell: its count and its key sum
@@ -16,7 +16,7 @@ part keys cell = cell.key
 -- the number modulo which each is summed
 abbrev pub modulus : Part → ℕ
 modulus counts = 2 ^ 32
-modulus keys = KEY_RANGE
+modulus keys = MOST_KEYS
 
 -- what a record adds to each, by its key
 abbrev pub weight : Part → ℕ → ℕ

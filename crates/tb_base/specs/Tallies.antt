@@ -2,18 +2,19 @@
 use Rattle.std.specs.Prelude.{◌≡◌, ◌+◌, ◌%◌, ◌==◌, ◌<◌, ℕ, List, length, map, zip}
 use Rattle.std.specs.List.{filter, sum, sum_by}
 use Rattle.tb_base.specs.declared.cells.Cell.{Cell}
-use Rattle.tb_base.specs.declared.cells.TheConstants.{KEY_RANGE}
+use Rattle.tb_base.specs.declared.keys.TheConstants.{MOST_KEYS}
 use Rattle.tb_base.specs.Parts.{modulus, part_at, weight, Part}
 
 -- the keys of the positions whose place is this one
 abbrev pub keys_at : ℕ → List ℕ → List ℕ → List ℕ
 keys_at place places keys = map (λ p. p.1) (filter (λ p. p.0 == place) (zip places keys))
 
--- the cell of these positions: how many they are, and the sum of their keys modulo the key range
+-- the cell of these positions: how many they are, and the sum of their keys modulo the
+-- largest key range
 abbrev pub tally_of : ℕ → List ℕ → List ℕ → Cell
 tally_of place places keys = record {
   count = length (keys_at place places keys);
-  key = sum (keys_at place places keys) % KEY_RANGE;
+  key = sum (keys_at place places keys) % MOST_KEYS;
 }
 
 -- what the positions of a place add to a part of its cell

@@ -24,7 +24,7 @@ fn category_of(one: &Record, v: usize) -> u16
 }
 
 /// The keys of records, with room for so many.
-pub fn keys_of(alloc: Global, records: &[Record], room: usize) -> Result<Vec<u8>, Memory>
+pub fn keys_of(alloc: Global, records: &[Record], room: usize) -> Result<Vec<u16>, Memory>
     ensures { IfOk result (λ keys. keys.items ≡ key_column records.now) }
 {
     let mut keys = Vec::with_capacity(alloc, room)?;
@@ -77,21 +77,12 @@ pub fn columns_of(
     Ok(columns)
 }
 
-// An equal list of codes, with room for so many.
-fn copy_of(alloc: Global, codes: &[u16], room: usize) -> Result<Vec<u16>, Memory>
-    ensures { IfOk result (λ copy. copy.items ≡ codes.now) }
+/// An equal column, with room for so many.
+pub fn copy_of(alloc: Global, column: &[u16], room: usize) -> Result<Vec<u16>, Memory>
+    ensures { IfOk result (λ copy. copy.items ≡ column.now) }
 {
     let mut copy = Vec::with_capacity(alloc, room)?;
-    copy.extend_from_slice(codes)?;
-    Ok(copy)
-}
-
-/// An equal list of keys, with room for so many.
-pub fn copy_keys(alloc: Global, keys: &[u8], room: usize) -> Result<Vec<u8>, Memory>
-    ensures { IfOk result (λ copy. copy.items ≡ keys.now) }
-{
-    let mut copy = Vec::with_capacity(alloc, room)?;
-    copy.extend_from_slice(keys)?;
+    copy.extend_from_slice(column)?;
     Ok(copy)
 }
 

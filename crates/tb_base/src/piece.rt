@@ -5,7 +5,7 @@ ghost use Rattle.std.specs.Vec.{vec_capacity, vec_len};
 ghost use Rattle.tb_base.specs.Pieces.{code_column, key_column, AreChanged};
 
 use crate::columns::{
-    columns_of, copy_columns, copy_keys, keys_of, push_all, remove_all, replace_all, reserve_all,
+    columns_of, copy_columns, copy_of, keys_of, push_all, remove_all, replace_all, reserve_all,
 };
 use crate::memory::Memory;
 use crate::records::Record;
@@ -19,7 +19,7 @@ use std::mem;
 #[derive(Drop)]
 pub struct Piece {
     records: Vec<Record>,
-    keys: Vec<u8>,
+    keys: Vec<u16>,
     columns: Vec<Vec<u16>>,
 }
 
@@ -61,7 +61,7 @@ fn copies_of(alloc: Global, records: &[Record], room: usize) -> Result<Vec<Recor
 // Takes the memory for one more record in each list.
 fn reserve_one(
     records: &mut Vec<Record>,
-    keys: &mut Vec<u8>,
+    keys: &mut Vec<u16>,
     columns: &mut [Vec<u16>],
 ) -> Result<(), Memory>
     ensures records { records.new.items ≡ records.old.items }
@@ -105,7 +105,7 @@ impl Piece {
         ensures { IfOk result (λ piece. piece ≡ self.now) }
     {
         let records = copies_of(alloc, &self.records, room)?;
-        let keys = copy_keys(alloc, &self.keys, room)?;
+        let keys = copy_of(alloc, &self.keys, room)?;
         let columns = copy_columns(alloc, &self.columns, room)?;
         Ok(Piece {
             records,
@@ -130,7 +130,7 @@ impl Piece {
 
     /// The keys of the records, in order.
     #[inline]
-    pub fn keys(&self) -> &[u8]
+    pub fn keys(&self) -> &[u16]
         ensures { result.now ≡ key_column self.now }
     {
         self.keys.as_slice()

@@ -5,12 +5,13 @@ use crate::memory::Memory;
 
 /// One person's record.
 ///
-/// `person` is the person's number, `key` the permanent random record key (0 to 255), and `codes`
-/// has the number of the person's category for each variable, in the order of the classification.
+/// `person` is the person's number, `key` the permanent random record key (below `MOST_KEYS`), and
+/// `codes` has the number of the person's category for each variable, in the order of the
+/// classification.
 #[derive(Debug, Drop)]
 pub struct Record {
     pub person: u32,
-    pub key: u8,
+    pub key: u16,
     pub codes: Codes,
 }
 

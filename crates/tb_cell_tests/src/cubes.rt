@@ -1,18 +1,22 @@
-// The cube of a release over one variable, past a gate and in parts, with ample memory.
+// The cube of a release over one variable, past a gate, in parts, and from the cube over all
+// variables, with ample memory.
 
 ghost use Rattle.std.specs.Prelude.{◌≡◌, ◌<◌, IfOk};
 ghost use Rattle.tb_base.specs.Records.{AllFit};
 ghost use Rattle.tb_core.specs.Desks.{HasCube};
+ghost use Rattle.tb_cube.specs.Cubes.{Holds};
 ghost use Rattle.tb_model.specs.Schemas.{shape_of};
 
 use super::making::add;
+use super::packed_cubes::all_variables;
 use std::alloc::Global;
 use std::marker::Brand;
 use std::sync::ledger::{Blank, Ledger};
 use std::test::Fail;
 use std::thread::Threads;
 use tb_base::{Cell, MOST_PERSONS, Memory, People, Shape, Steps, VarSet};
-use tb_build::{Gate, build, build_in_parts};
+use tb_build::{Gate, Open, build, build_in_parts};
+use tb_cube::{Cube, narrow};
 use tb_grid::{MOST_CELLS, cells_over};
 use tb_release::{Release, records_fit};
 use tb_schema::Schema;
@@ -41,16 +45,16 @@ fn sex(alloc: Global, shape: &Shape) -> Result<VarSet, Memory>
     Ok(vars)
 }
 
-// The cells of SEX: 200 + 100 + 20 = 320, and 320 - 256 = 64.
+// The cells of SEX: 200 + 100 + 20 = 320.
 fn worked() -> [Cell; 2] {
-    [Cell { count: 3, key: 64 }, Cell { count: 1, key: 7 }]
+    [Cell { count: 3, key: 320 }, Cell { count: 1, key: 7 }]
 }
 
 // As many persons as are counted in parts where there are several processors.
 const MANY: u32 = 250_000;
 
 // By turns they are of the second category of SEX with key 1, and of the first with key 0; so
-// 125,000 are of each, and 125,000 - 488 * 256 = 72.
+// 125,000 are of each, and 125,000 - 30 * 4,096 = 2,120.
 fn many_worked() -> [Cell; 2] {
     let each = MANY / 2;
     [
@@ -60,7 +64,7 @@ fn many_worked() -> [Cell; 2] {
         },
         Cell {
             count: each,
-            key: 72,
+            key: 2_120,
         },
     ]
 }
@@ -70,7 +74,7 @@ pub(crate) fn people_up_to(alloc: Global, last: u32) -> Result<People, Memory> {
     let mut people = People::with_room(alloc, last as usize);
     for person in 1..=last {
         let second = (person % 2) as u16;
-        add(alloc, &mut people, person, second as u8, &[second, 0, 0])?;
+        add(alloc, &mut people, person, second, &[second, 0, 0])?;
     }
     Ok(people)
 }
@@ -137,6 +141,58 @@ fn is_right_in_parts<L: Ledger, R: Threads + Sync>(
     Ok(true)
 }
 
+// Whether those of a release's cube, narrowed to SEX, are the cells that are wanted.
+fn is_narrowed(alloc: Global, cube: &Cube, release: &Release, want: &[Cell]) -> Result<bool, Memory>
+    requires fit { AllFit cube.now.shape release.now.records }
+    requires holds { Holds cube.now release.now.records }
+{
+    release.soundness();
+    let vars = sex(alloc, cube.shape())?;
+    if !cube.vars().includes(&vars) {
+        return Err(Memory);
+    }
+    let fewer = narrow(alloc, cube, &vars)?;
+    Ok(fewer.as_slice() == want)
+}
+
+// The same of the cube over all variables.
+fn is_right_narrowed<L: Ledger, R: Threads + Sync>(
+    blank: Blank,
+    rt: &R,
+    alloc: Global,
+    schema: &Schema,
+    release: &Release,
+    want: &[Cell],
+) -> Result<bool, Memory>
+    requires ledger { blank.name ≡ L.name }
+    requires parts { blank.parts ≡ L.parts }
+    requires some { 0 < L.parts }
+    requires fit { AllFit (shape_of schema.now) release.now.records }
+{
+    let shape = schema.shape();
+    let vars = all_variables(alloc, shape)?;
+    let mut steps = Steps::<L>::new(blank);
+    let cube = build(rt, alloc, shape, release, &vars, &mut Open, &mut steps)?;
+    is_narrowed(alloc, &cube, release, want)
+}
+
+// Whether the cells of SEX are those that are wanted, in whatever way their cube is made.
+pub(crate) fn are_right<R: Threads + Sync>(
+    rt: &R,
+    alloc: Global,
+    schema: &Schema,
+    release: &Release,
+    want: &[Cell],
+) -> Result<bool, Memory>
+    requires { AllFit (shape_of schema.now) release.now.records }
+{
+    Ok(
+        is_right::<Brand, R>(Blank::new(1), rt, alloc, schema, release, want)?
+            && is_right_in_parts::<Brand, R>(Blank::new(1), rt, alloc, schema, release, want)?
+            && is_right_narrowed::<Brand, R>(Blank::new(1), rt, alloc, schema, release, want)?,
+    )
+}
+
 // Release 0 of as many persons.
 fn many(alloc: Global, schema: &Schema) -> Result<Release, Memory>
     ensures { IfOk result (λ release. AllFit (shape_of schema.now) release.records) }
@@ -144,23 +200,14 @@ fn many(alloc: Global, schema: &Schema) -> Result<Release, Memory>
     first(alloc, schema, people_up_to(alloc, MANY)?)
 }
 
-// Whether that is so of the four persons, of them in parts, and of many.
+// Whether that is so of the four persons, and of many.
 fn four_are_right<R: Threads + Sync>(
     rt: &R,
     alloc: Global,
     schema: &Schema,
 ) -> Result<bool, Memory> {
     let release = release(alloc, schema)?;
-    is_right::<Brand, R>(Blank::new(1), rt, alloc, schema, &release, &worked())
-}
-
-fn parts_are_right<R: Threads + Sync>(
-    rt: &R,
-    alloc: Global,
-    schema: &Schema,
-) -> Result<bool, Memory> {
-    let release = release(alloc, schema)?;
-    is_right_in_parts::<Brand, R>(Blank::new(1), rt, alloc, schema, &release, &worked())
+    are_right(rt, alloc, schema, &release, &worked())
 }
 
 fn many_are_right<R: Threads + Sync>(
@@ -178,11 +225,6 @@ fn is_right_of_four<R: Threads + Sync>(rt: &R, alloc: Global) -> Result<bool, Me
     four_are_right(rt, alloc, &schema)
 }
 
-fn is_right_of_parts<R: Threads + Sync>(rt: &R, alloc: Global) -> Result<bool, Memory> {
-    let schema = schema(alloc)?;
-    parts_are_right(rt, alloc, &schema)
-}
-
 fn is_right_of_many<R: Threads + Sync>(rt: &R, alloc: Global) -> Result<bool, Memory> {
     let schema = schema(alloc)?;
     many_are_right(rt, alloc, &schema)
@@ -191,12 +233,6 @@ fn is_right_of_many<R: Threads + Sync>(rt: &R, alloc: Global) -> Result<bool, Me
 #[test]
 fn ample_memory_is_enough(rt: HostRuntime) -> Result<(), Fail> {
     assert!(rt; is_right_of_four(&rt, rt.alloc())?);
-    Ok(())
-}
-
-#[test]
-fn parts_are_enough(rt: HostRuntime) -> Result<(), Fail> {
-    assert!(rt; is_right_of_parts(&rt, rt.alloc())?);
     Ok(())
 }
 

@@ -73,13 +73,13 @@ fn wide_deeds() -> &'static [(Deed, u32)] {
     &WIDE_DEEDS
 }
 
-// A caller, the number of its release, and its cells: 200 + 100 = 300, and 300 - 256 = 44.
-type Want = (u32, u32, &'static [(u32, u8)]);
+// A caller, the number of its release, and its cells: 200 + 100 = 300.
+type Want = (u32, u32, &'static [(u32, u16)]);
 
 static REPLIES: [Want; 3] = [
-    (1, 1, &[(2, 44), (1, 20)]),
-    (0, 0, &[(2, 44), (2, 27)]),
-    (0, 2, &[(2, 44), (0, 0)]),
+    (1, 1, &[(2, 300), (1, 20)]),
+    (0, 0, &[(2, 300), (2, 27)]),
+    (0, 2, &[(2, 300), (0, 0)]),
 ];
 
 fn wanted() -> &'static [Want] {
@@ -87,8 +87,8 @@ fn wanted() -> &'static [Want] {
 }
 
 static WIDE_REPLIES: [Want; 4] = [
-    (0, 0, &[(2, 44), (1, 20), (0, 0), (1, 7)]),
-    (1, 1, &[(2, 44), (1, 20)]),
+    (0, 0, &[(2, 300), (1, 20), (0, 0), (1, 7)]),
+    (1, 1, &[(2, 300), (1, 20)]),
     (0, 3, &[(1, 200), (0, 0)]),
     (1, 3, &[(1, 200), (0, 0)]),
 ];
@@ -97,7 +97,7 @@ fn wanted_widely() -> &'static [Want] {
     &WIDE_REPLIES
 }
 
-fn are_cells(cells: &Cells, want: &[(u32, u8)]) -> bool {
+fn are_cells(cells: &Cells, want: &[(u32, u16)]) -> bool {
     if cells.len() != want.len() {
         return false;
     }

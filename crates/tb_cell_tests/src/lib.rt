@@ -1,5 +1,6 @@
-//! Tests of releases and cubes: batches of edits, pages and their stamps, columns, a cube, a run of
-//! events and the recency list, worked by hand over the small setup. Their calls have ample memory.
+//! Tests of releases and cubes: batches of edits, pages and their stamps, columns, tallies, key
+//! sums, cubes, runs of events and the recency list, worked by hand over the small setup. Their
+//! calls have ample memory.
 //!
 //! They call public functions alone. Tests stand in crates of their own since a crate that has
 //! tests is proved twice. Whole runs stand in `tablebuilder`.
@@ -11,6 +12,8 @@ mod batches;
 mod cubes;
 #[cfg(test)]
 mod event_runs;
+#[cfg(test)]
+mod key_sums;
 #[cfg(test)]
 mod making;
 #[cfg(test)]

@@ -16,7 +16,7 @@ pub fn add(
     alloc: Global,
     people: &mut People,
     person: u32,
-    key: u8,
+    key: u16,
     codes: &[u16],
 ) -> Result<(), Memory> {
     let codes = Codes::of(alloc, codes)?;

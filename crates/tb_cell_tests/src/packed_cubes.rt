@@ -32,7 +32,7 @@ fn people_of(alloc: Global, many: u16) -> Result<People, Memory> {
 }
 
 // The set of all variables, over which there is a cube.
-fn all_variables(alloc: Global, shape: &Shape) -> Result<VarSet, Memory>
+pub(crate) fn all_variables(alloc: Global, shape: &Shape) -> Result<VarSet, Memory>
     ensures { IfOk result (HasCube shape.now) }
 {
     let vars = VarSet::of(alloc, &[0, 1, 2])?;

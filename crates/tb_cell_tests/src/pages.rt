@@ -114,7 +114,7 @@ fn edit_of(alloc: Global, deed: &Deed, person: u32) -> Result<Edit, Memory> {
     match deed {
         Deed::Add(_, _) => Ok(Edit::Add {
             person,
-            key: (person % 2) as u8,
+            key: (person % 2) as u16,
             codes: Codes::of(alloc, &[1, 0, 0])?,
         }),
         Deed::Drop(_, _) => Ok(Edit::Drop { person }),

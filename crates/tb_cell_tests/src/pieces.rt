@@ -5,7 +5,7 @@ use std::test::Fail;
 use tb_base::{Codes, Memory, Piece, Record};
 
 // A record of two variables.
-fn record(alloc: Global, person: u32, key: u8, codes: [u16; 2]) -> Result<Record, Memory> {
+fn record(alloc: Global, person: u32, key: u16, codes: [u16; 2]) -> Result<Record, Memory> {
     let codes = Codes::of(alloc, &codes)?;
     Ok(Record { person, key, codes })
 }
@@ -27,7 +27,7 @@ fn is_column(piece: &Piece, v: usize, codes: &[u16]) -> bool {
 }
 
 // Whether these are the keys, and the codes of both variables.
-fn has(piece: &Piece, keys: &[u8], first: &[u16], second: &[u16]) -> bool {
+fn has(piece: &Piece, keys: &[u16], first: &[u16], second: &[u16]) -> bool {
     piece.keys() == keys
         && is_column(piece, 0, first)
         && is_column(piece, 1, second)

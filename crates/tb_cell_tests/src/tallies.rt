@@ -10,7 +10,7 @@ const LONGEST: usize = 70;
 const PLACES: u32 = 5;
 
 // The cell of a place, one position after another.
-fn plain_tally(places: &[u32], keys: &[u8], place: u32) -> Cell {
+fn plain_tally(places: &[u32], keys: &[u16], place: u32) -> Cell {
     let mut cell = Cell::empty();
     for (here, key) in places.iter().zip(keys) {
         if *here == place {
@@ -29,11 +29,11 @@ fn places() -> [u32; LONGEST] {
     places
 }
 
-// Keys most of whose sums are above 255.
-fn keys() -> [u8; LONGEST] {
+// Keys up to 4,095, most of whose sums are above it.
+fn keys() -> [u16; LONGEST] {
     let mut keys = [0; LONGEST];
     for i in 0..LONGEST {
-        keys[i] = ((i * 83 + 200) % 256) as u8;
+        keys[i] = ((i * 2_531 + 4_095) % 4_096) as u16;
     }
     keys
 }

@@ -1,13 +1,12 @@
 -- Records that are put in one after another are merged.
-use Rattle.std.proofs.Common.{◌≡◌, ℕ, ◌+◌, ◌*◌, ◌<◌, ◌≤◌, ◌-◌, ◌^◌, Bool, true, List, [], ◌∷◌, length, map, drop, get_or, set, refl, ap, sym, subst, ◌∙◌, inl, inr, arith}
+use Rattle.std.proofs.Common.{◌≡◌, ℕ, ◌+◌, ◌<◌, ◌≤◌, ◌-◌, ◌^◌, Bool, true, List, [], ◌∷◌, length, map, drop, get_or, set, refl, ap, sym, subst, ◌∙◌, inl, inr, arith}
 use Rattle.std.specs.Prelude.{◌==◌, bytes_eq, replicate, All}
 use Rattle.std.specs.List.{filter}
 use Rattle.std.proofs.lemmas.Bool.Decides.{eqb_tells}
 use Rattle.std.proofs.lemmas.List.{length-map, length-set, get_or-set_same, get_or-set_other, ext_get_or, drop_more}
 use Rattle.tb_base.specs.declared.records.Record.{Record}
 use Rattle.tb_base.specs.declared.cells.Cell.{Cell}
-use Rattle.tb_base.specs.declared.cells.TheConstants.{KEY_RANGE}
-use Rattle.tb_base.specs.Cells.{empty_cell, with_key, merged, merged_all, cell_of}
+use Rattle.tb_base.specs.Cells.{empty_cell, with_key, merged, merged_all, cell_of, IsReduced}
 use Rattle.tb_base.specs.Records.{category_at, Fits}
 use Rattle.tb_base.proofs.CellLemmas.{merged-none}
 use Rattle.tb_base.proofs.CellsBy.{first-record, get_or-cells_by, put-either, put_if, set_at}
@@ -19,19 +18,7 @@ use Rattle.tb_cube.specs.declared.axes.Axis.{Axis}
 use Rattle.tb_cube.specs.Cubes.{place_of, cell_count, CubeValue}
 use Rattle.tb_cube.specs.Axes.{axes_of, number_by, with_all, LeadsBelow, IsCube}
 use Rattle.tb_cube.proofs.Grid.{place-below, number-place, place-test, length-lists, all-fit, leads-in}
-
--- the keys of cells are keys
-abbrev pub AreKeys : List Cell → Type 0
-AreKeys cells = (i : ℕ) → i < length cells → (get_or cells i empty_cell).key < KEY_RANGE
-
-keys-set : (cells : List Cell) (i key : ℕ) → AreKeys cells → AreKeys (set cells i (with_key (get_or cells i empty_cell) key))
-keys-set cells i key are k below =
-    let new : Cell = with_key (get_or cells i empty_cell) key in
-    let within : k < length cells = omega (arith, below, length-set cells i new) in
-    elim (eqb_tells k i) [
-      | inl h ↦ rw (h.1, get_or-set_same cells i new empty_cell (omega (arith, within, h.1))) (omega arith)
-      | inr h ↦ rw (get_or-set_other cells i k new empty_cell h.1) (are k within)
-    ]
+use Rattle.tb_cube.proofs.Reduced.{reduced-set, reduced-with_key}
 
 pub get_or-cube_of : (shape vars : List ℕ) (rs : List Record) (k : ℕ) (e : List ℕ) → k < length (category_lists shape vars)
     → get_or (cube_of shape vars rs) k empty_cell ≡ cell_of (filter (λ r. bytes_eq (map (category_at r) vars) (get_or (category_lists shape vars) k e)) rs)
@@ -40,13 +27,13 @@ get_or-cube_of shape vars rs k e below = get_or-cells_by (λ c r. bytes_eq (map 
 pub length-cube_of : (shape vars : List ℕ) (rs : List Record) → length (cube_of shape vars rs) ≡ length (category_lists shape vars)
 length-cube_of shape vars rs = length-map (category_lists shape vars) (λ c. cell_of (filter (λ r. bytes_eq (map (category_at r) vars) c) rs))
 
-pub with_all-cube_of : (shape vars : List ℕ) (cells : List Cell) (rs : List Record) → AreKeys cells → length cells ≡ cell_count shape vars → cell_count shape vars ≤ MOST_CELLS → AllWithin shape vars rs
+pub with_all-cube_of : (shape vars : List ℕ) (cells : List Cell) (rs : List Record) → All IsReduced cells → length cells ≡ cell_count shape vars → cell_count shape vars ≤ MOST_CELLS → AllWithin shape vars rs
     → with_all (axes_of shape vars) cells rs ≡ merged_all cells (cube_of shape vars rs)
 with_all-cube_of shape vars cells [] are long few fit =
     let same : length cells ≡ length (cube_of shape vars []) = long ∙ sym (length-cube_of shape vars [] ∙ length-lists shape vars) in
     ext_get_or empty_cell cells (merged_all cells (cube_of shape vars [])) (sym (length-merged_all cells (cube_of shape vars []) same)) (λ k below.
     let inside : k < length (category_lists shape vars) = omega (arith, below, long, length-lists shape vars) in
-    sym (get_or-merged_all cells (cube_of shape vars []) k empty_cell same below ∙ ap (merged (get_or cells k empty_cell)) (get_or-cube_of shape vars [] k [] inside) ∙ merged-none (get_or cells k empty_cell) (are k below)))
+    sym (get_or-merged_all cells (cube_of shape vars []) k empty_cell same below ∙ ap (merged (get_or cells k empty_cell)) (get_or-cube_of shape vars [] k [] inside) ∙ merged-none (get_or cells k empty_cell) (are k empty_cell below)))
 with_all-cube_of shape vars cells (r ∷ rs) are long few fit =
     let n : ℕ = place_of shape vars (category_at r) in
     let number : number_by (axes_of shape vars) (category_at r) ≡ n = number-place shape vars (category_at r) fit.0 few in
@@ -56,7 +43,7 @@ with_all-cube_of shape vars cells (r ∷ rs) are long few fit =
     let rest : length cells ≡ length (cube_of shape vars rs) = long ∙ sym (length-cube_of shape vars rs ∙ length-lists shape vars) in
     let all : length cells ≡ length (cube_of shape vars (r ∷ rs)) = long ∙ sym (length-cube_of shape vars (r ∷ rs) ∙ length-lists shape vars) in
     ap (λ i. with_all (axes_of shape vars) (set cells i (with_key (get_or cells i empty_cell) r.key)) rs) number
-    ∙ with_all-cube_of shape vars next rs (keys-set cells n r.key are) (still ∙ long) few fit.1
+    ∙ with_all-cube_of shape vars next rs (reduced-set cells n (with_key (get_or cells n empty_cell) r.key) are (reduced-with_key (get_or cells n empty_cell) r.key)) (still ∙ long) few fit.1
     ∙ ext_get_or empty_cell (merged_all next (cube_of shape vars rs)) (merged_all cells (cube_of shape vars (r ∷ rs)))
     (length-merged_all next (cube_of shape vars rs) (still ∙ rest) ∙ still ∙ sym (length-merged_all cells (cube_of shape vars (r ∷ rs)) all)) (λ k below.
     let within : k < length cells = omega (arith, below, length-merged_all next (cube_of shape vars rs) (still ∙ rest), still) in
@@ -71,12 +58,12 @@ with_all-cube_of shape vars cells (r ∷ rs) are long few fit =
     ∙ sym (get_or-merged_all cells (cube_of shape vars (r ∷ rs)) k empty_cell all within))
 
 -- records put into a cube as it is kept
-pub put-cube : (cube : CubeValue) (axes : List Axis) (rs : List Record) → IsCube cube axes → AreKeys cube.cells → All (Fits cube.shape) rs
+pub put-cube : (cube : CubeValue) (axes : List Axis) (rs : List Record) → IsCube cube axes → All (Fits cube.shape) rs
     → with_all axes cube.cells rs ≡ merged_all cube.cells (cube_of cube.shape cube.vars rs)
-put-cube cube axes rs is are fit =
+put-cube cube axes rs is fit =
     let few : cell_count cube.shape cube.vars ≤ MOST_CELLS = omega (arith, is.whole.long, is.whole.few) in
     ap (λ (xs : List Axis). with_all xs cube.cells rs) is.axes_are
-    ∙ with_all-cube_of cube.shape cube.vars cube.cells rs are is.whole.long few (all-fit cube.shape cube.vars rs is.whole.there fit)
+    ∙ with_all-cube_of cube.shape cube.vars cube.cells rs is.whole.reduced is.whole.long few (all-fit cube.shape cube.vars rs is.whole.there fit)
 
 pub all-lead : (cube : CubeValue) (axes : List Axis) (rs : List Record) → IsCube cube axes → All (Fits cube.shape) rs → All (LeadsBelow (length cube.cells) axes) rs
 all-lead cube axes rs is fit = λ k d below. (leads-in cube axes (get_or rs k d) is (fit k d below)).lead

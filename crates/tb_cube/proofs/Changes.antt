@@ -8,7 +8,7 @@ use Rattle.std.proofs.lemmas.List.{length-map, length-set, get_or-set_same, get_
 use Rattle.std.proofs.lemmas.Nat.{mod_below}
 use Rattle.tb_base.specs.declared.records.Record.{Record}
 use Rattle.tb_base.specs.declared.cells.Cell.{Cell}
-use Rattle.tb_base.specs.declared.cells.TheConstants.{KEY_RANGE}
+use Rattle.tb_base.specs.declared.keys.TheConstants.{MOST_KEYS}
 use Rattle.tb_base.specs.Cells.{empty_cell, without_key, merged_all}
 use Rattle.tb_base.specs.Records.{category_at, Fits}
 use Rattle.tb_base.proofs.CellLemmas.{without_key-with_key}
@@ -54,16 +54,16 @@ set-changed change cube r below long =
     ])
 
 -- the keys of counted cells are keys
-keys-cells_by : {G : Type 0} (test : G → Record → Bool) (groups : List G) (rs : List Record) → AllByRecursion (λ (c : Cell). c.key < KEY_RANGE) (cells_by test groups rs)
+keys-cells_by : {G : Type 0} (test : G → Record → Bool) (groups : List G) (rs : List Record) → AllByRecursion (λ (c : Cell). c.key < MOST_KEYS) (cells_by test groups rs)
 keys-cells_by test [] rs = tt
-keys-cells_by test (g ∷ groups) rs = (mod_below (sum_by (λ (r : Record). r.key) (filter (test g) rs)) KEY_RANGE (omega arith), keys-cells_by test groups rs)
+keys-cells_by test (g ∷ groups) rs = (mod_below (sum_by (λ (r : Record). r.key) (filter (test g) rs)) MOST_KEYS (omega arith), keys-cells_by test groups rs)
 
 -- a record that was put into its cell is taken out again
-one-out : (b : Bool) (key : ℕ) (c : Cell) → c.key < KEY_RANGE → key < KEY_RANGE → cond b (without_key (put_if b key c) key) (put_if b key c) ≡ c
+one-out : (b : Bool) (key : ℕ) (c : Cell) → c.key < MOST_KEYS → key < MOST_KEYS → cond b (without_key (put_if b key c) key) (put_if b key c) ≡ c
 one-out true key c small below = without_key-with_key c key small below
 one-out false key c small below = refl
 
-all-out : {G : Type 0} (test : G → Bool) (key : ℕ) (groups : List G) (cells : List Cell) → length groups ≡ length cells → key < KEY_RANGE → AllByRecursion (λ (c : Cell). c.key < KEY_RANGE) cells
+all-out : {G : Type 0} (test : G → Bool) (key : ℕ) (groups : List G) (cells : List Cell) → length groups ≡ length cells → key < MOST_KEYS → AllByRecursion (λ (c : Cell). c.key < MOST_KEYS) cells
     → map (λ (p : G × Cell). cond (test p.0) (without_key p.1 key) p.1) (zip groups (map (λ (q : G × Cell). put_if (test q.0) key q.1) (zip groups cells))) ≡ cells
 all-out test key [] [] e below small = refl
 all-out test key [] (c ∷ cells) e below small = absurd (omega (arith, e))

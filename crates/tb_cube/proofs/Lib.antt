@@ -1,4 +1,5 @@
 pub mod Grid
+mod Reduced
 pub mod Adding
 pub mod Changes
 pub mod Packed

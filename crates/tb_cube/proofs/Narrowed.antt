@@ -3,12 +3,11 @@ use Rattle.std.proofs.Common.{◌≡◌, ℕ, ◌+◌, ◌%◌, ◌<◌, ◌≤�
 use Rattle.std.specs.Prelude.{◌==◌, bytes_eq, All}
 use Rattle.std.specs.List.{sum_by, zip}
 use Rattle.std.specs.List.Sorted.{IsStrictlyIncreasing}
-use Rattle.std.proofs.Math.Nat.{mod-eq_of_lt}
 use Rattle.std.proofs.lemmas.List.{length-map, length-replicate, get_or-map, get_or-replicate, ext_get_or}
 use Rattle.tb_base.specs.declared.cells.Cell.{Cell}
 use Rattle.tb_base.specs.declared.people.TheConstants.{MOST_PERSONS}
 use Rattle.tb_base.specs.declared.records.Record.{Record}
-use Rattle.tb_base.specs.Cells.{empty_cell}
+use Rattle.tb_base.specs.Cells.{empty_cell, IsReduced}
 use Rattle.tb_base.specs.Records.{Fits}
 use Rattle.tb_base.specs.Sets.{includes_all}
 use Rattle.tb_base.specs.Parts.{Part, part, part_at, modulus}
@@ -48,10 +47,10 @@ narrowed-by shape vars fewer cube cells apart other among few total long size va
     ∙ sym (ap (part p) here ∙ part-where p test shape vars cube (omega (arith, total)))))
 
 -- a part of a cell that was empty before something was added to it
-pub from-empty : (m old new x : ℕ) → old ≡ 0 → new % m ≡ (old + x) % m → new < m → new ≡ x % m
-from-empty m old new x none made small =
+pub from-empty : (m old mid new x : ℕ) → old ≡ 0 → mid % m ≡ (old + x) % m → new ≡ mid % m → new ≡ x % m
+from-empty m old mid new x none made reduced =
     let drop-old : old + x ≡ x = omega arith in
-    sym (mod-eq_of_lt small) ∙ made ∙ ap (λ y. y % m) drop-old
+    reduced ∙ made ∙ ap (λ y. y % m) drop-old
 
 -- as many empty cells as there are places are all empty
 pub all-empty : (cells : List Cell) (n : ℕ) → cells ≡ replicate n empty_cell → All (λ (c : Cell). c ≡ empty_cell) cells
@@ -87,15 +86,16 @@ narrowed-held cube fewer records whole among fit held =
 
 -- what is made of them is a cube
 pub cube-made : (cube : CubeValue) (fewer shape vars : List ℕ) (cells : List Cell) (axes : List Axis) → IsWhole cube → IsStrictlyIncreasing fewer → includes_all cube.vars fewer ≡ true
-    → shape ≡ cube.shape → vars ≡ fewer → axes ≡ axes_of cube.shape fewer → length cells ≡ cell_count cube.shape fewer → cell_count cube.shape fewer ≤ MOST_CELLS
+    → shape ≡ cube.shape → vars ≡ fewer → axes ≡ axes_of cube.shape fewer → length cells ≡ cell_count cube.shape fewer → cell_count cube.shape fewer ≤ MOST_CELLS → All IsReduced cells
     → IsCube (record { shape = shape; vars = vars; cells = cells; dense = true }) axes
-cube-made cube fewer shape vars cells axes whole ascending among same same' are size few =
+cube-made cube fewer shape vars cells axes whole ascending among same same' are size few reduced =
     rw (same, same', are) (record {
       whole = record {
         ascending = ascending;
         there = there-fewer (length cube.shape) cube.vars fewer whole.there among;
         long = size;
         few = omega (arith, size, few);
+        reduced = reduced;
       };
       axes_are = refl;
     })

@@ -113,6 +113,7 @@ same-cube old new axes shape vars cells is =
         there = rw (shape, vars) is.whole.there;
         long = rw (shape, vars, ← cells) is.whole.long;
         few = rw (← cells) is.whole.few;
+        reduced = rw (← cells) is.whole.reduced;
       };
       axes_are = rw (shape, vars) is.axes_are;
     }

@@ -8,7 +8,7 @@ use Rattle.std.specs.List.Sorted.{IsStrictlyIncreasing}
 use Rattle.tb_base.specs.declared.cells.Cell.{Cell}
 use Rattle.tb_base.specs.declared.people.TheConstants.{MOST_PERSONS}
 use Rattle.tb_base.specs.declared.records.Record.{Record}
-use Rattle.tb_base.specs.Cells.{empty_cell, merged, merged_all, with_key, without_key}
+use Rattle.tb_base.specs.Cells.{empty_cell, merged, merged_all, with_key, without_key, IsReduced}
 use Rattle.tb_base.specs.Records.{category_at, Fits}
 use Rattle.tb_grid.specs.declared.products.TheConstants.{MOST_CELLS}
 use Rattle.tb_model.specs.Cubes.{category_lists, cube_of, narrowed}
@@ -116,9 +116,10 @@ HasRoom a b =
     ≤ MOST_PERSONS
 
 -- what is true of each cube: its variables ascend and are the shape's, and it has a cell for each
--- list of their categories, which are not too many
+-- list of their categories, which are not too many, with key sums below the largest key range
 pub record IsWhole (cube : CubeValue) : Type 0 where
   pub ascending : IsStrictlyIncreasing cube.vars
   pub there : All (λ v. v < length cube.shape) cube.vars
   pub long : length cube.cells ≡ cell_count cube.shape cube.vars
   pub few : length cube.cells ≤ MOST_CELLS
+  pub reduced : All IsReduced cube.cells

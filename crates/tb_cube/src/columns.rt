@@ -9,6 +9,7 @@ ghost use Rattle.std.specs.Option.{ForSome};
 ghost use Rattle.tb_base.specs.declared.records.Record.{Record as AnyRecord};
 ghost use Rattle.tb_base.specs.declared.tallies.TheConstants.{MOST_TALLIED};
 ghost use Rattle.tb_grid.specs.declared.products.TheConstants.{MOST_CELLS};
+ghost use Rattle.tb_base.specs.Cells.{IsReduced};
 ghost use Rattle.tb_base.specs.Pieces.{between, code_column, key_column};
 ghost use Rattle.tb_cube.specs.declared.axes.Axis.{Axis as AnyAxis};
 ghost use Rattle.tb_cube.specs.declared.columns.TheConstants.{MOST_NUMBERED};
@@ -31,7 +32,7 @@ fn part<T>(items: &[T], from: usize, to: usize) -> &[T]
 }
 
 // The keys from one place of a piece up to another.
-fn keys_in(piece: &Piece, from: usize, to: usize) -> &[u8]
+fn keys_in(piece: &Piece, from: usize, to: usize) -> &[u16]
     ensures { result.now ≡ key_column (between from to piece.now) }
 {
     part(piece.keys(), from, to)
@@ -57,7 +58,7 @@ fn offset_at(axis: Axis, codes: &[u16], i: usize) -> usize
 
 // Puts records in by one variable, where these are their keys and their codes of it. The records
 // aren't read: they are what the clauses speak of.
-fn add_by_one(cells: &mut [Cell], axes: &[Axis], records: &[Record], keys: &[u8], of_v: &[u16])
+fn add_by_one(cells: &mut [Cell], axes: &[Axis], records: &[Record], keys: &[u16], of_v: &[u16])
     requires axes { length axes.now ≡ 1 }
     requires few { length cells.old ≤ MOST_CELLS }
     requires lead { All (LeadsBelow (length cells.old) axes.now) records.now }
@@ -79,7 +80,7 @@ fn add_by_two(
     cells: &mut [Cell],
     axes: &[Axis],
     records: &[Record],
-    keys: &[u8],
+    keys: &[u16],
     of_v: &[u16],
     of_w: &[u16],
 )
@@ -139,7 +140,7 @@ fn write_numbers(
 }
 
 // Puts keys into the cells of these numbers.
-fn put_numbered(cells: &mut [Cell], numbers: &[u32], keys: &[u8])
+fn put_numbered(cells: &mut [Cell], numbers: &[u32], keys: &[u16])
     requires there { All (λ n. n < length cells.old) numbers.now }
     requires same { length numbers.now ≡ length keys.now }
     requires room { All (λ c. c.count + length keys.now < 2 ^ 32) cells.old }
@@ -154,8 +155,9 @@ fn put_numbered(cells: &mut [Cell], numbers: &[u32], keys: &[u8])
 }
 
 // The same where there are few cells.
-fn tally_numbered(cells: &mut [Cell], numbers: &[u32], keys: &[u8])
+fn tally_numbered(cells: &mut [Cell], numbers: &[u32], keys: &[u16])
     requires few { length cells.old ≤ MOST_TALLIED }
+    requires reduced { All IsReduced cells.old }
     requires same { length numbers.now ≡ length keys.now }
     requires short { length keys.now ≤ MOST_NUMBERED }
     requires room { All (λ c. c.count + length keys.now < 2 ^ 32) cells.old }
@@ -169,11 +171,12 @@ fn tally_numbered(cells: &mut [Cell], numbers: &[u32], keys: &[u8])
 }
 
 // The same of any number of cells.
-fn put_by_numbers(cells: &mut [Cell], numbers: &[u32], keys: &[u8])
+fn put_by_numbers(cells: &mut [Cell], numbers: &[u32], keys: &[u16])
     requires there { All (λ n. n < length cells.old) numbers.now }
     requires same { length numbers.now ≡ length keys.now }
     requires short { length keys.now ≤ MOST_NUMBERED }
     requires room { All (λ c. c.count + length keys.now < 2 ^ 32) cells.old }
+    requires reduced { All IsReduced cells.old }
     ensures { (axes : List AnyAxis) (records : List AnyRecord)
         → AreNumbered (length cells.old) axes records numbers.now keys.now
         → cells.new ≡ with_all axes cells.old records }
@@ -191,6 +194,7 @@ fn put_by_one(cells: &mut [Cell], axes: &[Axis], piece: &Piece, from: usize, to:
     requires few { length cells.old ≤ MOST_CELLS }
     requires lead { All (LeadsBelow (length cells.old) axes.now) (between from to piece.now) }
     requires room { All (λ c. c.count + length (between from to piece.now) < 2 ^ 32) cells.old }
+    requires reduced { All IsReduced cells.old }
     ensures { cells.new ≡ with_all axes.now cells.old (between from to piece.now) }
 {
     let records = part(piece.records(), from, to);
@@ -207,6 +211,7 @@ fn put_by_two(cells: &mut [Cell], axes: &[Axis], piece: &Piece, from: usize, to:
     requires few { length cells.old ≤ MOST_CELLS }
     requires lead { All (LeadsBelow (length cells.old) axes.now) (between from to piece.now) }
     requires room { All (λ c. c.count + length (between from to piece.now) < 2 ^ 32) cells.old }
+    requires reduced { All IsReduced cells.old }
     ensures { cells.new ≡ with_all axes.now cells.old (between from to piece.now) }
 {
     let records = part(piece.records(), from, to);
@@ -225,6 +230,7 @@ fn put_by_any(cells: &mut [Cell], axes: &[Axis], piece: &Piece, from: usize, to:
     requires few { length cells.old ≤ MOST_CELLS }
     requires lead { All (LeadsBelow (length cells.old) axes.now) (between from to piece.now) }
     requires room { All (λ c. c.count + length (between from to piece.now) < 2 ^ 32) cells.old }
+    requires reduced { All IsReduced cells.old }
     ensures { cells.new ≡ with_all axes.now cells.old (between from to piece.now) }
 {
     let records = part(piece.records(), from, to);
@@ -246,6 +252,7 @@ pub fn put_piece(cells: &mut [Cell], axes: &[Axis], piece: &Piece, from: usize, 
     requires few { length cells.old ≤ MOST_CELLS }
     requires lead { All (LeadsBelow (length cells.old) axes.now) (between from to piece.now) }
     requires room { All (λ c. c.count + length (between from to piece.now) < 2 ^ 32) cells.old }
+    requires reduced { All IsReduced cells.old }
     ensures { cells.new ≡ with_all axes.now cells.old (between from to piece.now) }
 {
     if cells.len() > MOST_TALLIED && axes.len() == 1 {

@@ -24,7 +24,7 @@ use crate::packing::{Form, KeptCell, filled_in, kept_of};
 use crate::putting::put_all;
 use std::alloc::Global;
 use std::marker::Model;
-use tb_base::{Cell, Memory, Piece, Record, Shape, VarSet, know_cells};
+use tb_base::{Cell, Memory, Piece, Record, Shape, VarSet};
 use tb_grid::cells_over;
 
 /// The cells over some variables of a classification: one for each list of their categories, in
@@ -86,7 +86,6 @@ impl Cube {
             → Holds self.new (before ++ piece.now) }
     {
         if let Form::Dense(cells) = &mut self.form {
-            know_cells(cells);
             put_all(cells, &self.axes, piece);
         }
     }
@@ -105,7 +104,6 @@ impl Cube {
             → Holds self.new (before ++ between from to piece.now) }
     {
         if let Form::Dense(cells) = &mut self.form {
-            know_cells(cells);
             put_piece(cells, &self.axes, piece, from, to);
         }
     }

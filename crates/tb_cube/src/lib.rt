@@ -11,10 +11,11 @@
 //!
 //! Lemmas: `proofs/Grid` (the number of a record's cell), `Adding` (records that are put in),
 //! `Tallied` (the same by tallies), `ByColumn` (the same by column), `Changes` (one that is put in
-//! or taken out), `Leading` and `Narrowed` (cells over fewer variables), `Packed` (what is kept
-//! gives the cells back); for the crates above `Walks` (what a walk over cells adds at a number),
-//! `Kept` (the same from the kept cells alone), `Lists` (the lists of categories, and merges by a
-//! test of them) and `Holding` (what a caller knows of a cube that holds some records).
+//! or taken out), `Reduced` (key sums stay below the largest key range), `Leading` and `Narrowed`
+//! (cells over fewer variables), `Packed` (what is kept gives the cells back); for the crates above
+//! `Walks` (what a walk over cells adds at a number), `Kept` (the same from the kept cells alone),
+//! `Lists` (the lists of categories, and merges by a test of them) and `Holding` (what a caller
+//! knows of a cube that holds some records).
 #![tactic(auto)]
 
 mod axes;

@@ -14,7 +14,7 @@ ghost use Rattle.tb_cube.specs.Walks.{count_of, kept_spread, led_to, spread, Sta
 use crate::axes::Axis;
 use crate::packing::{Form, KeptCell};
 use std::alloc::Global;
-use tb_base::{Cell, Memory, Shape, VarSet, know_cells};
+use tb_base::{Cell, Memory, Shape, VarSet, reduce_keys};
 use tb_grid::cells_over;
 
 /// A variable's number of categories, how many cells of the cube each of them has beside the
@@ -199,7 +199,7 @@ fn fill(form: &Form, steps: &[Step], cells: &mut [Cell])
         ≡ spread (forks_of steps.now) (part_at p (cells_of form.now)) 0 0 i % modulus p }
 {
     add_form(form, steps, cells);
-    know_cells(cells);
+    reduce_keys(cells);
 }
 
 /// So many cells, at each of which the cells that lead there are summed. It takes memory for them.

@@ -2,6 +2,7 @@
 // cells.
 
 ghost use Rattle.std.specs.Prelude.{◌≡◌, ◌+◌, ◌<◌, ◌≤◌, ◌^◌, All, length};
+ghost use Rattle.tb_base.specs.Cells.{IsReduced};
 ghost use Rattle.tb_grid.specs.declared.products.TheConstants.{MOST_CELLS};
 ghost use Rattle.tb_cube.specs.Axes.{LeadsBelow, with_all};
 
@@ -27,6 +28,7 @@ pub fn put_all(cells: &mut [Cell], axes: &[Axis], piece: &[Record])
     requires few { length cells.old ≤ MOST_CELLS }
     requires lead { All (LeadsBelow (length cells.old) axes.now) piece.now }
     requires room { All (λ c. c.count + length piece.now < 2 ^ 32) cells.old }
+    requires reduced { All IsReduced cells.old }
     ensures { cells.new ≡ with_all axes.now cells.old piece.now }
 {
     if cells.len() <= MOST_TALLIED {

@@ -3,6 +3,7 @@
 
 ghost use Rattle.std.specs.Prelude.{◌≡◌, ◌+◌, ◌<◌, ◌≤◌, ◌^◌, All, length, map, take};
 ghost use Rattle.tb_base.specs.declared.tallies.TheConstants.{CHUNK, MOST_TALLIED};
+ghost use Rattle.tb_base.specs.Cells.{IsReduced};
 ghost use Rattle.tb_cube.specs.Axes.{numbers_by, with_all, LeadsBelow};
 
 use crate::axes::{Axis, number_of};
@@ -13,7 +14,7 @@ fn write_columns(
     axes: &[Axis],
     chunk: &[Record],
     numbers: &mut [u32; CHUNK],
-    keys: &mut [u8; CHUNK],
+    keys: &mut [u16; CHUNK],
 )
     requires lead { All (LeadsBelow MOST_TALLIED axes.now) chunk.now }
     requires few { length chunk.now ≤ CHUNK }
@@ -33,6 +34,7 @@ pub fn put_by_tallies(cells: &mut [Cell], axes: &[Axis], piece: &[Record])
     requires few { length cells.old ≤ MOST_TALLIED }
     requires lead { All (LeadsBelow (length cells.old) axes.now) piece.now }
     requires room { All (λ c. c.count + length piece.now < 2 ^ 32) cells.old }
+    requires reduced { All IsReduced cells.old }
     ensures { cells.new ≡ with_all axes.now cells.old piece.now }
 {
     know_cells(cells);

@@ -3,12 +3,12 @@
 ghost use Rattle.std.specs.Prelude.{◌<◌, length};
 
 use std::alloc::Global;
-use tb_base::{People, Record};
+use tb_base::{Keys, People, Record};
 use tb_model::LAST_ROW;
 use tb_ptable::PTable;
 use tb_records::read_people;
 use tb_schema::{NameOf, Schema};
-use tb_small::{CLASSES, PEOPLE, PTABLE, RECODES};
+use tb_small::{CLASSES, PEOPLE, PTABLE, RECODES, WIDE_CLASSES};
 
 // A variable: its name, and the code and the label of each category.
 type Variable = (&'static str, &'static [(&'static str, &'static str)]);
@@ -79,6 +79,30 @@ fn reads_as(alloc: Global, classes: &[u8], want: &[Variable]) -> bool {
         Ok(schema) => are_variables(&schema, want),
         Err(_) => false,
     }
+}
+
+// Whether a classification is read with this key range, and with the variables of the small setup.
+fn ranges_as(alloc: Global, classes: &[u8], keys: Keys) -> bool {
+    match Schema::read(alloc, classes, None) {
+        Ok(schema) => schema.keys() == keys && are_variables(&schema, small()),
+        Err(_) => false,
+    }
+}
+
+// A key range that is stated is no category, and is no variable of the recodes and the microdata.
+const STATED: &[u8] = b"label,note,code,variable\n256,x,\"keys\",\"*\"\n\
+    Male,,1,SEX\nFemale,,2,SEX\nUnder 16,,0-15,AGE\nWorking age,,16-64,AGE\n\
+    65 and over,,65+,AGE\n\"North, rural\",,E1,AREA\nSouth,,E2,AREA\n";
+
+#[test]
+fn key_ranges(rt: HostRuntime) {
+    assert!(rt; ranges_as(rt.alloc(), CLASSES, Keys::K256), "none");
+    assert!(rt; ranges_as(rt.alloc(), STATED, Keys::K256), "256");
+    assert!(rt; ranges_as(rt.alloc(), WIDE_CLASSES, Keys::K4096), "4096");
+    assert!(rt;
+        reads_as(rt.alloc(), b"variable,code,label\n*,keys,4096\n", &[]),
+        "no variable"
+    );
 }
 
 #[test]
@@ -164,8 +188,11 @@ fn recodes(rt: HostRuntime) {
     );
 }
 
-// Records under the header of a perturbation file, a row and a key, and their pvalue.
-static PVALUES: [(&'static [u8], u16, u8, i16); 8] = [
+// A perturbation file, a row and a cell key, and their pvalue.
+type Pvalue = (&'static [u8], u16, u16, i16);
+
+// With the key range 256.
+static PVALUES: [Pvalue; 8] = [
     (PTABLE, 3, 64, -2),
     (PTABLE, 1, 8, 0),
     (b"note,pvalue,ckey,pcv\nx,-2,64,3\n", 3, 64, -2),
@@ -181,32 +208,57 @@ static PVALUES: [(&'static [u8], u16, u8, i16); 8] = [
     (b"pcv,ckey,pvalue\n750,255,-750\n", 750, 255, -750),
 ];
 
-fn pvalues() -> &'static [(&'static [u8], u16, u8, i16)] {
+// With the key range 4096: the first and the last keys, and one beside each.
+static WIDE_PVALUES: [Pvalue; 6] = [
+    (b"pcv,ckey,pvalue\n750,4095,1000\n", 750, 4095, 1000),
+    (b"pcv,ckey,pvalue\n750,4095,1000\n", 749, 4095, 0),
+    (b"pcv,ckey,pvalue\n750,4095,1000\n", 750, 4094, 0),
+    (b"pcv,ckey,pvalue\n1,0256,-1\n1,0,7\n", 1, 256, -1),
+    (b"pcv,ckey,pvalue\n1,0256,-1\n1,0,7\n", 1, 0, 7),
+    (PTABLE, 4, 71, 2),
+];
+
+fn pvalues() -> &'static [Pvalue] {
     &PVALUES
 }
 
-fn is_pvalue(alloc: Global, file: &[u8], row: u16, key: u8, pvalue: i16) -> bool {
-    if u32::from(row) > LAST_ROW {
+fn wide_pvalues() -> &'static [Pvalue] {
+    &WIDE_PVALUES
+}
+
+fn is_pvalue(alloc: Global, keys: Keys, one: &Pvalue) -> bool {
+    let (file, row, key, pvalue) = one;
+    if u32::from(*row) > LAST_ROW || *key >= keys.size() {
         return false;
     }
-    match PTable::read(alloc, file) {
-        Ok(table) => table.pvalue(row, key) == pvalue,
+    match PTable::read(alloc, keys, file) {
+        Ok(table) => table.pvalue(*row, *key) == *pvalue,
         Err(_) => false,
     }
 }
 
 #[test]
 fn perturbation_tables(rt: HostRuntime) {
-    for (file, row, key, pvalue) in pvalues() {
+    for one in pvalues() {
         assert!(rt;
-            is_pvalue(rt.alloc(), file, *row, *key, *pvalue),
-            "{row}, {key}: {pvalue}"
+            is_pvalue(rt.alloc(), Keys::K256, one),
+            "{}, {}",
+            one.1,
+            one.2
+        );
+    }
+    for one in wide_pvalues() {
+        assert!(rt;
+            is_pvalue(rt.alloc(), Keys::K4096, one),
+            "{}, {}",
+            one.1,
+            one.2
         );
     }
 }
 
 // A person, a key, and the categories of SEX, AGE and AREA.
-type Person = (u32, u8, [u16; 3]);
+type Person = (u32, u16, [u16; 3]);
 
 static FOUR: [Person; 4] = [
     (101, 200, [0, 0, 0]),
@@ -251,8 +303,22 @@ fn are_people(people: &People, want: &[Person]) -> bool {
             .all(|(one, person)| is_record(one, person))
 }
 
-fn has_people(alloc: Global, file: &[u8], want: &[Person]) -> bool {
-    let Ok(schema) = Schema::read(alloc, CLASSES, None) else {
+// The greatest keys of the key range 4096.
+const WIDE_EDGES: &[u8] =
+    b"SEX,person,AREA,record_key,AGE\n1,1,E1,4095,0-15\n1,2,E2,04095,65+\n2,3,E1,256,16-64\n";
+
+static WIDE_THREE: [Person; 3] = [
+    (1, 4095, [0, 0, 0]),
+    (2, 4095, [0, 2, 1]),
+    (3, 256, [1, 1, 0]),
+];
+
+fn wide_three() -> &'static [Person] {
+    &WIDE_THREE
+}
+
+fn has_people(alloc: Global, classes: &[u8], file: &[u8], want: &[Person]) -> bool {
+    let Ok(schema) = Schema::read(alloc, classes, None) else {
         return false;
     };
     match read_people(alloc, &schema, file) {
@@ -263,10 +329,14 @@ fn has_people(alloc: Global, file: &[u8], want: &[Person]) -> bool {
 
 #[test]
 fn microdata(rt: HostRuntime) {
-    assert!(rt; has_people(rt.alloc(), PEOPLE, four()), "small");
-    assert!(rt; has_people(rt.alloc(), EDGES, three()), "edges");
+    assert!(rt; has_people(rt.alloc(), CLASSES, PEOPLE, four()), "small");
+    assert!(rt; has_people(rt.alloc(), CLASSES, EDGES, three()), "edges");
     assert!(rt;
-        has_people(rt.alloc(), b"AREA,AGE,SEX,record_key,person", &[]),
+        has_people(rt.alloc(), WIDE_CLASSES, WIDE_EDGES, wide_three()),
+        "wide edges"
+    );
+    assert!(rt;
+        has_people(rt.alloc(), CLASSES, b"AREA,AGE,SEX,record_key,person", &[]),
         "header"
     );
 }

@@ -1,17 +1,21 @@
 // What is told of a file: its first fault.
 
 use std::alloc::Global;
+use tb_base::Keys;
 use tb_ptable::{PTable, PTableFault};
 use tb_records::{PeopleFault, read_people};
 use tb_rows::{FaultKind, FaultName};
 use tb_schema::{Schema, SchemaFault};
-use tb_small::CLASSES;
+use tb_small::{CLASSES, WIDE_CLASSES};
 
+// A file; the wide ones are read with the key range 4096.
 pub enum File {
     Classes,
     Recodes,
     Ptable,
+    WidePtable,
     People,
+    WidePeople,
 }
 
 // What is told of a file: its fault's number, word and record, or why there is none.
@@ -54,15 +58,15 @@ fn schema_told(alloc: Global, classes: &[u8], recodes: Option<&[u8]>) -> Told {
     }
 }
 
-fn ptable_told(alloc: Global, file: &[u8]) -> Told {
-    match PTable::read(alloc, file) {
+fn ptable_told(alloc: Global, keys: Keys, file: &[u8]) -> Told {
+    match PTable::read(alloc, keys, file) {
         Ok(_) => ACCEPTED,
         Err(fault) => ptable_fault(fault),
     }
 }
 
-fn people_told(alloc: Global, file: &[u8]) -> Told {
-    let Ok(schema) = Schema::read(alloc, CLASSES, None) else {
+fn people_told(alloc: Global, classes: &[u8], file: &[u8]) -> Told {
+    let Ok(schema) = Schema::read(alloc, classes, None) else {
         return MEMORY;
     };
     match read_people(alloc, &schema, file) {
@@ -76,8 +80,10 @@ pub fn told(alloc: Global, file: &File, bytes: &[u8]) -> Told {
     match file {
         File::Classes => schema_told(alloc, bytes, None),
         File::Recodes => schema_told(alloc, CLASSES, Some(bytes)),
-        File::Ptable => ptable_told(alloc, bytes),
-        File::People => people_told(alloc, bytes),
+        File::Ptable => ptable_told(alloc, Keys::K256, bytes),
+        File::WidePtable => ptable_told(alloc, Keys::K4096, bytes),
+        File::People => people_told(alloc, CLASSES, bytes),
+        File::WidePeople => people_told(alloc, WIDE_CLASSES, bytes),
     }
 }
 
@@ -86,7 +92,7 @@ pub fn header_of(file: &File) -> &'static [u8] {
     match file {
         File::Classes => b"variable,code,label\n",
         File::Recodes => b"recode,variable,code,group\n",
-        File::Ptable => b"pcv,ckey,pvalue\n",
-        File::People => b"person,record_key,SEX,AGE,AREA\n",
+        File::Ptable | File::WidePtable => b"pcv,ckey,pvalue\n",
+        File::People | File::WidePeople => b"person,record_key,SEX,AGE,AREA\n",
     }
 }

@@ -31,7 +31,8 @@ fn text_of_ptable_fault(rt: HostRuntime) -> Result<(), Fail> {
     let text = format!(in rt.alloc(); "{fault}")?;
     assert_eq!(rt;
         text.as_str(),
-        "record 7: pcv must be at most 750, ckey at most 255 and pvalue from -1000 to 1000"
+        "record 7: pcv must be at most 750, ckey at most 255 (or 4095 if the classification says \
+            so) and pvalue from -1000 to 1000"
     );
     Ok(())
 }
@@ -45,7 +46,8 @@ fn text_of_people_fault(rt: HostRuntime) -> Result<(), Fail> {
     let text = format!(in rt.alloc(); "{fault}; {}", PeopleFault::Memory)?;
     assert_eq!(rt;
         text.as_str(),
-        "record 12: record_key must be a number from 0 to 255; out of memory"
+        "record 12: record_key must be a number from 0 to 255, or to 4095 if the classification \
+            says so; out of memory"
     );
     Ok(())
 }

@@ -66,6 +66,27 @@ static CLASS_ROWS: [Row; 12] = [
     (File::Classes, b"A,1,\xFF\nA,1\n", 11, "BadLabel", 1),
 ];
 
+// The record that states the key range: not the first, twice, another code, another label.
+static KEY_ROWS: [Row; 11] = [
+    (File::Classes, b"A,1,a\n*,keys,4096\n", 13, "BadKeys", 2),
+    (File::Classes, b"*,keys,256\n*,keys,256\n", 13, "BadKeys", 2),
+    (File::Classes, b"*,key,4096\n", 13, "BadKeys", 1),
+    (File::Classes, b"*,Total,\xFF\n", 13, "BadKeys", 1),
+    (File::Classes, b"*,keys,512\n", 13, "BadKeys", 1),
+    (File::Classes, b"*,keys,\n", 13, "BadKeys", 1),
+    (File::Classes, b"*,keys,0256\n", 13, "BadKeys", 1),
+    (File::Classes, b"*,keys, 256\n", 13, "BadKeys", 1),
+    (File::Classes, b"*,keys\n", 10, "BadCsv", 1),
+    (File::Classes, b"**,keys,256\n", 2, "BadName", 1),
+    (
+        File::Classes,
+        b"*,keys,4096\nA,keys,a\nA,keys,b\n",
+        4,
+        "RepeatedCode",
+        3,
+    ),
+];
+
 static RECODE_ROWS: [Row; 14] = [
     (
         File::Recodes,
@@ -133,7 +154,7 @@ static RECODE_ROWS: [Row; 14] = [
     ),
 ];
 
-static PTABLE_ROWS: [Row; 23] = [
+static PTABLE_ROWS: [Row; 25] = [
     (File::Ptable, b"1,7,1\n2,7\n3,10,-4\n", 7, "BadCsv", 2),
     (File::Ptable, b"x,256\n", 7, "BadCsv", 1),
     (File::Ptable, b",7,1\n", 2, "BadNumber", 1),
@@ -145,7 +166,21 @@ static PTABLE_ROWS: [Row; 23] = [
     (File::Ptable, b"1,7,-00000000001\n", 2, "BadNumber", 1),
     (File::Ptable, b"751,256,1x\n", 2, "BadNumber", 1),
     (File::Ptable, b"751,0,0\n", 3, "OutOfRange", 1),
-    (File::Ptable, b"1,256,0\n", 3, "OutOfRange", 1),
+    (File::Ptable, b"1,255,0\n1,256,0\n", 3, "OutOfRange", 2),
+    (
+        File::WidePtable,
+        b"1,4095,0\n1,4096,0\n",
+        3,
+        "OutOfRange",
+        2,
+    ),
+    (
+        File::WidePtable,
+        b"1,256,0\n2,0,0\n01,0256,0\n",
+        5,
+        "PairTwice",
+        3,
+    ),
     (File::Ptable, b"1,7,1001\n", 3, "OutOfRange", 1),
     (File::Ptable, b"750,7,-1001\n", 3, "OutOfRange", 1),
     (File::Ptable, b"0,256,1\n", 3, "OutOfRange", 1),
@@ -165,12 +200,19 @@ static PTABLE_ROWS: [Row; 23] = [
     (File::Ptable, b"1,7,0\n1,7,0\n1,7\n", 5, "PairTwice", 2),
 ];
 
-static PEOPLE_ROWS: [Row; 16] = [
+static PEOPLE_ROWS: [Row; 17] = [
     (File::People, b"1,2,1,0-15\n", 6, "BadCsv", 1),
     (File::People, b"0000000000,2,1,0-15,E1\n", 2, "BadPerson", 1),
     (File::People, b"4294967296,2,1,0-15,E1\n", 2, "BadPerson", 1),
     (File::People, b" 1,2,1,0-15,E1\n", 2, "BadPerson", 1),
     (File::People, b"1,256,1,0-15,E1\n", 3, "BadKey", 1),
+    (
+        File::WidePeople,
+        b"1,4095,1,0-15,E1\n2,4096,1,0-15,E1\n",
+        3,
+        "BadKey",
+        2,
+    ),
     (File::People, b"1,,1,0-15,E1\n", 3, "BadKey", 1),
     (File::People, b"1,2,1,E1,E1\n", 4, "UnknownCode", 1),
     (File::People, b"1,2,1,0-15,e1\n", 4, "UnknownCode", 1),
@@ -215,6 +257,10 @@ fn class_rows() -> &'static [Row] {
     &CLASS_ROWS
 }
 
+fn key_rows() -> &'static [Row] {
+    &KEY_ROWS
+}
+
 fn recode_rows() -> &'static [Row] {
     &RECODE_ROWS
 }
@@ -251,7 +297,14 @@ fn refused_rows(alloc: Global, rows: &[Row]) -> Result<usize, Memory> {
 
 #[test]
 fn first_faults(rt: HostRuntime) -> Result<(), Fail> {
-    for rows in [class_rows(), recode_rows(), ptable_rows(), people_rows()] {
+    let tables = [
+        class_rows(),
+        key_rows(),
+        recode_rows(),
+        ptable_rows(),
+        people_rows(),
+    ];
+    for rows in tables {
         let refused = refused_rows(rt.alloc(), rows)?;
         assert!(rt; refused == rows.len(), "{} at {refused}", rows.len());
     }

@@ -11,6 +11,9 @@ use crate::variables::{CATEGORIES, Variable};
 use std::alloc::Global;
 use tb_base::Memory;
 
+/// The key range of the files, whose classification states none.
+pub(crate) const KEY_RANGE: u32 = 256;
+
 const CLASSES_HEADER: &[u8] = b"variable,code,label\n";
 
 const RECODES_HEADER: &[u8] = b"recode,variable,code,group\n";

@@ -5,12 +5,13 @@ ghost use Rattle.tb_base.specs.declared.people.TheConstants.{MOST_PERSONS};
 ghost use Rattle.tb_gen.specs.Draws.{after};
 ghost use Rattle.tb_gen.specs.Generated.{person_line, generated_people};
 
+use crate::classes::KEY_RANGE;
 use crate::draws::Draws;
 use crate::heading::headed;
 use crate::line::Line;
 use crate::variables::Variable;
 use std::alloc::Global;
-use tb_base::{KEY_RANGE, Memory};
+use tb_base::Memory;
 
 const HEADER: &[u8] = b"person,record_key,AREA,AGE,SEX,TENURE\n";
 // The longest line is `1000000,255,a99,100,2,5`.
@@ -21,7 +22,7 @@ fn add_person(file: &mut Vec<u8>, person: u32, draws: &mut Draws) -> Result<(), 
     ensures line { OnOk result (file.new.items ≡ file.old.items ++ person_line person draws.old) }
     ensures draws { draws.new ≡ after 5 draws.old }
 {
-    let key = draws.draw() % u32::from(KEY_RANGE);
+    let key = draws.draw() % KEY_RANGE;
     let area = Variable::Area.draw(draws);
     let age = Variable::Age.draw(draws);
     let sex = Variable::Sex.draw(draws);

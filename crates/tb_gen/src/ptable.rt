@@ -1,16 +1,17 @@
 // The perturbation table.
 
 ghost use Rattle.std.specs.Prelude.{◌≡◌, ◌≤◌, ◌<◌, ◌++◌, IfOk, OnOk};
-ghost use Rattle.tb_base.specs.declared.cells.TheConstants.{KEY_RANGE};
+ghost use Rattle.tb_gen.specs.declared.classes.TheConstants.{KEY_RANGE};
 ghost use Rattle.tb_model.specs.declared.rows.TheConstants.{LAST_ROW};
 ghost use Rattle.tb_gen.specs.Draws.{after};
 ghost use Rattle.tb_gen.specs.Generated.{drawn_pvalue, pvalue_line, row_lines, generated_ptable};
 
+use crate::classes::KEY_RANGE;
 use crate::draws::Draws;
 use crate::heading::headed;
 use crate::line::Line;
 use std::alloc::Global;
-use tb_base::{KEY_RANGE, Memory};
+use tb_base::Memory;
 use tb_model::LAST_ROW;
 
 const HEADER: &[u8] = b"pcv,ckey,pvalue\n";
@@ -48,7 +49,7 @@ fn add_row(file: &mut Vec<u8>, pcv: u32, draws: &mut Draws) -> Result<(), Memory
     ensures lines { OnOk result (file.new.items ≡ file.old.items ++ row_lines pcv draws.old) }
     ensures draws { OnOk result (draws.new ≡ after KEY_RANGE draws.old) }
 {
-    for ckey in 0..u32::from(KEY_RANGE) {
+    for ckey in 0..KEY_RANGE {
         add_pvalue(file, pcv, ckey, draws)?;
     }
     Ok(())
@@ -58,7 +59,7 @@ fn add_row(file: &mut Vec<u8>, pcv: u32, draws: &mut Draws) -> Result<(), Memory
 pub(crate) fn ptable_file(alloc: Global, start: u32) -> Result<Vec<u8>, Memory>
     ensures { IfOk result (λ file. file.items ≡ generated_ptable start) }
 {
-    let lines = LAST_ROW as usize * usize::from(KEY_RANGE);
+    let lines = LAST_ROW as usize * KEY_RANGE as usize;
     let mut file = headed(alloc, HEADER, HEADER.len() + lines * LONGEST)?;
     let seed = start.wrapping_add(1);
     let mut draws = Draws::from(seed);

@@ -1,6 +1,6 @@
 // Lines that read as an edit, and lines that are refused.
 
-use crate::making::schema;
+use crate::making::{schema, wide_schema};
 use std::alloc::Global;
 use std::test::Fail;
 use tb_base::{Codes, Memory};
@@ -56,7 +56,7 @@ fn drops_are_read(rt: HostRuntime) -> Result<(), Fail> {
 }
 
 // A line, its person and key, and the categories of SEX, AGE and AREA.
-type Added = (&'static str, u32, u8, u16, u16, u16);
+type Added = (&'static str, u32, u16, u16, u16, u16);
 
 static ADDS: [Added; 3] = [
     ("  add\t200   9\tSEX=1\tAGE=65+\tAREA=E1  ", 200, 9, 0, 2, 0),
@@ -80,6 +80,16 @@ static ADDS: [Added; 3] = [
 
 fn adds() -> &'static [Added] {
     &ADDS
+}
+
+// With the key range 4096.
+static WIDE_ADDS: [Added; 2] = [
+    ("add 300 4095 SEX=1 AGE=65+ AREA=E1", 300, 4095, 0, 2, 0),
+    ("add 300 00256 SEX=2 AGE=65+ AREA=E2", 300, 256, 1, 2, 1),
+];
+
+fn wide_adds() -> &'static [Added] {
+    &WIDE_ADDS
 }
 
 fn are_codes(codes: &Codes, sex: u16, age: u16, area: u16) -> bool {
@@ -108,8 +118,8 @@ fn reads_as_add(alloc: Global, schema: &Schema, row: &Added) -> bool {
 }
 
 // The place of the first row whose line isn't.
-fn wrong_add(alloc: Global, schema: &Schema) -> Option<usize> {
-    for (i, row) in adds().iter().enumerate() {
+fn wrong_add(alloc: Global, schema: &Schema, rows: &[Added]) -> Option<usize> {
+    for (i, row) in rows.iter().enumerate() {
         if !reads_as_add(alloc, schema, row) {
             return Some(i);
         }
@@ -119,12 +129,18 @@ fn wrong_add(alloc: Global, schema: &Schema) -> Option<usize> {
 
 fn wrong_add_of_small(alloc: Global) -> Result<Option<usize>, Memory> {
     let schema = schema(alloc)?;
-    Ok(wrong_add(alloc, &schema))
+    Ok(wrong_add(alloc, &schema, adds()))
+}
+
+fn wrong_add_of_wide(alloc: Global) -> Result<Option<usize>, Memory> {
+    let schema = wide_schema(alloc)?;
+    Ok(wrong_add(alloc, &schema, wide_adds()))
 }
 
 #[test]
 fn adds_are_read(rt: HostRuntime) -> Result<(), Fail> {
     assert_eq!(rt; wrong_add_of_small(rt.alloc())?, None);
+    assert_eq!(rt; wrong_add_of_wide(rt.alloc())?, None);
     Ok(())
 }
 
@@ -238,6 +254,16 @@ fn refused() -> &'static [Refused] {
     &REFUSED
 }
 
+// With the key range 4096.
+static WIDE_REFUSED: [Refused; 2] = [
+    (b"add 300 4096 SEX=1 AGE=65+ AREA=E1", 2, "BadNumber"),
+    (b"add 300 65536 SEX=1 AGE=65+ AREA=E1", 2, "BadNumber"),
+];
+
+fn wide_refused() -> &'static [Refused] {
+    &WIDE_REFUSED
+}
+
 fn is_fault(fault: EditTextFault, number: u8, word: &str) -> bool {
     match fault.name() {
         Some(name) => name.number() == number && name.word() == word,
@@ -253,8 +279,8 @@ fn is_refused(alloc: Global, schema: &Schema, line: &[u8], number: u8, word: &st
 }
 
 // The place of the first line that isn't refused so.
-fn wrong_refusal(alloc: Global, schema: &Schema) -> Option<usize> {
-    for (i, (line, number, word)) in refused().iter().enumerate() {
+fn wrong_refusal(alloc: Global, schema: &Schema, rows: &[Refused]) -> Option<usize> {
+    for (i, (line, number, word)) in rows.iter().enumerate() {
         if !is_refused(alloc, schema, line, *number, word) {
             return Some(i);
         }
@@ -264,12 +290,18 @@ fn wrong_refusal(alloc: Global, schema: &Schema) -> Option<usize> {
 
 fn wrong_refusal_of_small(alloc: Global) -> Result<Option<usize>, Memory> {
     let schema = schema(alloc)?;
-    Ok(wrong_refusal(alloc, &schema))
+    Ok(wrong_refusal(alloc, &schema, refused()))
+}
+
+fn wrong_refusal_of_wide(alloc: Global) -> Result<Option<usize>, Memory> {
+    let schema = wide_schema(alloc)?;
+    Ok(wrong_refusal(alloc, &schema, wide_refused()))
 }
 
 #[test]
 fn edit_refusals(rt: HostRuntime) -> Result<(), Fail> {
     assert_eq!(rt; wrong_refusal_of_small(rt.alloc())?, None);
+    assert_eq!(rt; wrong_refusal_of_wide(rt.alloc())?, None);
     Ok(())
 }
 

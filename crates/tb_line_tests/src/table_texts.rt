@@ -1,6 +1,6 @@
 // Worked tables by their bytes, with ample memory.
 
-ghost use Rattle.std.specs.Prelude.{◌≤◌, All, IfOk};
+ghost use Rattle.std.specs.Prelude.{◌≡◌, ◌≤◌, All, IfOk};
 ghost use Rattle.tb_base.specs.declared.people.TheConstants.{MOST_PERSONS};
 ghost use Rattle.tb_schema.specs.Names.{IsName};
 
@@ -8,12 +8,12 @@ use crate::counting::CountingSink;
 use crate::making::schema_of;
 use std::alloc::Global;
 use std::test::Fail;
-use tb_base::{Cell, MOST_PERSONS, Memory};
+use tb_base::{Cell, Keys, MOST_PERSONS, Memory};
 use tb_io::{MemSink, Wrote};
 use tb_ptable::PTable;
 use tb_query::{MOST_QUERY_BYTES, Query, read_query};
 use tb_schema::Schema;
-use tb_small::{CLASSES, PTABLE, RECODES};
+use tb_small::{CLASSES, PTABLE, RECODES, WIDE_CLASSES};
 use tb_text::{Setup, table_text, write_table};
 
 struct Row {
@@ -22,7 +22,7 @@ struct Row {
     threshold: u32,
     query: &'static [u8],
     number: u32,
-    cells: &'static [(u32, u8)],
+    cells: &'static [(u32, u16)],
     text: &'static [u8],
 }
 
@@ -31,7 +31,7 @@ const OTHER: &[u8] = b"variable,code,label\nSEX,1,Male\nSEX,2,\nAGE,0-15,\nAGE,1
     AREA,E1,\"a \"\"b\"\" c\"\nAREA,E2,\nAREA,E3,K\xc3\xb6ln and its surroundings\n\
     AREA,E4,\"x,y\"\n";
 
-static ROWS: [Row; 5] = [
+static ROWS: [Row; 6] = [
     Row {
         name: "labels_with_commas",
         classes: CLASSES,
@@ -39,19 +39,28 @@ static ROWS: [Row; 5] = [
         query: b"table AREA by SEX with totals with labels",
         number: 0,
         cells: &[
-            (2, 44),
+            (2, 300),
             (0, 0),
-            (2, 44),
+            (2, 300),
             (1, 20),
             (1, 7),
             (2, 27),
-            (3, 64),
+            (3, 320),
             (1, 7),
-            (4, 71),
+            (4, 327),
         ],
         text: b"release 0\nAREA,SEX,count\n\"North, rural\",Male,2\n\"North, rural\",Female,0\n\
             \"North, rural\",Total,2\nSouth,Male,1\nSouth,Female,2\nSouth,Total,1\n\
             Total,Male,1\nTotal,Female,2\nTotal,Total,6\n.\n",
+    },
+    Row {
+        name: "key_range_of_the_classification",
+        classes: WIDE_CLASSES,
+        threshold: 0,
+        query: b"table SEX",
+        number: 0,
+        cells: &[(3, 320), (1, 7)],
+        text: b"release 0\nSEX,count\n1,3\n2,2\n.\n",
     },
     Row {
         name: "a_group_has_no_label",
@@ -117,8 +126,8 @@ fn rows() -> &'static [Row] {
     &ROWS
 }
 
-// The cells of these counts and keys, if each has few enough persons.
-fn few_cells(alloc: Global, counts: &[(u32, u8)]) -> Result<Vec<Cell>, Memory>
+// The cells of these counts and key sums, if each has few enough persons.
+fn few_cells(alloc: Global, counts: &[(u32, u16)]) -> Result<Vec<Cell>, Memory>
     ensures { IfOk result (λ cells. All (λ cell. cell.count ≤ MOST_PERSONS) cells.items) }
 {
     let mut cells = Vec::new(alloc);
@@ -132,17 +141,21 @@ fn few_cells(alloc: Global, counts: &[(u32, u8)]) -> Result<Vec<Cell>, Memory>
     Ok(cells)
 }
 
-fn ptable(alloc: Global) -> Result<PTable, Memory> {
-    match PTable::read(alloc, PTABLE) {
+fn ptable(alloc: Global, keys: Keys) -> Result<PTable, Memory>
+    ensures { IfOk result (λ table. table.keys ≡ keys) }
+{
+    match PTable::read(alloc, keys, PTABLE) {
         Ok(ptable) => Ok(ptable),
         Err(_) => Err(Memory),
     }
 }
 
 fn setup_of(alloc: Global, row: &Row) -> Result<Setup, Memory> {
+    let schema = schema_of(alloc, row.classes, Some(RECODES))?;
+    let ptable = ptable(alloc, schema.keys())?;
     Ok(Setup {
-        schema: schema_of(alloc, row.classes, Some(RECODES))?,
-        ptable: ptable(alloc)?,
+        schema,
+        ptable,
         threshold: row.threshold,
     })
 }
@@ -283,9 +296,11 @@ fn large_schema(alloc: Global) -> Result<Schema, Memory> {
 }
 
 fn large_setup(alloc: Global) -> Result<Setup, Memory> {
+    let schema = large_schema(alloc)?;
+    let ptable = ptable(alloc, schema.keys())?;
     Ok(Setup {
-        schema: large_schema(alloc)?,
-        ptable: ptable(alloc)?,
+        schema,
+        ptable,
         threshold: 0,
     })
 }

@@ -1,5 +1,6 @@
 -- A small setup with worked tables.
 use Rattle.std.specs.Prelude.{ℕ, ℤ, pos, negsuc, List, [], ◌∷◌, codes, false, true}
+use Rattle.tb_base.specs.declared.keys.Keys.TheVariants.{K256, K4096}
 use Rattle.tb_base.specs.declared.records.Record.{Record}
 use Rattle.tb_model.specs.declared.names.NameOf.{NameOf}
 use Rattle.tb_model.specs.declared.names.NameOf.TheVariants as name_of
@@ -19,6 +20,7 @@ person number key codes' = record { person = number; key = key; codes = codes' }
 
 abbrev pub schema : SchemaValue
 schema = record {
+  keys = K256;
   variables =
       record { name = codes "SEX"; categories = category (codes "1") (codes "Male") ∷ category (codes "2") (codes "Female") ∷ [] }
       ∷ record { name = codes "AGE"; categories = category (codes "0-15") (codes "Under 16") ∷ category (codes "16-64") (codes "Working age") ∷ category (codes "65+") (codes "65 and over") ∷ [] }
@@ -41,6 +43,10 @@ records =
 -- the setup with these lines of the perturbation table and this threshold
 abbrev pub setup : List PerturbationLine → ℕ → SetupValue
 setup listed threshold = record { schema = schema; lines = listed; threshold = threshold }
+
+-- the same with the key range 4096
+abbrev pub wide_setup : List PerturbationLine → ℕ → SetupValue
+wide_setup listed threshold = record (setup listed threshold) { schema = record schema { keys = K4096 } }
 
 abbrev pub sex : NameOf
 sex = name_of.Variable 0

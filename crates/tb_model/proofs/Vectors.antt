@@ -1,5 +1,5 @@
 -- Worked tables, computed from the definitions.
-use Rattle.std.specs.Prelude.{◌≡◌, refl, ℕ, List, [], ◌∷◌, codes, Some, pos, negsuc, map}
+use Rattle.std.specs.Prelude.{◌≡◌, refl, ℕ, List, [], ◌∷◌, ◌++◌, drop, codes, Some, pos, negsuc, map}
 use Rattle.std.specs.List.{range_with_len}
 use Rattle.tb_model.specs.declared.names.PerturbationLine.{PerturbationLine}
 use Rattle.tb_base.specs.declared.records.Record.{Record}
@@ -7,7 +7,7 @@ use Rattle.tb_model.specs.Perturbations.{row_of_count}
 use Rattle.tb_model.specs.Releases.{first_release}
 use Rattle.tb_model.specs.Queries.{QueryValue}
 use Rattle.tb_model.specs.Texts.{table_text}
-use Rattle.tb_model.proofs.SmallSetup.{person, line, setup, lines, records, sex, age, area, age2, table, with_totals, with_labels, where_in, where_not_in}
+use Rattle.tb_model.proofs.SmallSetup.{person, line, setup, wide_setup, lines, records, sex, age, area, age2, table, with_totals, with_labels, where_in, where_not_in}
 use Rattle.tb_model.proofs.OnLiterals.{tables_on_literals}
 
 -- the table at release 0, above a threshold
@@ -85,3 +85,19 @@ shown_at_1000 = refl
 shown_at_1001 : printed_of (line 501 233 (pos 5)) 1001 ≡ codes "release 0\nSEX,count\n1,1006\n2,0\n.\n"
 unfolding tables_on_literals
 shown_at_1001 = refl
+
+-- the table by SEX of some persons, with the key range 4096 and one more line of the perturbation table
+abbrev printed_wide : PerturbationLine → List Record → List ℕ
+printed_wide listed people = let s = wide_setup (lines ++ listed ∷ []) 0 in table_text s (first_release s people) (table (sex ∷ []))
+
+key_range_of_the_classification : printed_wide (line 3 320 (negsuc 0)) records ≡ codes "release 0\nSEX,count\n1,2\n2,2\n.\n"
+unfolding tables_on_literals
+key_range_of_the_classification = refl
+
+-- the persons of the small setup, of whom the first has a key that passes 4095 in the sum
+abbrev wide_records : List Record
+wide_records = person 101 4000 (0 ∷ 0 ∷ 0 ∷ []) ∷ drop 1 records
+
+sum_that_passes_4095 : printed_wide (line 3 24 (pos 2)) wide_records ≡ codes "release 0\nSEX,count\n1,5\n2,2\n.\n"
+unfolding tables_on_literals
+sum_that_passes_4095 = refl

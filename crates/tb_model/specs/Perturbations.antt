@@ -4,6 +4,8 @@ use Rattle.std.specs.Prelude.{ℤ, pos, ◌+ℤ◌, int_lt, nat_abs}
 use Rattle.std.specs.Prelude.{List, Option, Some, None, find, codes, decimal}
 use Rattle.std.specs.Option.{option_map_or}
 use Rattle.tb_base.specs.declared.cells.Cell.{Cell}
+use Rattle.tb_base.specs.declared.keys.Keys.{Keys}
+use Rattle.tb_base.specs.Keys.{ckey_of}
 use Rattle.tb_model.specs.declared.names.PerturbationLine.{PerturbationLine}
 use Rattle.tb_model.specs.declared.rows.TheConstants.{LARGE_ROWS, LARGE_ROWS_BEGIN, LAST_ROW}
 use Rattle.tb_model.specs.declared.names.Shown.{Shown}
@@ -23,13 +25,18 @@ pvalue_at lines row ckey =
     option_map_or (λ line. line.pvalue)
     (find (λ line. (line.pcv == row) && (line.ckey == ckey)) lines) (pos 0)
 
--- the perturbation of a count and a cell key, by the pvalue at each row and cell key; an empty cell
--- has none
-abbrev pub perturbation : (ℕ → ℕ → ℤ) → ℕ → ℕ → ℤ
-perturbation pvalues count ckey =
-    option_map_or (λ row. pvalues row ckey) (row_of_count count) (pos 0)
+-- the pvalues at each row and key sum, of those at each row and cell key: the cell key is the sum
+-- modulo the key range
+abbrev pub by_sum : Keys → (ℕ → ℕ → ℤ) → ℕ → ℕ → ℤ
+by_sum keys pvalues row sum = pvalues row (ckey_of keys sum)
 
--- a cell's count with its perturbation
+-- the perturbation of a count and a cell key, by the pvalue at each row and cell key, or of a count
+-- and a key sum, by that at each row and key sum; an empty cell has none
+abbrev pub perturbation : (ℕ → ℕ → ℤ) → ℕ → ℕ → ℤ
+perturbation pvalues count key =
+    option_map_or (λ row. pvalues row key) (row_of_count count) (pos 0)
+
+-- a cell's count with its perturbation, by the pvalue at each row and key sum
 abbrev pub perturbed : (ℕ → ℕ → ℤ) → Cell → ℤ
 perturbed pvalues cell = pos cell.count +ℤ perturbation pvalues cell.count cell.key
 

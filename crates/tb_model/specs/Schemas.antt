@@ -1,6 +1,7 @@
--- A classification: the variables with their categories, and the recodes that group the categories
--- of a variable.
+-- A classification: its key range, the variables with their categories, and the recodes that group
+-- the categories of a variable.
 use Rattle.std.specs.Prelude.{ℕ, List, [], length, map, slice_index, slice_index_or}
+use Rattle.tb_base.specs.declared.keys.Keys.{Keys}
 use Rattle.tb_model.specs.declared.names.NameOf.{NameOf}
 use Rattle.tb_model.specs.declared.names.NameOf.TheVariants as name_of
 
@@ -22,8 +23,10 @@ pub record RecodeValue : Type 0 where
   pub groups : List (List ℕ)
   pub group_of : List ℕ
 
--- the variables and the recodes, each in the order of first appearance in its file
+-- the key range, and the variables and the recodes, each in the order of first appearance in its
+-- file
 pub record SchemaValue : Type 0 where
+  pub keys : Keys
   pub variables : List VariableValue
   pub recodes : List RecodeValue
 

@@ -36,6 +36,6 @@ pub enum Shown {
 #[derive(Clone, Copy, Debug, PartialEq, Eq)]
 pub struct PerturbationLine {
     pub pcv: u16,
-    pub ckey: u8,
+    pub ckey: u16,
     pub pvalue: i16,
 }

@@ -43,7 +43,7 @@ impl Register {
     }
 
     /// The key that a person has or had.
-    pub fn key_of(&self, person: u32) -> Option<u8>
+    pub fn key_of(&self, person: u32) -> Option<u16>
         ensures { result ≡ get (keys_in self.now.book) person }
     {
         match self.book.get(person) {

@@ -10,7 +10,7 @@ use tb_base::Memory;
 #[derive(Clone, Copy, Debug)]
 pub struct Entry {
     pub person: u32,
-    pub key: u8,
+    pub key: u16,
     pub page: Option<u16>,
 }
 

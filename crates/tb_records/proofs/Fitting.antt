@@ -6,9 +6,11 @@ use Rattle.std.proofs.lemmas.Bool.Decides.{nat_tests}
 use Rattle.std.proofs.lemmas.List.{length-drop, length-map}
 use Rattle.std.proofs.lemmas.List.Elements.{All-cons, All-nil}
 use Rattle.std.proofs.lemmas.List.Quantifiers.{position-Some}
+use Rattle.tb_base.specs.Keys.{key_range}
 use Rattle.tb_base.specs.Numbers.{number_of}
 use Rattle.tb_base.specs.Records.{AllFit, Fits}
-use Rattle.tb_base.specs.declared.cells.TheConstants.{KEY_RANGE}
+use Rattle.tb_base.specs.declared.keys.Keys.{Keys}
+use Rattle.tb_base.specs.declared.keys.TheConstants.{MOST_KEYS}
 use Rattle.tb_base.specs.declared.people.TheConstants.{MOST_PERSONS}
 use Rattle.tb_base.specs.declared.records.Record.{Record}
 use Rattle.tb_model.specs.Schemas.{CategoryValue, SchemaValue, VariableValue, shape_of}
@@ -16,6 +18,7 @@ use Rattle.tb_base.specs.Lists.{all_some}
 use Rattle.tb_rows.specs.Columns.{only_index, fields_at}
 use Rattle.tb_rows.specs.Formats.{line_under}
 use Rattle.tb_base.proofs.AllThere.{first-some, length-all_some}
+use Rattle.tb_base.proofs.KeyLemmas.{key-most}
 use Rattle.tb_rows.proofs.WholeFiles.{accepted_where}
 use Rattle.tb_schema.specs.Names.{place_in}
 use Rattle.tb_records.specs.People.{category_under, people_file, people_of, record_in, record_of}
@@ -44,10 +47,10 @@ categories-below (x ∷ vs) (field ∷ fields) cs long h =
     let (count, below) = categories-below vs fields more (omega (arith, long)) others in
     rw same (ap (λ n. suc n) count, below-more c (length x.categories) more (map (λ v. length v.categories) vs) (code-below x.categories field c one) below)
 
--- a key that is read is in range
-key-in : (o : Option ℕ) (key : ℕ) → option_and_then (λ n. if nat_lt n KEY_RANGE then Some n else None) o ≡ Some key → key < KEY_RANGE
-key-in None key h = cc
-key-in (Some n) key h = elim (cases_Bool (nat_lt n KEY_RANGE)) [
+-- a key that is read is below the key range
+key-in : (keys : Keys) (o : Option ℕ) (key : ℕ) → option_and_then (λ n. if nat_lt n (key_range keys) then Some n else None) o ≡ Some key → key < key_range keys
+key-in keys None key h = cc
+key-in keys (Some n) key h = elim (cases_Bool (nat_lt n (key_range keys))) [
   | inl t ↦ let same : n ≡ key = (let g = rw t at h in cc) in grind (arith, nat_tests)
   | inr t ↦ let g = rw t at h in cc
 ]
@@ -72,7 +75,7 @@ record-fits schema fields one long h =
     record {
       long = count ∙ sym (length-map schema.variables (λ (v : VariableValue). length v.categories));
       below = below;
-      key = key-in (number_of (get_or fields 1 [])) one.key key;
+      key = key-most schema.keys one.key (key-in schema.keys (number_of (get_or fields 1 [])) one.key key);
     }
 
 module _ (schema : SchemaValue) (width : ℕ) (indices : List ℕ) (long : length indices ≡ length schema.variables + 2) where

@@ -1,9 +1,10 @@
 -- What microdata says: its records, or its first fault.
 use Rattle.std.specs.Prelude.{◌==◌, ℕ, List, [], ◌∷◌, ◌++◌, codes, drop, length, map, zip, Option, Some, None, Result, Ok, Err, nat_le, nat_lt, get_or, option_and_then, if◌then◌else◌}
+use Rattle.tb_base.specs.Keys.{key_range}
 use Rattle.tb_base.specs.Lists.{all_some}
 use Rattle.tb_base.specs.Numbers.{number_of}
 use Rattle.tb_base.specs.Persons.{has_person}
-use Rattle.tb_base.specs.declared.cells.TheConstants.{KEY_RANGE}
+use Rattle.tb_base.specs.declared.keys.Keys.{Keys}
 use Rattle.tb_base.specs.declared.people.TheConstants.{MOST_PERSONS}
 use Rattle.tb_base.specs.declared.records.Record.{Record}
 use Rattle.tb_model.specs.Schemas.{SchemaValue, VariableValue}
@@ -18,8 +19,9 @@ abbrev pub person_of : List ℕ → Option ℕ
 person_of text = option_and_then (λ n. if n == 0 then None else Some n) (number_of text)
 
 -- a record key is a number below the key range
-abbrev pub key_of : List ℕ → Option ℕ
-key_of text = option_and_then (λ n. if nat_lt n KEY_RANGE then Some n else None) (number_of text)
+abbrev pub key_of : Keys → List ℕ → Option ℕ
+key_of keys text =
+    option_and_then (λ n. if nat_lt n (key_range keys) then Some n else None) (number_of text)
 
 -- the category of a variable whose code is this field, if there is one
 abbrev pub category_under : VariableValue × List ℕ → Option ℕ
@@ -41,7 +43,7 @@ record_of None key categories = Err BadPerson
 -- by themselves
 abbrev pub record_in : SchemaValue → List (List ℕ) → Result Record PeopleKind
 record_in schema fields =
-    record_of (person_of (get_or fields 0 [])) (key_of (get_or fields 1 []))
+    record_of (person_of (get_or fields 0 [])) (key_of schema.keys (get_or fields 1 []))
     (categories_under schema (drop 2 fields))
 
 -- the records with one more, or its fault beside those before it

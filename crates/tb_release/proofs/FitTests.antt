@@ -6,7 +6,7 @@ use Rattle.std.specs.List.{list_all, AllByRecursion}
 use Rattle.std.proofs.lemmas.Bool.{and_from, and_parts, lt-ltb, ltb-true}
 use Rattle.std.proofs.lemmas.List.{drop_more}
 use Rattle.std.proofs.lemmas.List.Elements.{All-from_recursion, recursion_from_All}
-use Rattle.tb_base.specs.declared.cells.TheConstants.{KEY_RANGE}
+use Rattle.tb_base.specs.declared.keys.TheConstants.{MOST_KEYS}
 use Rattle.tb_base.specs.declared.records.Record.{Record}
 use Rattle.tb_base.specs.Records.{Fits}
 use Rattle.tb_release.specs.declared.edits.Edit.{Edit}
@@ -106,12 +106,12 @@ setting_back shape s h =
 pub record_told : (shape : List ℕ) (person key : ℕ) (codes : List ℕ) → record_fits shape key codes ≡ true
     → Fits shape (record { person = person; key = key; codes = codes })
 record_told shape person key codes h =
-    let parts = and_parts (nat_lt key KEY_RANGE) (codes_fit shape codes) h in
-    record { long = long shape codes parts.1; below = below shape codes parts.1; key = ltb-true key KEY_RANGE parts.0 }
+    let parts = and_parts (nat_lt key MOST_KEYS) (codes_fit shape codes) h in
+    record { long = long shape codes parts.1; below = below shape codes parts.1; key = ltb-true key MOST_KEYS parts.0 }
 
 pub record_back : (shape : List ℕ) (r : Record) → Fits shape r → record_fits shape r.key r.codes ≡ true
 record_back shape r fits =
-    and_from (nat_lt r.key KEY_RANGE) (codes_fit shape r.codes) (lt-ltb r.key KEY_RANGE fits.key)
+    and_from (nat_lt r.key MOST_KEYS) (codes_fit shape r.codes) (lt-ltb r.key MOST_KEYS fits.key)
     (fit_back shape r.codes fits.long fits.below)
 
 pub sets_told : (shape : List ℕ) (sets : List (ℕ × ℕ)) → list_all (setting_fits shape) sets ≡ true → AllByRecursion (Set shape) sets

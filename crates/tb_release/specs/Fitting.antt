@@ -2,7 +2,7 @@
 use Rattle.std.specs.Prelude.{ℕ, ◌&&◌, Bool, true, false, List, [], ◌∷◌, length, nat_lt}
 use Rattle.std.specs.Prelude.{slice_index}
 use Rattle.std.specs.List.{list_all}
-use Rattle.tb_base.specs.declared.cells.TheConstants.{KEY_RANGE}
+use Rattle.tb_base.specs.declared.keys.TheConstants.{MOST_KEYS}
 use Rattle.tb_release.specs.declared.edits.Edit.{Edit}
 use Rattle.tb_release.specs.declared.edits.Edit.TheVariants.{Add, Drop, Amend}
 
@@ -15,7 +15,7 @@ codes_fit (n ∷ shape) (c ∷ codes) = nat_lt c n && codes_fit shape codes
 
 -- whether a record with this key and these categories fits a shape
 abbrev pub record_fits : List ℕ → ℕ → List ℕ → Bool
-record_fits shape key codes = nat_lt key KEY_RANGE && codes_fit shape codes
+record_fits shape key codes = nat_lt key MOST_KEYS && codes_fit shape codes
 
 -- whether a setting is of a variable of the shape, and of a category that it has
 abbrev pub setting_fits : List ℕ → ℕ × ℕ → Bool

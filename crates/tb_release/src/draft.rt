@@ -112,7 +112,7 @@ impl Draft {
         }
     }
 
-    fn refusal_of_add(&self, person: u32, key: u8) -> Option<EditFaultKind>
+    fn refusal_of_add(&self, person: u32, key: u16) -> Option<EditFaultKind>
         requires { IsDraft self.now }
         ensures { result ≡ refusal (release_of self.now) (edits.Add person key []) }
     {
@@ -154,7 +154,7 @@ impl Draft {
     }
 
     // Puts a person's record last.
-    fn add(&mut self, alloc: Global, person: u32, key: u8, codes: &Codes) -> Result<Change, Memory>
+    fn add(&mut self, alloc: Global, person: u32, key: u16, codes: &Codes) -> Result<Change, Memory>
         requires draft { IsDraft self.old }
         requires room { self.old.changes + self.old.made < MOST_CHANGES }
         requires possible { CanAdd (release_of self.old) person key }
@@ -221,7 +221,7 @@ impl Draft {
 }
 
 // Whether a key that a person has is another than this.
-fn is_other(old: Option<u8>, key: u8) -> bool
+fn is_other(old: Option<u16>, key: u16) -> bool
     ensures { result ≡ option_map_or (λ old. not (old == key)) old false }
 {
     match old {

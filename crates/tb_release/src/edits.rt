@@ -52,7 +52,7 @@ impl Sets {
 /// in it.
 #[derive(Debug, Drop)]
 pub enum Edit {
-    Add { person: u32, key: u8, codes: Codes },
+    Add { person: u32, key: u16, codes: Codes },
     Drop { person: u32 },
     Amend { person: u32, sets: Sets },
 }

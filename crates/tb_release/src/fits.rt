@@ -2,7 +2,7 @@
 
 ghost use Rattle.std.specs.Prelude.{◌≡◌, ◌↔◌, ℕ, true, nat_lt, All};
 ghost use Rattle.std.specs.List.{list_all};
-ghost use Rattle.tb_base.specs.declared.cells.TheConstants.{KEY_RANGE as LIMIT};
+ghost use Rattle.tb_base.specs.declared.keys.TheConstants.{MOST_KEYS as LIMIT};
 ghost use Rattle.tb_base.specs.Records.{AllFit, Fits};
 ghost use Rattle.tb_release.specs.declared.edits.Edit.TheVariants as edits;
 ghost use Rattle.tb_release.specs.Fitting.{codes_fit, edit_fits as is_fit, edits_fit as are_fit};
@@ -10,11 +10,11 @@ ghost use Rattle.tb_release.specs.Fitting.{record_fits as is_record, setting_fit
 ghost use Rattle.tb_release.specs.Laws.{EditFits};
 
 use crate::edits::{Edit, Edits, Sets};
-use tb_base::{Codes, KEY_RANGE, Record, Shape};
+use tb_base::{Codes, MOST_KEYS, Record, Shape};
 
-/// Whether a record with this key and these categories fits a shape: its key is in range, and it
-/// has one category of each variable, and one that the variable has.
-pub fn record_fits(shape: &Shape, key: u8, codes: &Codes) -> bool
+/// Whether a record with this key and these categories fits a shape: its key is below `MOST_KEYS`,
+/// and it has one category of each variable, and one that the variable has.
+pub fn record_fits(shape: &Shape, key: u16, codes: &Codes) -> bool
     ensures test { result ≡ is_record shape.now key codes.now }
     ensures told { result ≡ true → (person : ℕ)
         → Fits shape.now (record { person = person; key = key; codes = codes.now }) }
@@ -78,11 +78,11 @@ pub fn edits_fit(shape: &Shape, edits: &Edits) -> bool
     true
 }
 
-// Whether it is in the range of keys, as each number of its type is while that range is 256.
-fn is_key(key: u8) -> bool
+// Whether a key is below the largest key range.
+fn is_key(key: u16) -> bool
     ensures { result ≡ nat_lt key LIMIT }
 {
-    u16::from(key) < KEY_RANGE
+    key < MOST_KEYS
 }
 
 // Whether there is one category of each variable, and one that the variable has.

@@ -2,15 +2,19 @@
 use Rattle.std.proofs.Common.{◌≡◌, ◌∙◌, sym, refl, subst, ℕ, zero, suc, ◌+◌, ◌==◌, ◌<◌, Bool, true, false, List, [], ◌∷◌, length, map, get_or, Option, Some, None, arith}
 use Rattle.std.specs.Prelude.{bytes_eq, if◌then◌else◌, is_none, nat_lt, option_and_then, slice_index, unwrap_or}
 use Rattle.std.specs.List.{AllByRecursion, list_any, range_with_len}
+use Rattle.std.proofs.lemmas.Bool.{ltb-true}
 use Rattle.std.proofs.lemmas.Bool.Decides.{nat_tests}
 use Rattle.std.proofs.lemmas.List.{get_or-map, length-map}
 use Rattle.std.proofs.lemmas.List.FromFn.{length-range_with_len}
 use Rattle.std.proofs.lemmas.List.Quantifiers.{position-Some}
+use Rattle.tb_base.specs.Keys.{key_range}
 use Rattle.tb_base.specs.Lists.{all_some}
 use Rattle.tb_base.specs.Numbers.{number_of}
 use Rattle.tb_base.specs.Records.{Fits}
-use Rattle.tb_base.specs.declared.cells.TheConstants.{KEY_RANGE}
+use Rattle.tb_base.specs.declared.keys.Keys.{Keys}
+use Rattle.tb_base.specs.declared.keys.TheConstants.{MOST_KEYS}
 use Rattle.tb_base.proofs.AllThere.{first-some, length-all_some}
+use Rattle.tb_base.proofs.KeyLemmas.{key-most}
 use Rattle.tb_base.proofs.Options.{none_both}
 use Rattle.tb_model.specs.Schemas.{CategoryValue, SchemaValue, VariableValue, shape_of, variable_at}
 use Rattle.tb_schema.specs.Names.{place_in}
@@ -117,34 +121,35 @@ categories-below shape sets a (suc n) cs fits h (suc v) l =
 categories-long : (sets : List (ℕ × ℕ)) (n : ℕ) (cs : List ℕ) → categories_set sets n ≡ Some cs → length cs ≡ n
 categories-long sets n cs h = length-all_some (map (category_set sets) (range_with_len 0 n)) cs h ∙ length-map (range_with_len 0 n) (category_set sets) ∙ length-range_with_len 0 n
 
-key-of-below : (n : ℕ) (b : Bool) → nat_lt n KEY_RANGE ≡ b → unwrap_or (if nat_lt n KEY_RANGE then Some n else None) 0 < KEY_RANGE
-key-of-below n true e = rw e (grind (arith, nat_tests))
-key-of-below n false e = rw e (omega arith)
+-- a key that is read is below the largest key range
+key-of-below : (keys : Keys) (n : ℕ) (b : Bool) → nat_lt n (key_range keys) ≡ b → unwrap_or (if nat_lt n (key_range keys) then Some n else None) 0 < MOST_KEYS
+key-of-below keys n true e = rw e (key-most keys n (ltb-true n (key_range keys) e))
+key-of-below keys n false e = rw e (omega arith)
 
-key-below : (o : Option ℕ) → unwrap_or (option_and_then (λ n. if nat_lt n KEY_RANGE then Some n else None) o) 0 < KEY_RANGE
-key-below None = omega arith
-key-below (Some n) = key-of-below n (nat_lt n KEY_RANGE) refl
+key-below : (keys : Keys) (o : Option ℕ) → unwrap_or (option_and_then (λ n. if nat_lt n (key_range keys) then Some n else None) o) 0 < MOST_KEYS
+key-below keys None = omega arith
+key-below keys (Some n) = key-of-below keys n (nat_lt n (key_range keys)) refl
 
 fits-add : (schema : SchemaValue) (person key : List ℕ) (ss : List NamedSetting) (cs : List ℕ) → AllByRecursion (SetFits (shape_of schema)) (sets_meant schema ss) → categories_named schema ss ≡ Some cs
-    → Fits (shape_of schema) (record { person = person_meant person; key = key_meant key; codes = cs })
+    → Fits (shape_of schema) (record { person = person_meant person; key = key_meant schema.keys key; codes = cs })
 fits-add schema person key ss cs fits h =
     let long : length (shape_of schema) ≡ length schema.variables = length-map schema.variables (λ (v : VariableValue). length v.categories) in
     record {
       long = categories-long (sets_meant schema ss) (length schema.variables) cs h ∙ sym long;
       below = λ v l. moved (shape_of schema) (get_or cs v 0) (0 + v) v (omega arith) (categories-below (shape_of schema) (sets_meant schema ss) 0 (length schema.variables) cs fits h v (omega (arith, l, long)));
-      key = key-below (number_of key);
+      key = key-below schema.keys (number_of key);
     }
 
 fits-meant : (schema : SchemaValue) (named : NamedEdit) → refusal schema named ≡ None → EditFits (shape_of schema) (edit_meant schema named)
 fits-meant schema (NamedAdd person key ss) h =
-    let (numbers, rest) = none_of (has_bad_number (NamedAdd person key ss)) faults.BadNumber _ h in
+    let (numbers, rest) = none_of (has_bad_number schema.keys (NamedAdd person key ss)) faults.BadNumber _ h in
     let (known, all) = none_both (settings_refusal schema ss) _ rest in
     let (some, _) = none_of (misses_variable schema (NamedAdd person key ss)) faults.Missing None all in
     let (cs, are) = there (categories_named schema ss) some in
     rw are (fits-add schema person key ss cs (known-fit schema ss known) are)
 fits-meant schema (NamedDrop person) h = tt
 fits-meant schema (NamedAmend person ss) h =
-    let (numbers, rest) = none_of (has_bad_number (NamedAmend person ss)) faults.BadNumber _ h in
+    let (numbers, rest) = none_of (has_bad_number schema.keys (NamedAmend person ss)) faults.BadNumber _ h in
     let (known, all) = none_both (settings_refusal schema ss) _ rest in
     known-fit schema ss known
 

@@ -73,7 +73,7 @@ of-either (Some f) p g h k e = h e
 
 of-refusal : (schema : SchemaValue) (named : NamedEdit) (g : EditTextFault) → refusal schema named ≡ Some g → IsOfMeaning g
 of-refusal schema named g e =
-    of-choice (has_bad_number named) faults.BadNumber g _ tt
+    of-choice (has_bad_number schema.keys named) faults.BadNumber g _ tt
     (of-either (settings_refusal schema (settings_of named)) (fault_if (misses_variable schema named) faults.Missing) g (of-settings schema (settings_of named) g)
     (of-choice (misses_variable schema named) faults.Missing g None tt (of-nothing g)))
     e

@@ -3,6 +3,7 @@ use Rattle.std.specs.Prelude.{◌≡◌, ◌||◌, ℕ, Bool, false, if◌then�
 use Rattle.std.specs.Prelude.{Option, Some, None, is_none}
 use Rattle.std.specs.List.{list_any}
 use Rattle.std.specs.Option.{is_some, option_or}
+use Rattle.tb_base.specs.declared.keys.Keys.{Keys}
 use Rattle.tb_model.specs.Schemas.{SchemaValue}
 use Rattle.tb_records.specs.People.{key_of, person_of}
 use Rattle.tb_release.specs.declared.edits.Edit.{Edit}
@@ -14,10 +15,11 @@ use Rattle.tb_revise.specs.Meanings.{categories_named, category_named, category_
 use Rattle.tb_revise.specs.Meanings.{sets_meant, variable_named}
 
 -- whether the person is no number from 1 on, or the key no number below the key range
-abbrev pub has_bad_number : NamedEdit → Bool
-has_bad_number (NamedAdd person key settings) = is_none (person_of person) || is_none (key_of key)
-has_bad_number (NamedDrop person) = is_none (person_of person)
-has_bad_number (NamedAmend person settings) = is_none (person_of person)
+abbrev pub has_bad_number : Keys → NamedEdit → Bool
+has_bad_number keys (NamedAdd person key settings) =
+    is_none (person_of person) || is_none (key_of keys key)
+has_bad_number keys (NamedDrop person) = is_none (person_of person)
+has_bad_number keys (NamedAmend person settings) = is_none (person_of person)
 
 -- whether a setting's name is no variable
 abbrev pub has_unknown_name : SchemaValue → List NamedSetting → Bool
@@ -54,7 +56,7 @@ fault_if so fault = if so then Some fault else None
 -- the first fault of a line that spells this edit
 abbrev pub refusal : SchemaValue → NamedEdit → Option EditTextFault
 refusal schema edit =
-    if has_bad_number edit then Some faults.BadNumber
+    if has_bad_number schema.keys edit then Some faults.BadNumber
     else option_or (settings_refusal schema (settings_of edit))
     (fault_if (misses_variable schema edit) faults.Missing)
 

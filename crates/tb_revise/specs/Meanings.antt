@@ -3,6 +3,7 @@ use Rattle.std.specs.Prelude.{ℕ, ◌==◌, List, [], Option, find, length, map
 use Rattle.std.specs.List.{range_with_len}
 use Rattle.std.specs.Option.{option_map}
 use Rattle.tb_base.specs.Lists.{all_some}
+use Rattle.tb_base.specs.declared.keys.Keys.{Keys}
 use Rattle.tb_model.specs.declared.names.NameOf.TheVariants as name_of
 use Rattle.tb_model.specs.Schemas.{SchemaValue}
 use Rattle.tb_records.specs.People.{key_of, person_of}
@@ -43,17 +44,18 @@ abbrev pub categories_named : SchemaValue → List NamedSetting → Option (List
 categories_named schema settings =
     categories_set (sets_meant schema settings) (length schema.variables)
 
--- a person and a key, where the words are such numbers
+-- a person, and a key below a key range, where the words are such numbers
 abbrev pub person_meant : List ℕ → ℕ
 person_meant word = unwrap_or (person_of word) 0
 
-abbrev pub key_meant : List ℕ → ℕ
-key_meant word = unwrap_or (key_of word) 0
+abbrev pub key_meant : Keys → List ℕ → ℕ
+key_meant keys word = unwrap_or (key_of keys word) 0
 
 -- the edit that the words stand for, where they have no fault
 abbrev pub edit_meant : SchemaValue → NamedEdit → Edit
 edit_meant schema (NamedAdd person key settings) =
-    Add (person_meant person) (key_meant key) (unwrap_or (categories_named schema settings) [])
+    Add (person_meant person) (key_meant schema.keys key)
+    (unwrap_or (categories_named schema settings) [])
 edit_meant schema (NamedDrop person) = Drop (person_meant person)
 edit_meant schema (NamedAmend person settings) =
     Amend (person_meant person) (sets_meant schema settings)

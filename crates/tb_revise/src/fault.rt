@@ -15,7 +15,8 @@ pub enum EditTextFault {
     #[error("the line must be `add PERSON KEY VAR=CODE ..`, `amend PERSON VAR=CODE ..` with one \
         setting or more, or `drop PERSON`")]
     Syntax,
-    #[error("the person must be a number from 1 to 4294967295, and the key one from 0 to 255")]
+    #[error("the person must be a number from 1 to 4294967295, and the key one from 0 to 255, \
+        or to 4095 if the classification says so")]
     BadNumber,
     #[error("what stands before the first = of a setting must be the name of a variable")]
     UnknownName,

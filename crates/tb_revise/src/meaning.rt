@@ -159,7 +159,7 @@ fn add_meant(
     let Some(person) = read_person(person) else {
         return Err(EditTextFault::BadNumber);
     };
-    let Some(key) = read_key(key) else {
+    let Some(key) = read_key(schema.keys(), key) else {
         return Err(EditTextFault::BadNumber);
     };
     let sets = sets_meant(alloc, schema, settings)?;

@@ -33,9 +33,9 @@ fn read(alloc: Global, schema: &Schema, line: &[u8]) -> Result<Edit, EditTextFau
 /// - `drop PERSON` has no further word.
 ///
 /// Words are separated by spaces and tabs, which may also stand before and after them. PERSON is a
-/// number from 1 to `u32::MAX`, KEY one below `KEY_RANGE`, VAR the name of a variable and CODE one
-/// of its codes, compared as bytes. Whether the edit is possible on a release isn't asked here. It
-/// takes memory for the line's settings and for the edit.
+/// number from 1 to `u32::MAX`, KEY one below the schema's key range, VAR the name of a variable
+/// and CODE one of its codes, compared as bytes. Whether the edit is possible on a release isn't
+/// asked here. It takes memory for the line's settings and for the edit.
 pub fn read_edit(alloc: Global, schema: &Schema, line: &[u8]) -> Result<Edit, EditTextFault>
     // The line reads as the edit that is returned.
     ensures read { IfOk result (Reads schema.now line.now) }

@@ -23,7 +23,7 @@ ghost use Rattle.tb_rollup.specs.Rolling.{spread, IsLast, Stands};
 use crate::packed::roll_packed;
 use crate::runs::add_runs;
 use crate::steps::{Last, last_used, next, steps_if_used};
-use tb_base::{Cell, know_cells};
+use tb_base::{Cell, reduce_keys};
 use tb_cube::Cube;
 use tb_plan::Plan;
 
@@ -177,5 +177,5 @@ pub fn roll_into(cube: &Cube, plan: &Plan, cells: &mut [Cell])
     if plan.totals() {
         plan.add_totals(cells);
     }
-    know_cells(cells);
+    reduce_keys(cells);
 }

@@ -13,7 +13,7 @@ ghost use Rattle.tb_scan.specs.Scanning.{Hold};
 
 use crate::put::put_all;
 use std::alloc::Global;
-use tb_base::{Cell, Memory, Record, know_cells};
+use tb_base::{Cell, Memory, Record, reduce_keys};
 use tb_plan::Plan;
 
 /// The cells of no record, one for each place of the table. It takes memory for them alone.
@@ -40,7 +40,7 @@ pub fn put_totals(plan: &Plan, cells: &mut [Cell])
     if plan.totals() {
         plan.add_totals(cells);
     }
-    know_cells(cells);
+    reduce_keys(cells);
 }
 
 /// Merges the cell of each place with that of the piece's own records there. It takes no memory.
@@ -52,7 +52,6 @@ pub fn scan_into(plan: &Plan, piece: &[Record], cells: &mut [Cell])
     ensures { (schema : SchemaValue) (query : QueryValue) → plan.now ≡ plan_of schema query
         → cells.new ≡ merged_all cells.old (cells_of schema query piece.now) }
 {
-    know_cells(cells);
     let _ = plan.cells();
     if plan.totals() {
         plan.take_totals(cells);
@@ -61,5 +60,5 @@ pub fn scan_into(plan: &Plan, piece: &[Record], cells: &mut [Cell])
     } else {
         put_all(plan, piece, cells);
     }
-    know_cells(cells);
+    reduce_keys(cells);
 }

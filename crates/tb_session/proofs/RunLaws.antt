@@ -10,7 +10,7 @@ use Rattle.tb_model.specs.Perturbations.{perturbation, shown, shown_text}
 use Rattle.tb_model.specs.Places.{own_records, places_of, Place}
 use Rattle.tb_model.specs.Rules.{pvalues_of, threshold_of}
 use Rattle.tb_model.specs.Schemas.{shape_of}
-use Rattle.tb_model.specs.Worlds.{SameShown}
+use Rattle.tb_model.proofs.CellKeys.{worlds_show_the_same}
 use Rattle.tb_session.specs.RunWorlds.{release_of, table_cells, world_of, AgreeingRepliesShowTheSame, RepliesShowTheirWorlds, RunWorld}
 use Rattle.tb_session.proofs.OwnCells.{mapped-at, rolled-own}
 use Rattle.tb_session.proofs.TakeRuns.{cells-taken}
@@ -30,14 +30,6 @@ pub replies_show_their_worlds : RepliesShowTheirWorlds
 replies_show_their_worlds w =
     ap (λ (cell : Cell). shown_text (shown (pvalues_of w.setup (release_of w)) (threshold_of w.setup (release_of w)) cell)) (cell_shown w)
 
--- where a count, a key, a threshold and a perturbation agree
-same_text : (f g : ℕ → ℕ → ℤ) (t u n m k l : ℕ) → n ≡ m → k ≡ l → t ≡ u → perturbation f n k ≡ perturbation g n k
-    → shown_text (shown f t (record { count = n; key = k })) ≡ shown_text (shown g u (record { count = m; key = l }))
-same_text f g t u n m k l count key threshold same = rw (same, count, key, threshold) refl
-
-same_shown : SameShown
-same_shown v w h = same_text v.pvalues w.pvalues v.threshold w.threshold _ _ _ _ h.count h.key h.threshold h.same_perturbation
-
 pub agreeing_replies_show_the_same : AgreeingRepliesShowTheSame
 agreeing_replies_show_the_same v w agree =
-    replies_show_their_worlds v ∙ same_shown (world_of v) (world_of w) agree ∙ sym (replies_show_their_worlds w)
+    replies_show_their_worlds v ∙ worlds_show_the_same (world_of v) (world_of w) agree ∙ sym (replies_show_their_worlds w)

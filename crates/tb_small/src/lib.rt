@@ -1,9 +1,15 @@
-//! The small setup, for the tests: the files of `examples/small`, word for word.
+//! The small setup, for the tests: the files of `examples/small`, word for word, and its
+//! classification with a key range.
 #![tactic(auto)]
 
 /// SEX, AGE and AREA.
 pub const CLASSES: &[u8] = b"variable,code,label\nSEX,1,Male\nSEX,2,Female\nAGE,0-15,Under 16\n\
     AGE,16-64,Working age\nAGE,65+,65 and over\nAREA,E1,\"North, rural\"\nAREA,E2,South\n";
+
+/// The same with the key range 4096.
+pub const WIDE_CLASSES: &[u8] = b"variable,code,label\n*,keys,4096\nSEX,1,Male\nSEX,2,Female\n\
+    AGE,0-15,Under 16\nAGE,16-64,Working age\nAGE,65+,65 and over\n\
+    AREA,E1,\"North, rural\"\nAREA,E2,South\n";
 
 /// AGE2, a recode of AGE.
 pub const RECODES: &[u8] = b"recode,variable,code,group\nAGE2,AGE,0-15,young\n\

@@ -7,7 +7,7 @@ ghost use Rattle.tb_model.specs.Schemas.{shape_of};
 ghost use Rattle.tb_release.specs.Laws.{EditFits};
 
 use std::alloc::Global;
-use tb_base::{Memory, People};
+use tb_base::{Keys, Memory, People};
 use tb_ptable::PTable;
 use tb_records::read_people;
 use tb_release::{Edit, Edits, Release};
@@ -24,8 +24,10 @@ pub fn schema(alloc: Global) -> Result<Schema, Memory> {
     }
 }
 
-fn ptable(alloc: Global) -> Result<PTable, Memory> {
-    match PTable::read(alloc, PTABLE) {
+fn ptable(alloc: Global, keys: Keys) -> Result<PTable, Memory>
+    ensures { IfOk result (λ table. table.keys ≡ keys) }
+{
+    match PTable::read(alloc, keys, PTABLE) {
         Ok(ptable) => Ok(ptable),
         Err(_) => Err(Memory),
     }
@@ -33,9 +35,11 @@ fn ptable(alloc: Global) -> Result<PTable, Memory> {
 
 /// The schema with the perturbation table, and the threshold 0.
 pub fn setup(alloc: Global) -> Result<Setup, Memory> {
+    let schema = schema(alloc)?;
+    let ptable = ptable(alloc, schema.keys())?;
     Ok(Setup {
-        schema: schema(alloc)?,
-        ptable: ptable(alloc)?,
+        schema,
+        ptable,
         threshold: 0,
     })
 }

@@ -1,7 +1,7 @@
 -- What is made of a table before it is written.
 use Rattle.std.specs.Prelude.{ℕ, List, [], ◌++◌, codes}
 use Rattle.tb_base.specs.declared.cells.Cell.{Cell}
-use Rattle.tb_model.specs.Perturbations.{pvalue_at}
+use Rattle.tb_model.specs.Rules.{pvalues_in}
 use Rattle.tb_model.specs.Setups.{SetupValue}
 use Rattle.tb_model.specs.Texts.{line_text}
 use Rattle.tb_text.specs.Lines.{end_of, lines_under}
@@ -16,5 +16,5 @@ pub record PreparedValue : Type 0 where
 abbrev pub prepared_text : PreparedValue → List Cell → List ℕ
 prepared_text p cells =
     (p.head
-    ++ lines_under (end_of (pvalue_at p.setup.lines) p.setup.threshold) [] p.fields cells)
+    ++ lines_under (end_of (pvalues_in p.setup) p.setup.threshold) [] p.fields cells)
     ++ line_text (codes ".")

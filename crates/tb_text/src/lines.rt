@@ -4,7 +4,7 @@ ghost use Rattle.std.specs.Prelude.{◌≡◌, ◌<◌, ◌≤◌, ◌+◌, ◌+
 ghost use Rattle.std.specs.Prelude.{codes, slice_index_or, All, IfOk, OnErr, OnOk};
 ghost use Rattle.tb_base.specs.declared.people.TheConstants.{MOST_PERSONS};
 ghost use Rattle.tb_io.specs.Taken.{IsWritten};
-ghost use Rattle.tb_model.specs.Perturbations.{pvalue_at};
+ghost use Rattle.tb_model.specs.Rules.{pvalues_in};
 ghost use Rattle.tb_model.specs.RowMajor.{row_major};
 ghost use Rattle.tb_model.specs.Texts.{line_text};
 ghost use Rattle.tb_text.specs.Lines.{end_of, line_of, lines_under};
@@ -133,13 +133,13 @@ fn add_cell<K: Sink>(
     ensures on { OnOk result (IsOn (K.faults sink.old) (K.faults sink.new) (K.taken sink.old)
         (K.taken sink.new) waiting.new (waiting.old
         ++ ((take len begin.now ++ slice_index_or fields.now i [])
-        ++ end_of (pvalue_at setup.now.lines) setup.now.threshold cell))) }
+        ++ end_of (pvalues_in setup.now) setup.now.threshold cell))) }
     ensures cut { OnErr result (IsCut (K.faults sink.old) (K.faults sink.new)
         (K.taken sink.old) (K.taken sink.new) (waiting.old
         ++ ((take len begin.now ++ slice_index_or fields.now i [])
-        ++ end_of (pvalue_at setup.now.lines) setup.now.threshold cell))) }
+        ++ end_of (pvalues_in setup.now) setup.now.threshold cell))) }
 {
-    let shown = setup.ptable.shown(setup.threshold, cell);
+    let shown = setup.shown(cell);
     let field_len = fields.field_len(i);
     let field = fields.wide_field(i);
     add_line(waiting, sink, begin, len, field, field_len, shown)
@@ -159,11 +159,11 @@ fn add_row<K: Sink>(
     requires room { len + 16 ≤ length begin.now }
     ensures on { OnOk result (IsOn (K.faults sink.old) (K.faults sink.new) (K.taken sink.old)
         (K.taken sink.new) waiting.new (waiting.old
-        ++ lines_under (end_of (pvalue_at setup.now.lines) setup.now.threshold)
+        ++ lines_under (end_of (pvalues_in setup.now) setup.now.threshold)
         (take len begin.now) (fields.now ∷ []) cells.now)) }
     ensures cut { OnErr result (IsCut (K.faults sink.old) (K.faults sink.new)
         (K.taken sink.old) (K.taken sink.new) (waiting.old
-        ++ lines_under (end_of (pvalue_at setup.now.lines) setup.now.threshold)
+        ++ lines_under (end_of (pvalues_in setup.now) setup.now.threshold)
         (take len begin.now) (fields.now ∷ []) cells.now)) }
 {
     for i in 0..fields.len().min(cells.len()) {
@@ -187,11 +187,11 @@ fn add_alone<K: Sink>(
     requires room { len + 16 ≤ length begin.now }
     ensures on { OnOk result (IsOn (K.faults sink.old) (K.faults sink.new) (K.taken sink.old)
         (K.taken sink.new) waiting.new (waiting.old
-        ++ lines_under (end_of (pvalue_at setup.now.lines) setup.now.threshold)
+        ++ lines_under (end_of (pvalues_in setup.now) setup.now.threshold)
         (take len begin.now) [] (drop at cells.now))) }
     ensures cut { OnErr result (IsCut (K.faults sink.old) (K.faults sink.new)
         (K.taken sink.old) (K.taken sink.new) (waiting.old
-        ++ lines_under (end_of (pvalue_at setup.now.lines) setup.now.threshold)
+        ++ lines_under (end_of (pvalues_in setup.now) setup.now.threshold)
         (take len begin.now) [] (drop at cells.now))) }
     ensures within { IfOk result (λ next. next ≤ length cells.now) }
     ensures next { IfOk result (λ next. drop next cells.now ≡ drop 1 (drop at cells.now)) }
@@ -199,7 +199,7 @@ fn add_alone<K: Sink>(
     if at == cells.len() {
         return Ok(at);
     }
-    let shown = setup.ptable.shown(setup.threshold, cells[at]);
+    let shown = setup.shown(cells[at]);
     add_line(waiting, sink, begin, len, begin, 0, shown)?;
     Ok(at + 1)
 }
@@ -223,11 +223,11 @@ pub(crate) fn add_lines<K: Sink>(
     requires room { HasRoom len (length begin.old) dimensions.now }
     ensures on { OnOk result (IsOn (K.faults sink.old) (K.faults sink.new) (K.taken sink.old)
         (K.taken sink.new) waiting.new (waiting.old
-        ++ lines_under (end_of (pvalue_at setup.now.lines) setup.now.threshold)
+        ++ lines_under (end_of (pvalues_in setup.now) setup.now.threshold)
         (take len begin.old) dimensions.now (drop at cells.now))) }
     ensures cut { OnErr result (IsCut (K.faults sink.old) (K.faults sink.new)
         (K.taken sink.old) (K.taken sink.new) (waiting.old
-        ++ lines_under (end_of (pvalue_at setup.now.lines) setup.now.threshold)
+        ++ lines_under (end_of (pvalues_in setup.now) setup.now.threshold)
         (take len begin.old) dimensions.now (drop at cells.now))) }
     ensures begin { OnOk result (take len begin.new ≡ take len begin.old) }
     ensures long { length begin.new ≡ length begin.old }

@@ -4,7 +4,7 @@ ghost use Rattle.std.specs.Prelude.{◌≡◌, ◌≤◌, ◌+◌, ℕ, List, Al
 ghost use Rattle.tb_base.specs.declared.cells.Cell.{Cell};
 ghost use Rattle.tb_base.specs.declared.people.TheConstants.{MOST_PERSONS};
 ghost use Rattle.tb_io.specs.Taken.{IsWritten};
-ghost use Rattle.tb_model.specs.Perturbations.{pvalue_at};
+ghost use Rattle.tb_model.specs.Rules.{pvalues_in};
 ghost use Rattle.tb_model.specs.Texts.{text_of_cells};
 ghost use Rattle.tb_schema.specs.Names.{IsName};
 ghost use Rattle.tb_text.specs.Passing.{HasRoom};
@@ -94,7 +94,7 @@ impl<'a> Prepared<'a> {
     ) -> Result<Prepared<'a>, Memory>
         requires names { All (IsName setup.now.schema) query.now.dimensions }
         ensures { IfOk result (λ p. (cells : List Cell) → prepared_text p cells
-            ≡ text_of_cells setup.now.schema (pvalue_at setup.now.lines) setup.now.threshold
+            ≡ text_of_cells setup.now.schema (pvalues_in setup.now) setup.now.threshold
             query.now number cells) }
     {
         let fields = all_fields(alloc, &setup.schema, query)?;
@@ -190,7 +190,7 @@ impl<'a> PreparedTable<'a> {
         requires names { All (IsName setup.now.schema) query.now.dimensions }
         requires few { All (λ cell. cell.count ≤ MOST_PERSONS) cells.items }
         ensures { IfOk result (λ text. text
-            ≡ text_of_cells setup.now.schema (pvalue_at setup.now.lines) setup.now.threshold
+            ≡ text_of_cells setup.now.schema (pvalues_in setup.now) setup.now.threshold
             query.now number cells.items) }
     {
         let prepared = Prepared::of(alloc, setup, query, number, cells.len(), BUFFER)?;

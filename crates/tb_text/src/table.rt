@@ -5,7 +5,7 @@ ghost use Rattle.std.specs.Prelude.{◌<◌, length, drop, All, IfOk, IfSome, On
 ghost use Rattle.std.specs.List.{concat};
 ghost use Rattle.tb_base.specs.declared.people.TheConstants.{MOST_PERSONS};
 ghost use Rattle.tb_io.specs.Taken.{IsWritten};
-ghost use Rattle.tb_model.specs.Perturbations.{pvalue_at};
+ghost use Rattle.tb_model.specs.Rules.{pvalues_in};
 ghost use Rattle.tb_model.specs.Schemas.{name_text};
 ghost use Rattle.tb_model.specs.Texts.{heading, line_text, text_of_cells};
 ghost use Rattle.tb_schema.specs.Names.{IsName};
@@ -136,7 +136,7 @@ pub fn table_text(
     requires names { All (IsName setup.now.schema) query.now.dimensions }
     requires few { All (λ cell. cell.count ≤ MOST_PERSONS) cells.now }
     ensures { IfOk result (λ text. text.items
-        ≡ text_of_cells setup.now.schema (pvalue_at setup.now.lines) setup.now.threshold
+        ≡ text_of_cells setup.now.schema (pvalues_in setup.now) setup.now.threshold
         query.now number cells.now) }
 {
     let prepared = Prepared::of(alloc, setup, query, number, cells.len(), usize::MAX)?;
@@ -159,7 +159,7 @@ pub fn write_table<K: Sink>(
     requires few { All (λ cell. cell.count ≤ MOST_PERSONS) cells.now }
     ensures written { IfOk result (λ wrote. IsWritten wrote (K.faults sink.old)
         (K.faults sink.new) (K.taken sink.old) (K.taken sink.new)
-        (text_of_cells setup.now.schema (pvalue_at setup.now.lines) setup.now.threshold
+        (text_of_cells setup.now.schema (pvalues_in setup.now) setup.now.threshold
         query.now number cells.now)) }
     ensures err { OnErr result (sink.new ≡ sink.old) }
 {

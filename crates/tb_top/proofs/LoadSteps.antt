@@ -6,7 +6,8 @@ use Rattle.std.specs.Prelude.{IfSome, ◌==◌}
 use Rattle.tb_io.specs.Faults.{HasRisen, one_more}
 use Rattle.tb_io.proofs.FaultLemmas.{HasRisen-earlier}
 use Rattle.tb_base.specs.declared.records.Record.{Record}
-use Rattle.tb_model.specs.declared.names.PerturbationLine.{PerturbationLine}
+use Rattle.tb_base.specs.declared.keys.Keys.{Keys}
+use Rattle.tb_ptable.specs.Table.{TableValue}
 use Rattle.tb_model.specs.Schemas.{SchemaValue}
 use Rattle.tb_ptable.specs.Kinds.{fault_name as ptable_name}
 use Rattle.tb_ptable.specs.Lines.{perturbation_of}
@@ -324,10 +325,10 @@ skips-schema recodes place below =
     (λ classes. Skips-then (recodes_in recodes) (λ contents r. or_end schema_end (schema_of classes r)) place
     (skips-recodes recodes place below) (λ r contents e h. refl))
 
-pub skips-perturbation : (place : ℕ) → 2 < place → Skips perturbation_in place
-skips-perturbation place below =
+pub skips-perturbation : (keys : Keys) (place : ℕ) → 2 < place → Skips (perturbation_in keys) place
+skips-perturbation keys place below =
     Skips-then (λ contents. bytes_in input.Ptable (contents input.Ptable))
-    (λ contents bytes. or_end (file_end input.Ptable ptable_name) (perturbation_of bytes)) place
+    (λ contents bytes. or_end (file_end input.Ptable ptable_name) (perturbation_of keys bytes)) place
     (skips-bytes input.Ptable place below) (λ bytes contents e h. refl)
 
 pub skips-people : (schema : SchemaValue) (place : ℕ) → 3 < place → Skips (people_in schema) place
@@ -337,23 +338,23 @@ skips-people schema place below =
     (skips-bytes input.People place below) (λ bytes contents e h. refl)
 
 -- a census of what its files say
-abbrev pub census_with : Inputs → SchemaValue → List PerturbationLine → List Record → CensusValue
-census_with inputs schema lines records = record {
-  setup = record { schema = schema; lines = lines; threshold = inputs.threshold };
+abbrev pub census_with : Inputs → SchemaValue → TableValue → List Record → CensusValue
+census_with inputs schema table records = record {
+  setup = record { schema = schema; lines = table.lines; threshold = inputs.threshold };
   records = records;
 }
 
-abbrev pub after_ptable : Inputs → SchemaValue → Contents → List PerturbationLine → Result CensusValue End
-after_ptable inputs schema contents lines = people_in schema contents >>= (λ records. Ok (census_with inputs schema lines records))
+abbrev pub after_ptable : Inputs → SchemaValue → Contents → TableValue → Result CensusValue End
+after_ptable inputs schema contents table = people_in schema contents >>= (λ records. Ok (census_with inputs schema table records))
 
 abbrev pub after_schema : Inputs → Contents → SchemaValue → Result CensusValue End
-after_schema inputs contents schema = perturbation_in contents >>= after_ptable inputs schema contents
+after_schema inputs contents schema = perturbation_in schema.keys contents >>= after_ptable inputs schema contents
 
 pub skips-census : (inputs : Inputs) → Skips (census_in inputs) 4
 skips-census inputs =
     Skips-then (schema_in inputs.recodes) (after_schema inputs) 4 (skips-schema inputs.recodes 4 (omega arith))
-    (λ schema. Skips-then perturbation_in (after_ptable inputs schema) 4 (skips-perturbation 4 (omega arith))
-    (λ lines. Skips-then (people_in schema) (λ contents records. Ok (census_with inputs schema lines records)) 4
+    (λ schema. Skips-then (perturbation_in schema.keys) (after_ptable inputs schema) 4 (skips-perturbation schema.keys 4 (omega arith))
+    (λ table. Skips-then (people_in schema) (λ contents records. Ok (census_with inputs schema table records)) 4
     (skips-people schema 4 (omega arith)) (λ records contents e h. refl)))
 
 -- how a census ends at its first and its second step
@@ -367,26 +368,26 @@ census-no-schema view inputs h =
 pub census-no-ptable : {A : Type 0} (view : A → CensusValue) (inputs : Inputs) (schema : SchemaValue) {e : End} {one two : Reading}
     → two.content ≡ one.content_after → two.faults ≡ one.faults_after → two.readings ≡ one.readings_after
     → Loads one 0 (class_files inputs) (λ s. s) (schema_in inputs.recodes) (Ok schema)
-    → Loads two 2 (named input.Ptable inputs.ptable ∷ []) (λ (l : List PerturbationLine). l) perturbation_in (Err e)
+    → Loads two 2 (named input.Ptable inputs.ptable ∷ []) (λ (t : TableValue). t) (perturbation_in schema.keys) (Err e)
     → Loads (both one two) 0 (input_files inputs) view (census_in inputs) (Err e)
 census-no-ptable view inputs schema {e} c f r h k =
     Loads-then (λ s. s) view (schema_in inputs.recodes) (after_schema inputs) schema (Err e) (skips-schema inputs.recodes 2 (omega arith))
     (omega arith) c f r h
     (Loads-before view (λ contents. after_schema inputs contents schema) (named input.People inputs.people ∷ [])
-    (Loads-fails (λ l. l) view perturbation_in (after_ptable inputs schema) k))
+    (Loads-fails (λ t. t) view (perturbation_in schema.keys) (after_ptable inputs schema) k))
 
 -- the two steps before the microdata lead to a census, whatever they lead to
-pub census-steps : {A : Type 0} (view : A → CensusValue) (inputs : Inputs) (schema : SchemaValue) (lines : List PerturbationLine)
+pub census-steps : {A : Type 0} (view : A → CensusValue) (inputs : Inputs) (schema : SchemaValue) (table : TableValue)
     (result : Result A End) {one two three : Reading}
     → two.content ≡ one.content_after → two.faults ≡ one.faults_after → two.readings ≡ one.readings_after
     → three.content ≡ two.content_after → three.faults ≡ two.faults_after → three.readings ≡ two.readings_after
     → Loads one 0 (class_files inputs) (λ s. s) (schema_in inputs.recodes) (Ok schema)
-    → Loads two 2 (named input.Ptable inputs.ptable ∷ []) (λ l. l) perturbation_in (Ok lines)
+    → Loads two 2 (named input.Ptable inputs.ptable ∷ []) (λ t. t) (perturbation_in schema.keys) (Ok table)
     → Loads three 3 (named input.People inputs.people ∷ []) view
-    (λ contents. people_in schema contents >>= (λ records. Ok (census_with inputs schema lines records))) result
+    (λ contents. people_in schema contents >>= (λ records. Ok (census_with inputs schema table records))) result
     → Loads (both one (both two three)) 0 (input_files inputs) view (census_in inputs) result
-census-steps view inputs schema lines result c f r c' f' r' h k l =
+census-steps view inputs schema table result c f r c' f' r' h k l =
     Loads-then (λ s. s) view (schema_in inputs.recodes) (after_schema inputs) schema result (skips-schema inputs.recodes 2 (omega arith))
     (omega arith) c f r h
-    (Loads-then (λ l. l) view perturbation_in (after_ptable inputs schema) lines result (skips-perturbation 3 (omega arith))
+    (Loads-then (λ t. t) view (perturbation_in schema.keys) (after_ptable inputs schema) table result (skips-perturbation schema.keys 3 (omega arith))
     (omega arith) c' f' r' k l)

@@ -2,11 +2,12 @@
 -- begins.
 use Rattle.std.specs.Prelude.{◌==◌, ℕ, Bool, true, false, List, [], ◌∷◌, length, Option, Some, None, Result, Ok, Err, ok_or, nat_lt, if◌then◌else◌}
 use Rattle.tb_base.specs.declared.records.Record.{Record}
-use Rattle.tb_model.specs.declared.names.PerturbationLine.{PerturbationLine}
+use Rattle.tb_base.specs.declared.keys.Keys.{Keys}
 use Rattle.tb_model.specs.Schemas.{SchemaValue}
 use Rattle.tb_model.specs.Setups.{SetupValue}
 use Rattle.tb_ptable.specs.Kinds.{fault_name as ptable_name}
 use Rattle.tb_ptable.specs.Lines.{perturbation_of}
+use Rattle.tb_ptable.specs.Table.{TableValue}
 use Rattle.tb_records.specs.Kinds.{fault_name as people_name}
 use Rattle.tb_records.specs.People.{people_of}
 use Rattle.tb_rows.specs.FaultNames.{FaultNameValue}
@@ -91,10 +92,10 @@ schema_in recodes contents =
     or_end schema_end (schema_of classes recodes)))
 
 -- each other file is checked before the next is read
-abbrev pub perturbation_in : Contents → Result (List PerturbationLine) End
-perturbation_in contents =
+abbrev pub perturbation_in : Keys → Contents → Result TableValue End
+perturbation_in keys contents =
     bytes_in input.Ptable (contents input.Ptable) >>= (λ bytes.
-    or_end (file_end input.Ptable ptable_name) (perturbation_of bytes))
+    or_end (file_end input.Ptable ptable_name) (perturbation_of keys bytes))
 
 abbrev pub people_in : SchemaValue → Contents → Result (List Record) End
 people_in schema contents =
@@ -115,10 +116,10 @@ pub record CensusValue : Type 0 where
 abbrev pub census_in : Inputs → Contents → Result CensusValue End
 census_in inputs contents =
     schema_in inputs.recodes contents >>= (λ schema.
-    perturbation_in contents >>= (λ lines.
+    perturbation_in schema.keys contents >>= (λ table.
     people_in schema contents >>= (λ records.
     Ok (record {
-      setup = record { schema = schema; lines = lines; threshold = inputs.threshold };
+      setup = record { schema = schema; lines = table.lines; threshold = inputs.threshold };
       records = records;
     }))))
 

@@ -22,7 +22,7 @@ use crate::generated::load_generated;
 use crate::population::Population;
 use crate::service::Service;
 use std::alloc::Global;
-use tb_base::People;
+use tb_base::{Keys, People};
 use tb_io::{FileRead, Files};
 use tb_ptable::PTable;
 use tb_records::read_people;
@@ -139,16 +139,22 @@ fn load_schema<F: Files>(alloc: Global, files: &mut F, inputs: &Inputs<'_>) -> R
     Ok(Schema::read(alloc, &classes, bytes_of(&recodes))?)
 }
 
-fn load_ptable<F: Files>(alloc: Global, files: &mut F, name: &FileName<'_>) -> Result<PTable, End>
+fn load_ptable<F: Files>(
+    alloc: Global,
+    files: &mut F,
+    name: &FileName<'_>,
+    keys: Keys,
+) -> Result<PTable, End>
+    ensures keys { IfOk result (λ table. table.keys ≡ keys) }
     ensures loads { Loads
         (reading F.content F.faults F.readings files.old files.new)
         2
         (named input.Ptable name.now ∷ [])
-        (λ lines. lines)
-        perturbation_in result }
+        (λ table. table)
+        (perturbation_in keys) result }
 {
     let bytes = read_bytes(alloc, files, Input::Ptable, name)?;
-    match PTable::read(alloc, &bytes) {
+    match PTable::read(alloc, keys, &bytes) {
         Ok(ptable) => Ok(ptable),
         Err(fault) => Err(End::of(Input::Ptable, fault)),
     }
@@ -192,7 +198,7 @@ pub(crate) fn load_census<F: Files>(
         (census_in inputs.now) result }
 {
     let schema = load_schema(alloc, files, inputs)?;
-    let ptable = load_ptable(alloc, files, &inputs.ptable)?;
+    let ptable = load_ptable(alloc, files, &inputs.ptable, schema.keys())?;
     let people = load_people(alloc, files, &inputs.people, &schema)?;
     let release = Release::first(alloc, people)?;
     let threshold = inputs.threshold;

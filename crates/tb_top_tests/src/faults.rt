@@ -67,6 +67,25 @@ fn readings_that_fail(rt: HostRuntime) -> Result<(), Fail> {
     Ok(())
 }
 
+// The worked table of SEX.
+const TABLE: &[u8] = b"release 0\nSEX,count\n1,1\n2,2\n.\n";
+
+#[test]
+fn sinks_of_each_bound(rt: HostRuntime) -> Result<(), Fail> {
+    for bound in 0..=TABLE.len() {
+        let run = Run {
+            arguments: WITHOUT_RECODES,
+            others: &[],
+            fails: &[],
+            bound,
+            status: if bound < TABLE.len() { 8 } else { 0 },
+            text: &TABLE[..bound],
+        };
+        assert!(rt; is_so(&rt, rt.alloc(), &run)?, "{bound}");
+    }
+    Ok(())
+}
+
 #[test]
 fn sinks_that_fail(rt: HostRuntime) -> Result<(), Fail> {
     for (arguments, bound, text) in cuts() {

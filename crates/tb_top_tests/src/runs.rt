@@ -2,7 +2,7 @@
 
 use super::running::{Run, WITH_RECODES, WITHOUT_RECODES, is_so};
 use std::test::Fail;
-use tb_small::{CLASSES, PEOPLE, PTABLE};
+use tb_small::{CLASSES, PEOPLE, PTABLE, WIDE_CLASSES};
 
 const SEX: &[u8] = b"release 0\nSEX,count\n1,1\n2,2\n.\n";
 
@@ -24,7 +24,17 @@ type Over = (
     &'static [u8],
 );
 
-static RUNS: [Over; 30] = [
+// Perturbation tables with one more line, whose cell key is below 4096 alone, or below 256 too.
+const WITH_KEY_320: &[u8] =
+    b"pcv,ckey,pvalue\n3,64,-2\n1,7,1\n4,71,2\n3,127,3\n2,27,-1\n3,320,-1\n";
+
+const WITH_KEY_24: &[u8] = b"pcv,ckey,pvalue\n3,64,-2\n1,7,1\n4,71,2\n3,127,3\n2,27,-1\n3,24,2\n";
+
+// Four persons, the keys of three of whom add up to 4120.
+const WIDE_PEOPLE: &[u8] = b"person,record_key,SEX,AGE,AREA\n101,4000,1,0-15,E1\n\
+    102,100,1,16-64,E1\n103,20,1,65+,E2\n104,7,2,16-64,E2\n";
+
+static RUNS: [Over; 35] = [
     ("one_variable", WITHOUT_RECODES, &[], 0, SEX),
     ("one_variable", WITH_RECODES, &[], 0, SEX),
     (
@@ -189,6 +199,48 @@ static RUNS: [Over; 30] = [
         &[("script", b"a table SEX\na table AREA\n!x\n")],
         6,
         b"fault script 3\n",
+    ),
+    (
+        "key_range_of_the_classification",
+        WITHOUT_RECODES,
+        &[("classes", WIDE_CLASSES), ("ptable", WITH_KEY_320)],
+        0,
+        b"release 0\nSEX,count\n1,2\n2,2\n.\n",
+    ),
+    (
+        "key_range_of_the_classification",
+        WITHOUT_RECODES,
+        &[("ptable", WITH_KEY_320)],
+        4,
+        b"fault ptable 3 OutOfRange 6\n",
+    ),
+    (
+        "key_range_of_the_classification",
+        WITHOUT_RECODES,
+        &[
+            ("classes", WIDE_CLASSES),
+            ("ptable", WITH_KEY_24),
+            ("people", WIDE_PEOPLE),
+        ],
+        0,
+        b"release 0\nSEX,count\n1,5\n2,2\n.\n",
+    ),
+    (
+        "key_range_of_the_classification",
+        WITHOUT_RECODES,
+        &[("people", WIDE_PEOPLE)],
+        5,
+        b"fault people 3 BadKey 1\n",
+    ),
+    (
+        "key_range_of_the_classification",
+        WITHOUT_RECODES,
+        &[(
+            "classes",
+            b"variable,code,label\n*,keys,512\nSEX,1,Male\nSEX,2,Female\n",
+        )],
+        3,
+        b"fault classes 13 BadKeys 1\n",
     ),
     (
         "a_threshold_above_all_counts",

@@ -6,8 +6,9 @@ use Rattle.std.proofs.lemmas.List.Sums.{sum_by-append}
 use Rattle.std.proofs.lemmas.List.{take_all}
 use Rattle.std.proofs.Math.Nat.{mod-eq_of_lt}
 use Rattle.tb_base.specs.declared.cells.Cell.{Cell}
+use Rattle.tb_base.specs.declared.keys.TheConstants.{MOST_KEYS}
 use Rattle.tb_base.specs.Tallies.{keys_at}
-use Rattle.tb_base.proofs.LaneSums.{all-lanes, vector-added, keys-vector, length-keys, keys-at, ones-at, narrowed, each-narrowed}
+use Rattle.tb_base.proofs.LaneSums.{all-lanes, vector-added, keys-vector, length-keys, keys-at, ones-at, narrowed, each-narrowed, within-lanes}
 use Rattle.tb_base.proofs.tallies.by_lanes.Goals as goal
 
 pub loop-i-preserved : goal.loop-i-preserved
@@ -33,12 +34,12 @@ loop-i-preserved c =
           c.loop-i.invariant.counts (ones-at c.args.place 16 xs ks long keys_long)
           ∙ ap (λ n. n % 2 ^ 32) (sym (ap length more ∙ length-append (keys_at c.args.place (take at c.args.places.now) (take at c.args.keys.now)) (keys_at c.args.place xs ks)));
       sums =
-          ap (λ ms. sum (zip2 (λ a b. (a + b) % 256) c.loop-i.sums (sel_l ms ks (replicate 16 0))) % 256) (narrowed _ _ (2 ^ 32 - 1) refl refl eqb 16 xs (replicate 16 c.args.place) long refl)
-          ∙ vector-added 256 (λ a b. (a + b) % 256) (λ a b. refl) c.loop-i.sums (sel_l hits ks (replicate 16 0))
+          ap (λ ms. sum (zip2 (λ a b. (a + b) % 2 ^ 16) c.loop-i.sums (sel_l ms ks (replicate 16 0))) % 2 ^ 16) (narrowed _ _ (2 ^ 32 - 1) refl refl eqb 16 xs (replicate 16 c.args.place) long refl)
+          ∙ vector-added (2 ^ 16) (λ a b. (a + b) % 2 ^ 16) (λ a b. refl) c.loop-i.sums (sel_l hits ks (replicate 16 0))
           (sum (keys_at c.args.place (take at c.args.places.now) (take at c.args.keys.now))) (sum (keys_at c.args.place xs ks))
           (c.loop-i.auto.sums.0 ∙ sym (length-sel_l hits ks (replicate 16 0) (hits_long ∙ sym keys_long) hits_long ∙ hits_long))
           c.loop-i.invariant.sums (keys-at c.args.place 16 xs ks long keys_long)
-          ∙ ap (λ n. n % 256) (sym (ap sum more ∙ sum_by-append (λ (k : ℕ). k) (keys_at c.args.place (take at c.args.places.now) (take at c.args.keys.now)) (keys_at c.args.place xs ks)));
+          ∙ ap (λ n. n % 2 ^ 16) (sym (ap sum more ∙ sum_by-append (λ (k : ℕ). k) (keys_at c.args.place (take at c.args.places.now) (take at c.args.keys.now)) (keys_at c.args.place xs ks)));
     }
 
 pub overflow_cast-theirs : goal.overflow_cast-theirs
@@ -54,4 +55,5 @@ returns c =
     let few : length (keys_at c.args.place c.args.places.now c.args.keys.now) < 2 ^ 32 = omega (arith, length-keys c.args.place c.args.places.now c.args.keys.now, c.requires.few) in
     ap₂ made
     (all-lanes (2 ^ 32) (λ a b. (a + b) % 2 ^ 32) (λ a b. refl) c.loop-i.counts refl ∙ c.loop-i.invariant.counts ∙ ap (λ l. length l % 2 ^ 32) all ∙ mod-eq_of_lt few)
-    (all-lanes 256 (λ a b. (a + b) % 256) (λ a b. refl) c.loop-i.sums refl ∙ c.loop-i.invariant.sums ∙ ap (λ l. sum l % 256) all)
+    (ap (λ n. n % MOST_KEYS) (all-lanes (2 ^ 16) (λ a b. (a + b) % 2 ^ 16) (λ a b. refl) c.loop-i.sums refl ∙ c.loop-i.invariant.sums ∙ ap (λ l. sum l % 2 ^ 16) all)
+    ∙ within-lanes (sum (keys_at c.args.place c.args.places.now c.args.keys.now)))

@@ -1,6 +1,5 @@
 use Rattle.std.proofs.Common.{◌≡◌, ◌*◌, ◌%◌, ◌^◌, length, take}
 use Rattle.std.specs.List.{sum}
-use Rattle.tb_base.specs.declared.cells.TheConstants.{KEY_RANGE}
 use Rattle.tb_base.specs.Tallies.{keys_at}
 use Rattle.tb_base.proofs.tallies.by_lanes.Given as goal
 
@@ -8,5 +7,5 @@ use Rattle.tb_base.proofs.tallies.by_lanes.Given as goal
 abbrev pub invariant-loop-i : goal.invariant-loop-i
 invariant-loop-i l = record {
   counts : sum l.counts % 2 ^ 32 ≡ length (keys_at l.place (take (l.i * 16) l.places) (take (l.i * 16) l.keys)) % 2 ^ 32;
-  sums : sum l.sums % KEY_RANGE ≡ sum (keys_at l.place (take (l.i * 16) l.places) (take (l.i * 16) l.keys)) % KEY_RANGE;
+  sums : sum l.sums % 2 ^ 16 ≡ sum (keys_at l.place (take (l.i * 16) l.places) (take (l.i * 16) l.keys)) % 2 ^ 16;
 }

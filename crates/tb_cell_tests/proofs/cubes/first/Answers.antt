@@ -1,4 +1,5 @@
 use Rattle.std.proofs.Common.{◌≡◌, [], sym, ap, refl, subst}
+use Rattle.tb_base.specs.declared.keys.Keys.TheVariants.{K256}
 use Rattle.tb_base.specs.Records.{AllFit}
 use Rattle.tb_model.specs.Releases.{ReleaseValue}
 use Rattle.tb_model.specs.Schemas.{shape_of}
@@ -7,7 +8,7 @@ use Rattle.tb_cell_tests.proofs.cubes.first.Goals as goal
 
 -- a release 0 is the same over any setup
 any_setup : SetupValue
-any_setup = record { schema = record { variables = []; recodes = [] }; lines = []; threshold = 0 }
+any_setup = record { schema = record { keys = K256; variables = []; recodes = [] }; lines = []; threshold = 0 }
 
 pub returns : goal.returns
 returns c =

@@ -2,18 +2,21 @@ use Rattle.std.proofs.Common.{◌≡◌, List, true, ◌≤◌, length, refl, ap
 use Rattle.std.specs.List.{sum_by}
 use Rattle.tb_base.specs.declared.cells.Cell.{Cell}
 use Rattle.tb_base.specs.declared.people.TheConstants.{MOST_PERSONS}
+use Rattle.tb_base.specs.Parts.{part_at}
 use Rattle.tb_base.specs.Sets.{includes_all}
 use Rattle.tb_model.specs.Cubes.{narrowed}
 use Rattle.tb_grid.specs.declared.products.TheConstants.{MOST_CELLS}
 use Rattle.tb_cube.specs.declared.axes.Axis.{Axis}
 use Rattle.tb_cube.specs.Axes.{axes_of}
 use Rattle.tb_cube.specs.Cubes.{cell_count, narrowed_to, CubeValue, IsWhole}
-use Rattle.tb_cube.specs.Forms.{seen_as}
-use Rattle.tb_cube.specs.Narrowing.{steps_of, AreRuns}
+use Rattle.tb_cube.specs.Forms.{cells_of, seen_as}
+use Rattle.tb_cube.specs.Narrowing.{forks_of, steps_of, AreRuns}
+use Rattle.tb_cube.specs.Walks.{spread}
 use Rattle.tb_cube.proofs.Adding.{made-cube}
 use Rattle.tb_cube.proofs.Grid.{there-at}
 use Rattle.tb_cube.proofs.Leading.{runs-of-steps, there-fewer}
 use Rattle.tb_cube.proofs.Narrowed.{cube-made, cube-narrowed, narrowed-held, whole-steps}
+use Rattle.tb_cube.proofs.Reduced.{reduced-sums}
 use Rattle.tb_cube.proofs.cube.narrow.Goals as goal
 
 pub axes_of-requires : goal.axes_of-requires
@@ -75,6 +78,7 @@ invariant_of-result c =
     let long : c.cells_over-long.result ≡ cell_count kept.shape c.args.vars.now = omega (arith, c.cells_over-long.ensures, fits) in
     record {
       cube = cube-made kept c.args.vars.now _ _ c.in_ok-cells.cells.items c.in_ok-axes.axes.items c.cube.invariant.cube.whole c.len.ensures.ascending among
-          c.in_ok-copy.ensures c.in_ok-copy-2.ensures c.in_ok-axes.ensures (c.in_ok-cells.ensures.many ∙ long) fits;
+          c.in_ok-copy.ensures c.in_ok-copy-2.ensures c.in_ok-axes.ensures (c.in_ok-cells.ensures.many ∙ long) fits
+          (reduced-sums c.in_ok-cells.cells.items (λ p i. spread (forks_of c.deref-2.result.now) (part_at p (cells_of c.cube.inside.form)) 0 0 i) (λ p i below. c.in_ok-cells.ensures.sums p i (omega (arith, below, c.in_ok-cells.ensures.many))));
       kept = tt;
     }

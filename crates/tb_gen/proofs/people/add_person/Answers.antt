@@ -1,5 +1,5 @@
 use Rattle.std.proofs.Common.{◌≡◌, ℕ, ◌%◌, List, [], ◌∷◌, ◌++◌, ◌∙◌, refl, ap, subst, decimal, OnOk}
-use Rattle.tb_base.specs.declared.cells.TheConstants.{KEY_RANGE}
+use Rattle.tb_gen.specs.declared.classes.TheConstants.{KEY_RANGE}
 use Rattle.tb_gen.specs.declared.variables.Variable.TheVariants.{Area, Age, Sex, Tenure}
 use Rattle.tb_gen.specs.Draws.{draw}
 use Rattle.tb_gen.specs.Variables.{code_of, categories_of, drawn_code}
@@ -10,13 +10,13 @@ use Rattle.tb_gen.proofs.people.add_person.Goals as goal
 pub returns-clause-draws : goal.returns-clause-draws
 returns-clause-draws c =
     let x = c.args.draws.now in
-    next_is 4 x _ _ (next_is 3 x _ _ (next_is 2 x _ _ (next_is 1 x _ _ c.draw.ensures.state c.draw-area.ensures.draws)
+    next_is 4 x _ _ (next_is 3 x _ _ (next_is 2 x _ _ (next_is 1 x _ _ c.draw-key.ensures.state c.draw-area.ensures.draws)
     c.draw-age.ensures.draws) c.draw-sex.ensures.draws) c.draw-tenure.ensures.draws
 
 pub returns-clause-line : goal.returns-clause-line
 returns-clause-line c =
     let x = c.args.draws.now in
-    let one = c.draw.ensures.state in
+    let one = c.draw-key.ensures.state in
     let two = next_is 1 x _ _ one c.draw-area.ensures.draws in
     let three = next_is 2 x _ _ two c.draw-age.ensures.draws in
     let four = next_is 3 x _ _ three c.draw-sex.ensures.draws in
@@ -33,7 +33,7 @@ returns-clause-line c =
     = ap (λ k. code_of Age k) (c.draw-age.ensures.category ∙ ap (λ v. v % categories_of Age) (next_value 2 x _ two)) in
     let area_is : code_of Area c.draw-area.result ≡ area
     = ap (λ k. code_of Area k) (c.draw-area.ensures.category ∙ ap (λ v. v % categories_of Area) (next_value 1 x _ one)) in
-    let key_is : decimal (c.draw.result % c.from.result) ≡ key = rw (c.draw.ensures.value, c.from.ensures) refl in
+    let key_is : decimal (c.draw-key.result % KEY_RANGE) ≡ key = rw c.draw-key.ensures.value refl in
     let l1 = last_field _ _ _ tenure c.end-line.ensures c.put_code.ensures.code tenure_is in
     let l2 = field_before _ _ _ _ sex tenure [] l1 c.put_byte.ensures c.put_code-2.ensures.code sex_is in
     let l3 = field_before _ _ _ _ age sex (tenure ∷ []) l2 c.put_byte-2.ensures c.put_code-3.ensures.code age_is in

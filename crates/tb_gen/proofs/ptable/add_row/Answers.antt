@@ -1,5 +1,5 @@
 use Rattle.std.proofs.Common.{ℕ, ◌+◌, List, ◌++◌, ◌∙◌, sym, ap, arith}
-use Rattle.tb_base.specs.declared.cells.TheConstants.{KEY_RANGE}
+use Rattle.tb_gen.specs.declared.classes.TheConstants.{KEY_RANGE}
 use Rattle.tb_gen.specs.Draws.{after}
 use Rattle.tb_gen.specs.Generated.{pvalue_line}
 use Rattle.tb_gen.proofs.Steps.{none_yet, all_left, after_more, one_more, none_left}

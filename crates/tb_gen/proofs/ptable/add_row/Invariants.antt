@@ -1,5 +1,5 @@
 use Rattle.std.proofs.Common.{◌≡◌, ◌++◌}
-use Rattle.tb_base.specs.declared.cells.TheConstants.{KEY_RANGE}
+use Rattle.tb_gen.specs.declared.classes.TheConstants.{KEY_RANGE}
 use Rattle.tb_gen.specs.Draws.{after}
 use Rattle.tb_gen.specs.Generated.{pvalue_line, row_lines}
 use Rattle.tb_gen.proofs.Steps.{rest_of}

@@ -26,7 +26,7 @@ loop-chunk-preserved c =
         so_far.0 ++ c.in-Some.chunk.now,
         so_far.1 ∙ ap (λ rs. so_far.0 ++ rs) steps.1.0 ∙ sym (append_assoc so_far.0 c.in-Some.chunk.now (chunks_rest c.next.new.self)),
         chunk-put (short_number c.args.plan.now) c.args.cells.now c.loop-chunk.cells c.add_tallies.new.cells so_far.0 c.in-Some.chunk.now _ _ c.loop-chunk.auto.cells
-            c.numbers_of-numbers.ensures c.write_keys.ensures c.add_tallies.ensures so_far.2,
+            c.numbers_of-numbers.ensures c.write_keys.ensures c.add_tallies.ensures.tallied so_far.2,
       ),
     )
 

@@ -1,6 +1,7 @@
 use Rattle.std.proofs.Common.{◌≡◌, [], sym, ap, subst}
 use Rattle.std.specs.Prelude.{IfOk, Result, Ok, Err}
 use Rattle.tb_base.specs.Records.{AllFit}
+use Rattle.tb_base.specs.declared.keys.Keys.TheVariants.{K256}
 use Rattle.tb_model.specs.Releases.{ReleaseValue, first_release}
 use Rattle.tb_model.specs.Schemas.{shape_of}
 use Rattle.tb_model.specs.Setups.{SetupValue}
@@ -12,7 +13,7 @@ map-ok (Err e) P Q f h = h
 
 -- a release 0 is the same over any setup
 any_setup : SetupValue
-any_setup = record { schema = record { variables = []; recodes = [] }; lines = []; threshold = 0 }
+any_setup = record { schema = record { keys = K256; variables = []; recodes = [] }; lines = []; threshold = 0 }
 
 pub returns-clause-number : goal.returns-clause-number
 returns-clause-number c =

@@ -24,40 +24,40 @@ returns-in_err-people-clause-loads g c =
     let p = err_from_is_err_and c.from_residual-in_err-people.result c.from_residual-in_err-people.ensures.1 in
     let inputs = c.args.inputs.now in
     let schema = c.in_ok-schema.schema in
-    let lines = c.in_ok-ptable.ptable in
-    rw (p.1, p.2) (census-steps census_value inputs schema lines
+    let table = c.in_ok-ptable.ptable in
+    rw (p.1, p.2) (census-steps census_value inputs schema table
     (Err _) refl refl refl refl refl refl c.in_ok-schema.ensures.loads c.in_ok-ptable.ensures.loads
     (Loads-fails (λ people. people) census_value (people_in schema)
-    (λ contents records. Ok (census_with inputs schema lines records)) c.in_err-people.ensures.loads))
+    (λ contents records. Ok (census_with inputs schema table records)) c.in_err-people.ensures.loads))
 
 pub returns-in_err-release-clause-loads : goal.returns-in_err-release-clause-loads
 returns-in_err-release-clause-loads g c =
     let p = err_from_is_err_and c.from_residual-in_err-release.result c.from_residual-in_err-release.ensures.1 in
     let inputs = c.args.inputs.now in
     let schema = c.in_ok-schema.schema in
-    let lines = c.in_ok-ptable.ptable in
-    rw (p.1, p.2) (census-steps census_value inputs schema lines
+    let table = c.in_ok-ptable.ptable in
+    rw (p.1, p.2) (census-steps census_value inputs schema table
     (Err _) refl refl refl refl refl refl c.in_ok-schema.ensures.loads c.in_ok-ptable.ensures.loads
     (Loads-memory (λ people. people) census_value (people_in schema)
-    (λ contents records. Ok (census_with inputs schema lines records)) c.in_ok-people.people c.in_ok-people.ensures.loads))
+    (λ contents records. Ok (census_with inputs schema table records)) c.in_ok-people.people c.in_ok-people.ensures.loads))
 
 pub returns-clause-loads : goal.returns-clause-loads
 returns-clause-loads g c =
     let inputs = c.args.inputs.now in
     let schema = c.in_ok-schema.schema in
-    let lines = c.in_ok-ptable.ptable in
-    let setup : SetupValue = record { schema = schema; lines = lines; threshold = inputs.threshold } in
+    let table = c.in_ok-ptable.ptable in
+    let setup : SetupValue = record { schema = schema; lines = table.lines; threshold = inputs.threshold } in
     let same : c.in_ok-release.release.records ≡ c.in_ok-people.people = ap (λ r. r.records) (c.in_ok-release.ensures setup) in
-    census-steps census_value inputs schema lines _ refl refl refl refl refl refl c.in_ok-schema.ensures.loads c.in_ok-ptable.ensures.loads
+    census-steps census_value inputs schema table _ refl refl refl refl refl refl c.in_ok-schema.ensures.loads c.in_ok-ptable.ensures.loads
     (Loads-ends (λ people. people) census_value (people_in schema)
-    (λ contents records. Ok (census_with inputs schema lines records)) c.in_ok-people.people _
-    (λ contents. ap (λ (rs : List Record). Ok (census_with inputs schema lines rs)) (sym same)) c.in_ok-people.ensures.loads)
+    (λ contents records. Ok (census_with inputs schema table records)) c.in_ok-people.people _
+    (λ contents. ap (λ (rs : List Record). Ok (census_with inputs schema table rs)) (sym same)) c.in_ok-people.ensures.loads)
 
 pub returns-clause-first : goal.returns-clause-first
 returns-clause-first g c =
     let setup : SetupValue = record {
       schema = c.in_ok-schema.schema;
-      lines = c.in_ok-ptable.ptable;
+      lines = c.in_ok-ptable.ptable.lines;
       threshold =
           c.args.inputs.now.threshold;
     } in

@@ -1,4 +1,4 @@
-use Rattle.std.proofs.Common.{◌≡◌, List, true, false, sym, ap, ◌∙◌, arith, refl}
+use Rattle.std.proofs.Common.{◌≡◌, List, true, false, length, sym, ap, ◌∙◌, arith, refl}
 use Rattle.std.specs.Vec.{with_items}
 use Rattle.std.proofs.lemmas.List.{with_items_is}
 use Rattle.tb_base.specs.declared.cells.Cell.{Cell}
@@ -7,6 +7,7 @@ use Rattle.tb_cube.specs.declared.packing.Form.TheVariants.{Dense}
 use Rattle.tb_cube.specs.Cubes.{merged_with, CubeValue}
 use Rattle.tb_cube.specs.Forms.{is_dense, seen_as}
 use Rattle.tb_cube.proofs.Changes.{held-merged}
+use Rattle.tb_cube.proofs.Reduced.{reduced-merged_all, still-cube}
 use Rattle.tb_cube.proofs.cube.Cube.merge.Goals as goal
 use Rattle.tb_cube.proofs.cube.Cube.merge.Goals.{in-Dense, in_default}
 
@@ -26,4 +27,14 @@ returns-clause-held c =
       | in_default w ↦
           let clash : false ≡ true = sym (ap is_dense w.in_default.is) ∙ ap (λ (v : CubeValue). v.dense) c.self.view_is ∙ c.requires.dense in
           absurd (let none : ⊥ = cc in none)
+    ]
+
+pub invariant_of-self : goal.invariant_of-self
+invariant_of-self c =
+    elim c.match-self.branch [
+      | in-Dense w ↦
+          let long : length w.merge_all.new.cells ≡ length w.in-Dense.cells.items = w.merge_all.auto.cells ∙ ap length w.deref_mut.ensures.value in
+          rw w.self-inside-is (still-cube c.self.inside.shape c.self.inside.vars c.self.inside.axes.items c.self.inside.form w.in-Dense.cells w.merge_all.new.cells c.self.invariant w.in-Dense.is long
+          (rw w.merge_all.ensures (reduced-merged_all w.deref_mut.result.now w.as_slice.result.now)))
+      | in_default w ↦ rw w.self-inside-is c.self.invariant
     ]

@@ -1,21 +1,29 @@
-use Rattle.std.proofs.Common.{◌+◌, ◌∙◌, ap, arith, map, subst, sym}
-use Rattle.tb_schema.specs.Classes.{class_line_of}
-use Rattle.tb_schema.specs.Limits.{category_total}
+use Rattle.std.proofs.Common.{◌∙◌, ◌≡◌, ◌≢◌, ◌+◌, ap, Err, subst, sym}
+use Rattle.tb_rows.specs.Formats.{at_record, step_of}
+use Rattle.tb_schema.specs.Classes.{class_line_of, classes_file}
+use Rattle.tb_schema.specs.Limits.{class_record_count}
 use Rattle.tb_schema.specs.Sound.{AreVariables}
-use Rattle.tb_schema.specs.Views.{variable_view}
+use Rattle.tb_schema.specs.Views.{variables_view}
+use Rattle.tb_schema.proofs.KeyReading.{line_refused, on_err_then}
 use Rattle.tb_schema.proofs.Taking.{on_ok_then}
-use Rattle.tb_schema.proofs.Within.{total, total-within, variables}
+use Rattle.tb_schema.proofs.Within.{few_records, one_more_record, variables}
 use Rattle.tb_schema.proofs.classes.ClassesFileFileFormat.step.Goals as goal
 
 pub returns-in-Ok-clause-known : goal.returns-in-Ok-clause-known
 returns-in-Ok-clause-known c =
-    on_ok_then c.take.result c.take.ensures.ok (λ h. variables _ _ (class_line_of c.in-Ok.line) (subst AreVariables (sym c.variables.view_is) c.requires.known) h)
+    on_ok_then c.take.result c.take.ensures.ok (λ h. variables _ _ (class_line_of c.in-Ok.line) (subst (λ v. AreVariables v.variables) (sym c.so_far.view_is) c.requires.known) h)
 
 pub returns-in-Ok-clause-count : goal.returns-in-Ok-clause-count
 returns-in-Ok-clause-count c =
-    let vs = map variable_view c.variables.inside.map.entries in
-    let ws = map variable_view c.take.new.variables.entries in
-    on_ok_then c.take.result c.take.ensures.ok (λ h. total vs ws (class_line_of c.in-Ok.line) h ∙ ap (λ vs. category_total vs + 1) c.variables.view_is)
+    on_ok_then c.take.result c.take.ensures.ok
+    (λ h. one_more_record c.so_far.inside.keys (variables_view c.so_far.inside.variables) (variables_view c.take.new.variables) (class_line_of c.in-Ok.line) h ∙ ap (λ v. class_record_count v + 1) c.so_far.view_is)
 
 pub returns-in-Ok-clause-few : goal.returns-in-Ok-clause-few
-returns-in-Ok-clause-few c = on_ok_then c.take.result (returns-in-Ok-clause-known c) (λ s. omega (arith, total-within _ s))
+returns-in-Ok-clause-few c = on_ok_then c.take.result (returns-in-Ok-clause-known c) (λ s. few_records _ s)
+
+pub returns-in-Ok-clause-refused : goal.returns-in-Ok-clause-refused
+returns-in-Ok-clause-refused c =
+    let other = sym c.states_keys.ensures ∙ c.if-states_keys.false in
+    on_err_then c.take.result c.take.ensures.refused
+    (λ e fault memory. subst (λ v. at_record c.args.at (step_of classes_file c.args.at v c.args.fields.now) ≡ Err e) c.so_far.view_is
+    (line_refused c.args.at (record { keys = c.so_far.inside.keys; variables = variables_view c.so_far.inside.variables }) c.args.fields.now (class_line_of c.in-Ok.line) e other c.in-Ok.ensures (fault memory)))

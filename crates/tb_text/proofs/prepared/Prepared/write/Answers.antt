@@ -1,7 +1,7 @@
 use Rattle.std.proofs.Common.{◌++◌, ◌∙◌, ℕ, List, [], ap}
 use Rattle.std.specs.Prelude.{codes}
 use Rattle.tb_io.proofs.Written.{written_as}
-use Rattle.tb_model.specs.Perturbations.{pvalue_at}
+use Rattle.tb_model.specs.Rules.{pvalues_in}
 use Rattle.tb_model.specs.Texts.{line_text}
 use Rattle.tb_text.specs.Lines.{end_of, lines_under}
 use Rattle.tb_text.specs.PreparedTables.{PreparedValue, prepared_text}
@@ -11,7 +11,7 @@ use Rattle.tb_text.proofs.prepared.Prepared.write.Goals as goal
 pub returns-in-Ok : goal.returns-in-Ok
 returns-in-Ok g c =
     let inside = c.self.inside in
-    let end = end_of (pvalue_at inside.setup.now.lines) inside.setup.now.threshold in
+    let end = end_of (pvalues_in inside.setup.now) inside.setup.now.threshold in
     written_as c.finish.result _ _ _ _ _ _
     (ap (λ (fs : List (List (List ℕ))). (inside.waiting ++ lines_under end [] fs c.args.cells.now) ++ line_text (codes ".")) c.deref.ensures.value
     ∙ ap (λ (p : PreparedValue). prepared_text p c.args.cells.now) c.self.view_is)
@@ -20,7 +20,7 @@ returns-in-Ok g c =
 pub returns : goal.returns
 returns g c =
     let inside = c.self.inside in
-    let end = end_of (pvalue_at inside.setup.now.lines) inside.setup.now.threshold in
+    let end = end_of (pvalues_in inside.setup.now) inside.setup.now.threshold in
     written_as _ _ _ _ _ _ _
     (ap (λ (fs : List (List (List ℕ))). (inside.waiting ++ lines_under end [] fs c.args.cells.now) ++ line_text (codes ".")) c.deref.ensures.value
     ∙ ap (λ (p : PreparedValue). prepared_text p c.args.cells.now) c.self.view_is)
