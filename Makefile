@@ -1,4 +1,4 @@
-.PHONY: test try try-guide build demo serve guide clients refusals bench bench-serve bench-tools
+.PHONY: test try try-guide build demo serve guide quotes clients refusals bench bench-serve bench-tools
 
 # What `make try` runs over: names of files, RECODES or `-` for none, and the threshold.
 CLASSES = examples/small/classes.csv
@@ -45,8 +45,12 @@ serve: build
 	cd examples/small && ../../crates/tablebuilder/out/tablebuilder serve classes.csv recodes.csv ptable.csv people.csv 0 4000 2 1000
 
 # Every example of the guide by the built program, compared with what the page has.
-guide: build
+guide: build quotes
 	python3 docs/guide.py crates/tablebuilder/out/tablebuilder docs/GUIDE.md examples/small
+
+# What the pages quote and name, compared with the tree.
+quotes:
+	python3 docs/quotes.py .
 
 # The tests of each client against servers over examples/small, at free ports.
 clients: build
