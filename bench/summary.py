@@ -30,10 +30,11 @@ def read_people(start, persons):
     return people
 
 
-def shown(count, key, ptable):
-    """The text of a cell: the row by the count, the pvalue by row and cell key, the threshold."""
+def shown(count, key_sum, ptable):
+    """The text of a cell: the row by the count, the pvalue by row and cell key, which is the key sum
+    modulo the key range, and the threshold."""
     row = count if count <= 750 else 501 + (count - 1) % 250
-    value = count + (ptable.get((row, key % KEYS), 0) if count else 0)
+    value = count + (ptable.get((row, key_sum % KEYS), 0) if count else 0)
     return "c" if value < THRESHOLD else str(value)
 
 
@@ -44,8 +45,8 @@ def table(release, people, ptable, first, second, categories, totals, keep):
             continue
         for a in (one[first], TOTAL) if totals else (one[first],):
             for b in (one[second], TOTAL) if totals else (one[second],):
-                count, key = cells.get((a, b), (0, 0))
-                cells[a, b] = count + 1, key + one["key"]
+                count, key_sum = cells.get((a, b), (0, 0))
+                cells[a, b] = count + 1, key_sum + one["key"]
     yield f"release {release}\n{first},{second},count\n"
     entries = [codes + [TOTAL] if totals else codes for codes in categories]
     for a in entries[0]:

@@ -3,8 +3,9 @@
 Usage: guide.py PROGRAM GUIDE FOLDER
 
 PROGRAM is the program's file; or `try`, for the one that `rt try` builds from crates/tablebuilder
-and of which nothing is proved. FOLDER has the small files. An example that names a file has the lines
-of that file.
+and of which nothing is proved. FOLDER has the small files; an example that names another folder, as
+`over=wide`, is run over the files of that one beside it. An example that names a file has the lines of
+that file.
 """
 
 import os
@@ -17,7 +18,8 @@ import typing
 CRATE = os.path.join(os.path.dirname(os.path.abspath(__file__)), "../crates/tablebuilder")
 FILES = ("classes.csv", "recodes.csv", "ptable.csv", "people.csv")
 EXAMPLE = re.compile(
-    r"^```(?P<command>script|lanes)(?: threshold=(?P<threshold>\d+))?(?: file=(?P<file>\S+))?\n"
+    r"^```(?P<command>script|lanes)(?: threshold=(?P<threshold>\d+))?(?: file=(?P<file>\S+))?"
+    r"(?: over=(?P<over>\w+))?\n"
     r"(?P<script>.*?)^```\n```output\n(?P<output>.*?)^```$",
     re.S | re.M,
 )
@@ -27,6 +29,7 @@ class Example(typing.NamedTuple):
     command: str
     threshold: str
     file: typing.Optional[str]
+    over: typing.Optional[str]
     script: str
     output: str
 
@@ -35,7 +38,7 @@ def examples_of(guide):
     with open(guide, encoding="utf-8") as file:
         found = EXAMPLE.finditer(file.read())
     return [
-        Example(it["command"], it["threshold"] or "0", *it.group("file", "script", "output"))
+        Example(it["command"], it["threshold"] or "0", *it.group("file", "over", "script", "output"))
         for it in found
     ]
 
@@ -47,12 +50,20 @@ def write(folder, name, text):
     return path
 
 
-def wrong_by_program(program, inputs, examples):
+def inputs_of(folder, example):
+    """The files over which an example is run; FOLDER has the small ones."""
+    if example.over is not None:
+        folder = os.path.join(folder, "..", example.over)
+    return [os.path.abspath(os.path.join(folder, name)) for name in FILES]
+
+
+def wrong_by_program(program, folder, examples):
     """How many examples the program doesn't print so."""
     wrong = 0
-    with tempfile.TemporaryDirectory() as folder:
+    with tempfile.TemporaryDirectory() as scratch:
         for example in examples:
-            script = write(folder, "script.txt", example.script)
+            script = write(scratch, "script.txt", example.script)
+            inputs = inputs_of(folder, example)
             words = [program, example.command, *inputs, example.threshold, script]
             done = subprocess.run(words, capture_output=True, check=False)
             if done.stdout.decode() != example.output or done.returncode != 0:
@@ -62,17 +73,19 @@ def wrong_by_program(program, inputs, examples):
     return wrong
 
 
-def wrong_by_try(inputs, examples):
-    """How many commands have examples that the program of `rt try` doesn't print so; it says which."""
+def wrong_by_try(folder, examples):
+    """How many commands and folders have examples that the program of `rt try` doesn't print so; it
+    says which."""
     wrong = 0
-    for command in sorted({example.command for example in examples}):
-        with tempfile.TemporaryDirectory() as folder:
+    kinds = {(example.command, *inputs_of(folder, example)) for example in examples}
+    for command, *inputs in sorted(kinds):
+        with tempfile.TemporaryDirectory() as scratch:
             for number, example in enumerate(examples):
-                if example.command == command:
-                    write(folder, f"{number:02}", example.script)
-                    write(folder, f"{number:02}.args", f"{example.threshold}\n{{}}\n")
-                    write(folder, f"{number:02}.stdout", example.output)
-            words = ["rt", "try", "--cases", folder, "--", command, *inputs]
+                if example.command == command and inputs_of(folder, example) == inputs:
+                    write(scratch, f"{number:02}", example.script)
+                    write(scratch, f"{number:02}.args", f"{example.threshold}\n{{}}\n")
+                    write(scratch, f"{number:02}.stdout", example.output)
+            words = ["rt", "try", "--cases", scratch, "--", command, *inputs]
             wrong += 1 if subprocess.run(words, cwd=CRATE, check=False).returncode else 0
     return wrong
 
@@ -92,11 +105,10 @@ def main():
     unlike = list(unlike_files(folder, examples))
     for what in unlike:
         print(f"differ: {what}")
-    inputs = [os.path.abspath(os.path.join(folder, name)) for name in FILES]
     if program == "try":
-        wrong = wrong_by_try(inputs, examples)
+        wrong = wrong_by_try(folder, examples)
     else:
-        wrong = wrong_by_program(program, inputs, examples)
+        wrong = wrong_by_program(program, folder, examples)
     print(f"{len(examples)} examples, {wrong} differ")
     return 1 if wrong or unlike or not examples else 0
 

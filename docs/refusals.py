@@ -32,6 +32,11 @@ CODED = "must be 1 to 16 letters, digits, `_`, `-`, `+` or `.`, and not `Total`"
 UNREAD = "the file must be there, and this user must be allowed to read it"
 FIELDS = "the record must have as many fields as the header"
 LIMITS = "there are at most 64 variables of 10,000 categories each, and 256 recodes"
+WIDE = "or to 4095 if the classification says so"
+KEYS = (
+    "the `variable` `*` states the key range: in the first record alone, with the `code` `keys` and the `label` 256"
+    " or 4096"
+)
 LINE = (
     "the line must be the name of a lane (a letter and up to 15 more letters and digits), a blank and the lane's"
     " line, or begin with #; it may have 4096 bytes, and a script 64 lanes"
@@ -52,6 +57,7 @@ LONG_SCRIPT = 16_777_217
 FILES = [
     ("classes.csv", "variable,code\n", "fault classes 1 BadHeader 0",
      "classes.csv, header: the header must have each of `variable`, `code` and `label` once", 3),
+    ("classes.csv", CLASSES + "*,keys,512\n", "fault classes 13 BadKeys 1", f"classes.csv, record 1: {KEYS}", 3),
     ("classes.csv", CLASSES + "SEX,1\n", "fault classes 10 BadCsv 1",
      "classes.csv, record 1: the record has not as many fields as the header", 3),
     ("classes.csv", CLASSES + "SEX,1,\n1SEX,1,\n", "fault classes 2 BadName 2",
@@ -92,7 +98,8 @@ FILES = [
     ("ptable.csv", PTABLE + "1,7,+1\n", "fault ptable 2 BadNumber 1",
      "ptable.csv, record 1: pcv and ckey must be numbers, and pvalue a number with a minus sign or without", 4),
     ("ptable.csv", PTABLE + "1,256,0\n", "fault ptable 3 OutOfRange 1",
-     "ptable.csv, record 1: pcv must be at most 750, ckey at most 255 and pvalue from -1000 to 1000", 4),
+     "ptable.csv, record 1: pcv must be at most 750, ckey at most 255 (or 4095 if the classification says so) and"
+     " pvalue from -1000 to 1000", 4),
     ("ptable.csv", PTABLE + "3,10,-4\n", "fault ptable 4 Negative 1",
      "ptable.csv, record 1: pcv + pvalue must not be negative", 4),
     ("ptable.csv", PTABLE + "0,0,1\n", "fault ptable 6 ZeroRow 1",
@@ -107,7 +114,7 @@ FILES = [
     ("people.csv", PEOPLE + "0,200,1,0-15,E1\n", "fault people 2 BadPerson 1",
      "people.csv, record 1: person must be a number from 1 to 4294967295", 5),
     ("people.csv", PEOPLE + "101,200,1,0-15,E1\n102,100,1,65+,E1\n103,256,1,65+,E2\n", "fault people 3 BadKey 3",
-     "people.csv, record 3: record_key must be a number from 0 to 255", 5),
+     f"people.csv, record 3: record_key must be a number from 0 to 255, {WIDE}", 5),
     ("people.csv", PEOPLE + "101,200,1,0-15,E3\n", "fault people 4 UnknownCode 1",
      "people.csv, record 1: each variable's field must be one of the variable's codes", 5),
     ("people.csv", PEOPLE + "101,200,1,0-15,E1\n101,200,1,0-15,E1\n", "fault people 5 PersonTwice 2",
