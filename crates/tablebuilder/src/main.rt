@@ -11,6 +11,7 @@ mod kinds;
 mod last_line;
 mod ports;
 mod refusals;
+mod unbuffered;
 
 ghost use Rattle.std.specs.Prelude.{◌≡◌, ◌<◌};
 
@@ -29,6 +30,7 @@ use std::{env, io};
 use tb_base::{Status, Steps};
 use tb_io::{RealFiles, RealSink, Wrote};
 use tb_top::{End, end_by, read_command, tablebuilder};
+use unbuffered::Unbuffered;
 
 // The arguments after the program's name.
 fn arguments<R: Env + AllocGlobal>(rt: &R) -> io::Result<Vec<String>> {
@@ -118,8 +120,9 @@ fn run<
         + Sync,
 >(rt: &R) -> Status {
     let Ok(out) = RealSink::new(rt, rt.alloc()) else {
-        explain(rt, &[], Status::Memory, None);
-        return Status::Memory;
+        let status = end_by(&End::Memory, &mut Unbuffered::new(rt));
+        explain(rt, &[], status, None);
+        return status;
     };
     let mut out = LastLine::new(out);
     match arguments(rt) {

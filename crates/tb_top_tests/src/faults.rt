@@ -1,7 +1,11 @@
 // Readings that fail, and sinks that take no more.
 
 use super::running::{Run, WITH_RECODES, WITHOUT_RECODES, is_so};
+use std::alloc::Global;
+use std::sync::Wait;
 use std::test::Fail;
+use std::thread::Threads;
+use tb_base::Memory;
 
 // The readings that fail, the files with other bytes, the number of the status, and the text: the
 // classification and the recodes are both read before either is checked, and each other file is
@@ -99,5 +103,38 @@ fn sinks_that_fail(rt: HostRuntime) -> Result<(), Fail> {
         };
         assert!(rt; is_so(&rt, rt.alloc(), &run)?, "{arguments}: {bound}");
     }
+    Ok(())
+}
+
+fn line_feeds(alloc: Global, n: usize) -> Result<Vec<u8>, Memory> {
+    let mut bytes = Vec::new(alloc);
+    bytes.resize(n, b'\n')?;
+    Ok(bytes)
+}
+
+// Whether a run over a script of so many empty lines has this status, and writes this text.
+fn ends_so(
+    rt: &(impl Threads + Wait + Sync),
+    alloc: Global,
+    lines: usize,
+    status: u8,
+    text: &[u8],
+) -> Result<bool, Memory> {
+    let script = line_feeds(alloc, lines)?;
+    let run = Run {
+        arguments: WITHOUT_RECODES,
+        others: &[("script", &script)],
+        fails: &[],
+        bound: 200,
+        status,
+        text,
+    };
+    is_so(rt, alloc, &run)
+}
+
+#[test]
+fn longest_script(rt: HostRuntime) -> Result<(), Fail> {
+    assert!(rt; ends_so(&rt, rt.alloc(), 16_777_216, 0, b"")?);
+    assert!(rt; ends_so(&rt, rt.alloc(), 16_777_217, 6, b"fault script TooLong\n")?);
     Ok(())
 }

@@ -17,7 +17,7 @@ pub returns-in_err-ptable-clause-loads : goal.returns-in_err-ptable-clause-loads
 returns-in_err-ptable-clause-loads g c =
     let p = err_from_is_err_and c.from_residual-in_err-ptable.result c.from_residual-in_err-ptable.ensures.1 in
     rw (p.1, p.2) (census-no-ptable census_value c.args.inputs.now c.in_ok-schema.schema refl refl refl c.in_ok-schema.ensures.loads
-    c.in_err-ptable.ensures.loads)
+    (rw c.keys.ensures at c.in_err-ptable.ensures.loads))
 
 pub returns-in_err-people-clause-loads : goal.returns-in_err-people-clause-loads
 returns-in_err-people-clause-loads g c =
@@ -26,7 +26,7 @@ returns-in_err-people-clause-loads g c =
     let schema = c.in_ok-schema.schema in
     let table = c.in_ok-ptable.ptable in
     rw (p.1, p.2) (census-steps census_value inputs schema table
-    (Err _) refl refl refl refl refl refl c.in_ok-schema.ensures.loads c.in_ok-ptable.ensures.loads
+    (Err _) refl refl refl refl refl refl c.in_ok-schema.ensures.loads (rw c.keys.ensures at c.in_ok-ptable.ensures.loads)
     (Loads-fails (λ people. people) census_value (people_in schema)
     (λ contents records. Ok (census_with inputs schema table records)) c.in_err-people.ensures.loads))
 
@@ -37,7 +37,7 @@ returns-in_err-release-clause-loads g c =
     let schema = c.in_ok-schema.schema in
     let table = c.in_ok-ptable.ptable in
     rw (p.1, p.2) (census-steps census_value inputs schema table
-    (Err _) refl refl refl refl refl refl c.in_ok-schema.ensures.loads c.in_ok-ptable.ensures.loads
+    (Err _) refl refl refl refl refl refl c.in_ok-schema.ensures.loads (rw c.keys.ensures at c.in_ok-ptable.ensures.loads)
     (Loads-memory (λ people. people) census_value (people_in schema)
     (λ contents records. Ok (census_with inputs schema table records)) c.in_ok-people.people c.in_ok-people.ensures.loads))
 
@@ -48,7 +48,7 @@ returns-clause-loads g c =
     let table = c.in_ok-ptable.ptable in
     let setup : SetupValue = record { schema = schema; lines = table.lines; threshold = inputs.threshold } in
     let same : c.in_ok-release.release.records ≡ c.in_ok-people.people = ap (λ r. r.records) (c.in_ok-release.ensures setup) in
-    census-steps census_value inputs schema table _ refl refl refl refl refl refl c.in_ok-schema.ensures.loads c.in_ok-ptable.ensures.loads
+    census-steps census_value inputs schema table _ refl refl refl refl refl refl c.in_ok-schema.ensures.loads (rw c.keys.ensures at c.in_ok-ptable.ensures.loads)
     (Loads-ends (λ people. people) census_value (people_in schema)
     (λ contents records. Ok (census_with inputs schema table records)) c.in_ok-people.people _
     (λ contents. ap (λ (rs : List Record). Ok (census_with inputs schema table rs)) (sym same)) c.in_ok-people.ensures.loads)
