@@ -1,4 +1,4 @@
-// The cube of a release over one variable, past a gate, in parts, and from the cube over all
+// The cube of a release over one variable, past a gate, in parts, and from cubes over more
 // variables, with ample memory.
 
 ghost use Rattle.std.specs.Prelude.{◌≡◌, ◌<◌, IfOk};
@@ -8,16 +8,15 @@ ghost use Rattle.tb_cube.specs.Cubes.{Holds};
 ghost use Rattle.tb_model.specs.Schemas.{shape_of};
 
 use super::making::add;
-use super::packed_cubes::all_variables;
+use super::sets::{age_by_sex, all_variables, sex};
 use std::alloc::Global;
 use std::marker::Brand;
 use std::sync::ledger::{Blank, Ledger};
 use std::test::Fail;
 use std::thread::Threads;
-use tb_base::{Cell, MOST_PERSONS, Memory, People, Shape, Steps, VarSet};
+use tb_base::{Cell, MOST_PERSONS, Memory, People, Steps, VarSet};
 use tb_build::{Gate, Open, build, build_in_parts};
 use tb_cube::{Cube, narrow};
-use tb_grid::{MOST_CELLS, cells_over};
 use tb_release::{Release, records_fit};
 use tb_schema::Schema;
 use tb_small_values::{release, schema};
@@ -32,17 +31,6 @@ impl Gate for Counted {
     fn reach(&mut self) {
         self.times = self.times.saturating_add(1);
     }
-}
-
-// The set of SEX alone, over which there is a cube.
-fn sex(alloc: Global, shape: &Shape) -> Result<VarSet, Memory>
-    ensures { IfOk result (HasCube shape.now) }
-{
-    let vars = VarSet::of(alloc, &[0])?;
-    if shape.len() == 0 || cells_over(shape, &vars, 0) > MOST_CELLS {
-        return Err(Memory);
-    }
-    Ok(vars)
 }
 
 // The cells of SEX: 200 + 100 + 20 = 320.
@@ -155,25 +143,59 @@ fn is_narrowed(alloc: Global, cube: &Cube, release: &Release, want: &[Cell]) -> 
     Ok(fewer.as_slice() == want)
 }
 
-// The same of the cube over all variables.
+// The same of the cube over these variables.
 fn is_right_narrowed<L: Ledger, R: Threads + Sync>(
     blank: Blank,
     rt: &R,
     alloc: Global,
     schema: &Schema,
     release: &Release,
+    vars: &VarSet,
     want: &[Cell],
 ) -> Result<bool, Memory>
     requires ledger { blank.name ≡ L.name }
     requires parts { blank.parts ≡ L.parts }
     requires some { 0 < L.parts }
     requires fit { AllFit (shape_of schema.now) release.now.records }
+    requires cube { HasCube (shape_of schema.now) vars.now }
 {
     let shape = schema.shape();
-    let vars = all_variables(alloc, shape)?;
     let mut steps = Steps::<L>::new(blank);
-    let cube = build(rt, alloc, shape, release, &vars, &mut Open, &mut steps)?;
+    let cube = build(rt, alloc, shape, release, vars, &mut Open, &mut steps)?;
     is_narrowed(alloc, &cube, release, want)
+}
+
+// The same with a counter of its own.
+fn narrows_rightly<R: Threads + Sync>(
+    rt: &R,
+    alloc: Global,
+    schema: &Schema,
+    release: &Release,
+    vars: &VarSet,
+    want: &[Cell],
+) -> Result<bool, Memory>
+    requires fit { AllFit (shape_of schema.now) release.now.records }
+    requires cube { HasCube (shape_of schema.now) vars.now }
+{
+    is_right_narrowed::<Brand, R>(Blank::new(1), rt, alloc, schema, release, vars, want)
+}
+
+// The same of AGE by SEX, and of all variables.
+fn are_right_narrowed<R: Threads + Sync>(
+    rt: &R,
+    alloc: Global,
+    schema: &Schema,
+    release: &Release,
+    want: &[Cell],
+) -> Result<bool, Memory>
+    requires { AllFit (shape_of schema.now) release.now.records }
+{
+    let two = age_by_sex(alloc, schema.shape())?;
+    let all = all_variables(alloc, schema.shape())?;
+    Ok(
+        narrows_rightly(rt, alloc, schema, release, &two, want)?
+            && narrows_rightly(rt, alloc, schema, release, &all, want)?,
+    )
 }
 
 // Whether the cells of SEX are those that are wanted, in whatever way their cube is made.
@@ -189,7 +211,7 @@ pub(crate) fn are_right<R: Threads + Sync>(
     Ok(
         is_right::<Brand, R>(Blank::new(1), rt, alloc, schema, release, want)?
             && is_right_in_parts::<Brand, R>(Blank::new(1), rt, alloc, schema, release, want)?
-            && is_right_narrowed::<Brand, R>(Blank::new(1), rt, alloc, schema, release, want)?,
+            && are_right_narrowed(rt, alloc, schema, release, want)?,
     )
 }
 

@@ -1,4 +1,4 @@
-// Runs of events with ample memory, worked by hand.
+// Runs of events, worked by hand: with memory but where an event says that it is refused.
 
 use std::alloc::Global;
 use std::test::Fail;
@@ -19,82 +19,108 @@ enum Deed {
     Drop,
 }
 
-// Both callers take, the one before person 104 is dropped and the other after it. The other is done
-// first, so the cube that comes late isn't kept. Then 103 is dropped too, and the kept cube is led
-// on. Beside each deed is its caller or its person.
-static DEEDS: [(Deed, u32); 14] = [
-    (Deed::Take, 0),
-    (Deed::Drop, 104),
-    (Deed::Take, 1),
-    (Deed::Work, 1),
-    (Deed::Offer, 1),
-    (Deed::Answer, 1),
-    (Deed::Work, 0),
-    (Deed::Offer, 0),
-    (Deed::Answer, 0),
-    (Deed::Drop, 103),
-    (Deed::Take, 0),
-    (Deed::Work, 0),
-    (Deed::Offer, 0),
-    (Deed::Answer, 0),
+// A caller, and the number of its release with its cells, unless it is out of memory.
+type Want = (u32, Option<(u32, &'static [(u32, u16)])>);
+
+// Deeds, each with its caller or its person; the places of those that are refused memory; the
+// replies and the answers to offers; and of how many sets a cube is kept in the end.
+type Case = (
+    &'static [(Deed, u32)],
+    &'static [usize],
+    &'static [Want],
+    &'static [Offered],
+    u32,
+);
+
+// 200 + 100 = 300.
+static CASES: [Case; 3] = [
+    // Both callers take, the one before person 104 is dropped and the other after it. The other is
+    // done first, so the cube that comes late isn't kept. Then 103 is dropped too, and the kept
+    // cube is led on.
+    (
+        &[
+            (Deed::Take, 0),
+            (Deed::Drop, 104),
+            (Deed::Take, 1),
+            (Deed::Work, 1),
+            (Deed::Offer, 1),
+            (Deed::Answer, 1),
+            (Deed::Work, 0),
+            (Deed::Offer, 0),
+            (Deed::Answer, 0),
+            (Deed::Drop, 103),
+            (Deed::Take, 0),
+            (Deed::Work, 0),
+            (Deed::Offer, 0),
+            (Deed::Answer, 0),
+        ],
+        &[],
+        &[
+            (1, Some((1, &[(2, 300), (1, 20)]))),
+            (0, Some((0, &[(2, 300), (2, 27)]))),
+            (0, Some((2, &[(2, 300), (0, 0)]))),
+        ],
+        &[Offered::Kept, Offered::Older(1), Offered::Kept],
+        1,
+    ),
+    // The cube over SEX and AREA is kept. 104 leaves, and AREA is asked for: that cube is narrowed,
+    // and is one batch behind. 103 and 102 leave, and SEX is asked for: that cube is narrowed once
+    // more, and is three batches behind. Each is kept over its own variables, so the other caller
+    // finds the last as it is, and has nothing to offer.
+    (
+        &[
+            (Deed::TakeBoth, 0),
+            (Deed::Work, 0),
+            (Deed::Offer, 0),
+            (Deed::Answer, 0),
+            (Deed::Drop, 104),
+            (Deed::Take, 1),
+            (Deed::Work, 1),
+            (Deed::Offer, 1),
+            (Deed::Answer, 1),
+            (Deed::Drop, 103),
+            (Deed::Drop, 102),
+            (Deed::TakeSex, 0),
+            (Deed::Work, 0),
+            (Deed::Offer, 0),
+            (Deed::Answer, 0),
+            (Deed::TakeSex, 1),
+            (Deed::Work, 1),
+            (Deed::Offer, 1),
+            (Deed::Answer, 1),
+        ],
+        &[],
+        &[
+            (0, Some((0, &[(2, 300), (1, 20), (0, 0), (1, 7)]))),
+            (1, Some((1, &[(2, 300), (1, 20)]))),
+            (0, Some((3, &[(1, 200), (0, 0)]))),
+            (1, Some((3, &[(1, 200), (0, 0)]))),
+        ],
+        &[Offered::Kept, Offered::Kept, Offered::Kept],
+        3,
+    ),
+    // Two takes end without memory, the one at once and the other at its work; 104 stays, and the
+    // cube of the third isn't kept.
+    (
+        &[
+            (Deed::Take, 0),
+            (Deed::Drop, 104),
+            (Deed::Take, 0),
+            (Deed::Work, 0),
+            (Deed::Take, 0),
+            (Deed::Work, 0),
+            (Deed::Offer, 0),
+            (Deed::Answer, 0),
+        ],
+        &[0, 1, 3, 6],
+        &[(0, None), (0, None), (0, Some((0, &[(2, 300), (2, 27)])))],
+        &[Offered::Memory],
+        0,
+    ),
 ];
 
-fn deeds() -> &'static [(Deed, u32)] {
-    &DEEDS
-}
-
-// The cube over SEX and AREA is kept. 104 leaves, and AREA is asked for: that cube is narrowed, and
-// is one batch behind. 103 and 102 leave, and SEX is asked for: that cube is narrowed once more,
-// and is three batches behind. Each is kept over its own variables, so the other caller finds the
-// last as it is, and has nothing to offer.
-static WIDE_DEEDS: [(Deed, u32); 19] = [
-    (Deed::TakeBoth, 0),
-    (Deed::Work, 0),
-    (Deed::Offer, 0),
-    (Deed::Answer, 0),
-    (Deed::Drop, 104),
-    (Deed::Take, 1),
-    (Deed::Work, 1),
-    (Deed::Offer, 1),
-    (Deed::Answer, 1),
-    (Deed::Drop, 103),
-    (Deed::Drop, 102),
-    (Deed::TakeSex, 0),
-    (Deed::Work, 0),
-    (Deed::Offer, 0),
-    (Deed::Answer, 0),
-    (Deed::TakeSex, 1),
-    (Deed::Work, 1),
-    (Deed::Offer, 1),
-    (Deed::Answer, 1),
-];
-
-fn wide_deeds() -> &'static [(Deed, u32)] {
-    &WIDE_DEEDS
-}
-
-// A caller, the number of its release, and its cells: 200 + 100 = 300.
-type Want = (u32, u32, &'static [(u32, u16)]);
-
-static REPLIES: [Want; 3] = [
-    (1, 1, &[(2, 300), (1, 20)]),
-    (0, 0, &[(2, 300), (2, 27)]),
-    (0, 2, &[(2, 300), (0, 0)]),
-];
-
-fn wanted() -> &'static [Want] {
-    &REPLIES
-}
-
-static WIDE_REPLIES: [Want; 4] = [
-    (0, 0, &[(2, 300), (1, 20), (0, 0), (1, 7)]),
-    (1, 1, &[(2, 300), (1, 20)]),
-    (0, 3, &[(1, 200), (0, 0)]),
-    (1, 3, &[(1, 200), (0, 0)]),
-];
-
-fn wanted_widely() -> &'static [Want] {
-    &WIDE_REPLIES
+fn cases() -> &'static [Case] {
+    &CASES
 }
 
 fn are_cells(cells: &Cells, want: &[(u32, u16)]) -> bool {
@@ -112,13 +138,15 @@ fn are_cells(cells: &Cells, want: &[(u32, u16)]) -> bool {
 }
 
 fn is_wanted(reply: &Reply, want: &Want) -> bool {
-    let (who, release, want) = want;
-    match &reply.outcome {
-        Outcome::Memory => false,
-        Outcome::Got { number, cells } => {
-            reply.who == *who && *number == *release && are_cells(cells, want)
+    let (who, got) = want;
+    let same = match (&reply.outcome, got) {
+        (Outcome::Got { number, cells }, Some((release, want))) => {
+            *number == *release && are_cells(cells, want)
         }
-    }
+        (Outcome::Memory, None) => true,
+        _ => false,
+    };
+    reply.who == *who && same
 }
 
 fn are_wanted(replies: &Replies, want: &[Want]) -> bool {
@@ -133,61 +161,54 @@ fn are_wanted(replies: &Replies, want: &[Want]) -> bool {
     true
 }
 
-fn are_offers(offers: &Offers) -> bool {
-    offers.len() == 3
-        && *offers.at(0) == Offered::Kept
-        && *offers.at(1) == Offered::Older(1)
-        && *offers.at(2) == Offered::Kept
+fn are_offered(offers: &Offers, want: &[Offered]) -> bool {
+    if offers.len() != want.len() {
+        return false;
+    }
+    for i in 0..offers.len() {
+        if *offers.at(i) != want[i] {
+            return false;
+        }
+    }
+    true
 }
 
-fn are_all_kept(offers: &Offers) -> bool {
-    offers.len() == 3
-        && *offers.at(0) == Offered::Kept
-        && *offers.at(1) == Offered::Kept
-        && *offers.at(2) == Offered::Kept
-}
-
-fn take_of(who: u32, vars: VarSet) -> Event {
+fn take_of(who: u32, vars: VarSet, refused: bool) -> Event {
     Event::Take {
         who,
         vars: Some(vars),
-        refused: false,
+        refused,
     }
 }
 
-fn publish_of(alloc: Global, person: u32) -> Result<Event, Memory> {
+fn publish_of(alloc: Global, person: u32, refused: bool) -> Result<Event, Memory> {
     let mut edits = Edits::new(alloc);
     match edits.push(Edit::Drop { person }) {
-        Ok(()) => Ok(Event::Publish {
-            edits,
-            refused: false,
-        }),
+        Ok(()) => Ok(Event::Publish { edits, refused }),
         Err(_) => Err(Memory),
     }
 }
 
-fn event_of(alloc: Global, deed: &Deed, who: u32) -> Result<Event, Memory> {
+fn event_of(alloc: Global, deed: &Deed, who: u32, refused: bool) -> Result<Event, Memory> {
     match deed {
-        Deed::Take => Ok(take_of(who, VarSet::of(alloc, &[2])?)),
-        Deed::TakeSex => Ok(take_of(who, VarSet::of(alloc, &[0])?)),
-        Deed::TakeBoth => Ok(take_of(who, VarSet::of(alloc, &[0, 2])?)),
-        Deed::Work => Ok(Event::Work {
-            who,
-            refused: false,
-        }),
-        Deed::Offer => Ok(Event::Offer {
-            who,
-            refused: false,
-        }),
+        Deed::Take => Ok(take_of(who, VarSet::of(alloc, &[2])?, refused)),
+        Deed::TakeSex => Ok(take_of(who, VarSet::of(alloc, &[0])?, refused)),
+        Deed::TakeBoth => Ok(take_of(who, VarSet::of(alloc, &[0, 2])?, refused)),
+        Deed::Work => Ok(Event::Work { who, refused }),
+        Deed::Offer => Ok(Event::Offer { who, refused }),
         Deed::Answer => Ok(Event::Answer { who }),
-        Deed::Drop => publish_of(alloc, who),
+        Deed::Drop => publish_of(alloc, who, refused),
     }
 }
 
-fn events_of(alloc: Global, deeds: &[(Deed, u32)]) -> Result<Vec<Event>, Memory> {
+fn events_of(
+    alloc: Global,
+    deeds: &[(Deed, u32)],
+    refused: &[usize],
+) -> Result<Vec<Event>, Memory> {
     let mut events = Vec::new(alloc);
-    for (deed, who) in deeds {
-        events.push(event_of(alloc, deed, *who)?)?;
+    for (place, (deed, who)) in deeds.iter().enumerate() {
+        events.push(event_of(alloc, deed, *who, refused.contains(&place))?)?;
     }
     Ok(events)
 }
@@ -202,26 +223,21 @@ fn ran_of(alloc: Global, events: &[Event]) -> Result<Ran, Memory> {
     ran_over(alloc, &schema, events)
 }
 
-fn is_right(alloc: Global) -> Result<bool, Memory> {
-    let events = events_of(alloc, deeds())?;
+fn is_right(alloc: Global, case: &Case) -> Result<bool, Memory> {
+    let (deeds, refused, replies, offers, kept) = case;
+    let events = events_of(alloc, deeds, refused)?;
     let ran = ran_of(alloc, &events)?;
-    Ok(are_wanted(&ran.replies, wanted()) && are_offers(&ran.offers))
-}
-
-fn is_right_widely(alloc: Global) -> Result<bool, Memory> {
-    let events = events_of(alloc, wide_deeds())?;
-    let ran = ran_of(alloc, &events)?;
-    Ok(are_wanted(&ran.replies, wanted_widely()) && are_all_kept(&ran.offers))
+    Ok(
+        are_wanted(&ran.replies, replies)
+            && are_offered(&ran.offers, offers)
+            && ran.desk.stats().entries == *kept,
+    )
 }
 
 #[test]
-fn late_cube(rt: HostRuntime) -> Result<(), Fail> {
-    assert!(rt; is_right(rt.alloc())?);
-    Ok(())
-}
-
-#[test]
-fn wider_cube(rt: HostRuntime) -> Result<(), Fail> {
-    assert!(rt; is_right_widely(rt.alloc())?);
+fn worked_events(rt: HostRuntime) -> Result<(), Fail> {
+    for (i, case) in cases().iter().enumerate() {
+        assert!(rt; is_right(rt.alloc(), case)?, "case {i}");
+    }
     Ok(())
 }

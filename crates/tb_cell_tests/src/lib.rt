@@ -25,4 +25,6 @@ mod pieces;
 #[cfg(test)]
 mod recency_lists;
 #[cfg(test)]
+mod sets;
+#[cfg(test)]
 mod tallies;

@@ -1,5 +1,5 @@
-// Cubes over all variables that are packed, or stay as they are: a quarter of the twelve cells is
-// three.
+// Cubes that are packed, or stay as they are: of all variables a quarter of the twelve cells is
+// three, and of AGE by SEX one cell of the six is less than a quarter.
 
 ghost use Rattle.std.specs.Prelude.{◌≡◌, ◌<◌, true, IfOk};
 ghost use Rattle.tb_base.specs.Records.{AllFit};
@@ -8,18 +8,18 @@ ghost use Rattle.tb_model.specs.Schemas.{shape_of};
 
 use super::cubes::first;
 use super::making::add;
+use super::sets::{age_by_sex, all_variables};
 use std::alloc::Global;
 use std::marker::Brand;
 use std::sync::ledger::{Blank, Ledger};
 use std::test::Fail;
 use std::thread::Threads;
-use tb_base::{Cell, Memory, People, Shape, Steps, VarSet};
+use tb_base::{Cell, Memory, People, Steps, VarSet};
 use tb_build::{Open, build};
 use tb_cube::Cube;
-use tb_grid::{MOST_CELLS, cells_over};
 use tb_release::Release;
 use tb_schema::Schema;
-use tb_small_values::schema;
+use tb_small_values::{release, schema};
 
 // A person in each of the first so many cells.
 fn people_of(alloc: Global, many: u16) -> Result<People, Memory> {
@@ -29,17 +29,6 @@ fn people_of(alloc: Global, many: u16) -> Result<People, Memory> {
         add(alloc, &mut people, cell as u32, 7, &codes)?;
     }
     Ok(people)
-}
-
-// The set of all variables, over which there is a cube.
-pub(crate) fn all_variables(alloc: Global, shape: &Shape) -> Result<VarSet, Memory>
-    ensures { IfOk result (HasCube shape.now) }
-{
-    let vars = VarSet::of(alloc, &[0, 1, 2])?;
-    if shape.len() < 3 || cells_over(shape, &vars, 0) > MOST_CELLS {
-        return Err(Memory);
-    }
-    Ok(vars)
 }
 
 // Whether this is the cell at a place.
@@ -80,13 +69,14 @@ fn keeps(cube: &mut Cube, is_dense: bool, kept: usize) -> Result<bool, Memory> {
     Ok(same && cube.is_dense() == is_dense && cube.kept() == kept)
 }
 
-// The same of the cube of a release.
+// The same of the cube of a release over these variables.
 fn keeps_of<L: Ledger, R: Threads + Sync>(
     blank: Blank,
     rt: &R,
     alloc: Global,
     schema: &Schema,
     release: &Release,
+    vars: &VarSet,
     is_dense: bool,
     kept: usize,
 ) -> Result<bool, Memory>
@@ -94,12 +84,37 @@ fn keeps_of<L: Ledger, R: Threads + Sync>(
     requires parts { blank.parts ≡ L.parts }
     requires some { 0 < L.parts }
     requires fit { AllFit (shape_of schema.now) release.now.records }
+    requires cube { HasCube (shape_of schema.now) vars.now }
 {
     let shape = schema.shape();
-    let vars = all_variables(alloc, shape)?;
     let mut steps = Steps::<L>::new(blank);
-    let mut cube = build(rt, alloc, shape, release, &vars, &mut Open, &mut steps)?;
+    let mut cube = build(rt, alloc, shape, release, vars, &mut Open, &mut steps)?;
     keeps(&mut cube, is_dense, kept)
+}
+
+// The same with a counter of its own.
+fn keeps_over<R: Threads + Sync>(
+    rt: &R,
+    alloc: Global,
+    schema: &Schema,
+    release: &Release,
+    vars: &VarSet,
+    is_dense: bool,
+    kept: usize,
+) -> Result<bool, Memory>
+    requires fit { AllFit (shape_of schema.now) release.now.records }
+    requires cube { HasCube (shape_of schema.now) vars.now }
+{
+    keeps_of::<Brand, R>(
+        Blank::new(1),
+        rt,
+        alloc,
+        schema,
+        release,
+        vars,
+        is_dense,
+        kept,
+    )
 }
 
 // Release 0 where so many cells have a person.
@@ -109,7 +124,7 @@ fn release_of(alloc: Global, schema: &Schema, many: u16) -> Result<Release, Memo
     first(alloc, schema, people_of(alloc, many)?)
 }
 
-// The same of its cube.
+// The same of its cube over all variables.
 fn keeps_of_cells<R: Threads + Sync>(
     rt: &R,
     alloc: Global,
@@ -119,7 +134,36 @@ fn keeps_of_cells<R: Threads + Sync>(
     kept: usize,
 ) -> Result<bool, Memory> {
     let release = release_of(alloc, schema, many)?;
-    keeps_of::<Brand, R>(Blank::new(1), rt, alloc, schema, &release, is_dense, kept)
+    let vars = all_variables(alloc, schema.shape())?;
+    keeps_over(rt, alloc, schema, &release, &vars, is_dense, kept)
+}
+
+// Whether the cube of AGE by SEX stays as it is where the four persons are in four cells, and keeps
+// no cell where there is nobody.
+fn four_are_dense<R: Threads + Sync>(
+    rt: &R,
+    alloc: Global,
+    schema: &Schema,
+) -> Result<bool, Memory> {
+    let release = release(alloc, schema)?;
+    let vars = age_by_sex(alloc, schema.shape())?;
+    keeps_over(rt, alloc, schema, &release, &vars, true, 6)
+}
+
+fn nobody_is_packed<R: Threads + Sync>(
+    rt: &R,
+    alloc: Global,
+    schema: &Schema,
+) -> Result<bool, Memory> {
+    let release = release_of(alloc, schema, 0)?;
+    let vars = age_by_sex(alloc, schema.shape())?;
+    keeps_over(rt, alloc, schema, &release, &vars, false, 0)
+}
+
+// The same over the small schema.
+fn age_by_sex_is_right<R: Threads + Sync>(rt: &R, alloc: Global) -> Result<bool, Memory> {
+    let schema = schema(alloc)?;
+    Ok(four_are_dense(rt, alloc, &schema)? && nobody_is_packed(rt, alloc, &schema)?)
 }
 
 fn keeps_with<R: Threads + Sync>(
@@ -139,5 +183,11 @@ fn a_quarter_of_the_cells_decides(rt: HostRuntime) -> Result<(), Fail> {
     assert!(rt; keeps_with(&rt, rt.alloc(), 2, false, 2)?);
     assert!(rt; keeps_with(&rt, rt.alloc(), 3, false, 3)?);
     assert!(rt; keeps_with(&rt, rt.alloc(), 4, true, 12)?);
+    Ok(())
+}
+
+#[test]
+fn four_of_six_cells_are_too_many(rt: HostRuntime) -> Result<(), Fail> {
+    assert!(rt; age_by_sex_is_right(&rt, rt.alloc())?);
     Ok(())
 }

@@ -2,7 +2,7 @@
 
 use std::mem::size_of;
 use std::test::Fail;
-use tb_base::Record;
+use tb_base::{Cell, Record};
 use tb_ptable::{PTableFault, PTableKind};
 use tb_records::{PeopleFault, PeopleKind};
 use tb_schema::{ClassFile, SchemaFault, SchemaKind};
@@ -52,8 +52,10 @@ fn text_of_people_fault(rt: HostRuntime) -> Result<(), Fail> {
     Ok(())
 }
 
-// Counting reads every record, so their size is the time of a table.
+// Counting reads every record, or else their columns, and walks over cells: so their size is the
+// time of a table.
 #[test]
 fn sizes(rt: HostRuntime) {
     assert_eq!(rt; size_of::<Record>(), 24);
+    assert_eq!(rt; size_of::<Cell>(), 8);
 }

@@ -1,10 +1,12 @@
 //! Tests of the top call over files and a sink in memory: worked runs and scripts, generated
-//! populations, readings and sinks that fail, tables of many places, arguments at each edge, and
-//! calls with ample memory.
+//! populations, files that are cut, readings and sinks that fail, tables of many places, arguments
+//! at each edge, and calls with ample memory.
 #![tactic(auto)]
 
 #[cfg(test)]
 mod arguments;
+#[cfg(test)]
+mod cuts;
 #[cfg(test)]
 mod faults;
 #[cfg(test)]

@@ -6,6 +6,3 @@ ghosts-is_right g a = record { name = a.blank.name; parts = a.blank.parts }
 
 abbrev pub ghosts-is_right_in_parts : goal.ghosts-is_right_in_parts
 ghosts-is_right_in_parts g a = record { name = a.blank.name; parts = a.blank.parts }
-
-abbrev pub ghosts-is_right_narrowed : goal.ghosts-is_right_narrowed
-ghosts-is_right_narrowed g a = record { name = a.blank.name; parts = a.blank.parts }

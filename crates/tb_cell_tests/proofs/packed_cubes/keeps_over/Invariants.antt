@@ -1,4 +1,4 @@
-use Rattle.tb_cell_tests.proofs.packed_cubes.keeps_of_cells.Given as goal
+use Rattle.tb_cell_tests.proofs.packed_cubes.keeps_over.Given as goal
 
 -- the ledger of the blank
 abbrev pub ghosts-keeps_of : goal.ghosts-keeps_of
