@@ -128,11 +128,12 @@ pub fn run_over(
     Ok(count_surely::<Brand>(rt, alloc, words, files, out, &mut net, Blank::new(1)))
 }
 
-// Whether the sink took the bytes of the row, and the status is its.
-pub fn is_so(
+// Whether the sink took the bytes of the row or these, and the status is its.
+pub fn is_either(
     rt: &(impl Threads + Wait + Sync),
     alloc: Global,
     row: &Run<'_>,
+    other: &[u8],
 ) -> Result<bool, Memory> {
     let words = words_of(alloc, row.arguments)?;
     let mut files = files_of(alloc, row.others, row.fails)?;
@@ -147,5 +148,15 @@ pub fn is_so(
         &mut net,
         Blank::new(1),
     );
-    Ok(status.number() == row.status && out.taken() == row.text)
+    let taken = out.taken();
+    Ok(status.number() == row.status && (taken == row.text || taken == other))
+}
+
+// Whether the sink took the bytes of the row, and the status is its.
+pub fn is_so(
+    rt: &(impl Threads + Wait + Sync),
+    alloc: Global,
+    row: &Run<'_>,
+) -> Result<bool, Memory> {
+    is_either(rt, alloc, row, row.text)
 }

@@ -1,6 +1,6 @@
 // Worked runs, of any files and arguments.
 
-use super::running::{Run, WITH_RECODES, WITHOUT_RECODES, is_so};
+use super::running::{Run, WITH_RECODES, WITHOUT_RECODES, is_either, is_so};
 use std::test::Fail;
 use tb_small::{CLASSES, PEOPLE, PTABLE, WIDE_CLASSES};
 
@@ -308,5 +308,29 @@ fn worked_runs(rt: HostRuntime) -> Result<(), Fail> {
         };
         assert!(rt; is_so(&rt, rt.alloc(), &run)?, "{name}: {arguments}");
     }
+    Ok(())
+}
+
+// A publication and a table in one phase, whichever came first, and a table in the next.
+const PUBLISHED: &[u8] =
+    b"custodian drop 104\ncustodian publish\nana table SEX\n--\nana table SEX\n";
+
+const TABLE_FIRST: &[u8] = b"phase 1\nlane custodian\nheld 1\npublished 1\nlane ana\nrelease 0\n\
+    SEX,count\n1,1\n2,2\n.\nphase 2\nlane ana\nrelease 1\nSEX,count\n1,1\n2,0\n.\n";
+
+const PUBLICATION_FIRST: &[u8] = b"phase 1\nlane custodian\nheld 1\npublished 1\nlane ana\n\
+    release 1\nSEX,count\n1,1\n2,0\n.\nphase 2\nlane ana\nrelease 1\nSEX,count\n1,1\n2,0\n.\n";
+
+#[test]
+fn a_publication_beside_a_table(rt: HostRuntime) -> Result<(), Fail> {
+    let run = Run {
+        arguments: "lanes classes - ptable people 0 script",
+        others: &[("script", PUBLISHED)],
+        fails: &[],
+        bound: 400,
+        status: 0,
+        text: TABLE_FIRST,
+    };
+    assert!(rt; is_either(&rt, rt.alloc(), &run, PUBLICATION_FIRST)?);
     Ok(())
 }
