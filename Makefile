@@ -1,4 +1,5 @@
-.PHONY: test try try-guide build demo serve guide quotes clients refusals bench bench-serve bench-tools
+.PHONY: test try try-guide build demo serve guide quotes clients refusals growths bench bench-serve
+.PHONY: bench-tools
 
 # What `make try` runs over: names of files, RECODES or `-` for none, and the threshold.
 CLASSES = examples/small/classes.csv
@@ -60,6 +61,11 @@ clients: build
 # standard error, and its status.
 refusals: build
 	python3 docs/refusals.py crates/tablebuilder/out/tablebuilder
+
+# Runs scripts and lanes with one allocation refused, for one after another, and compares what they
+# print with a model of the definitions.
+growths: build
+	python3 docs/growths.py crates/tablebuilder/out/tablebuilder examples/small
 
 # The program beside a plain one over generated persons: medians, spreads, peak memory and ratios.
 bench: bench-tools build

@@ -74,14 +74,26 @@ custodian add 104 7 SEX=2 AGE=16-64 AREA=E2
 custodian publish
 a table AREA by SEX with totals
 """),
+    "a person who came and left": ("script", """
+custodian add 200 9 SEX=1 AGE=65+ AREA=E1
+custodian amend 200 AGE=0-15
+custodian drop 200
+custodian publish
+a table SEX
+custodian add 200 10 SEX=1 AGE=65+ AREA=E1
+custodian publish
+"""),
     "a cache of one cube": ("script", """
 custodian cache 1
 a table SEX
-a table SEX
+a table AREA
+a table AREA
 custodian drop 104
 custodian publish
+a table AREA
 a table SEX
-b table AREA by SEX with totals
+custodian stats
+custodian clear
 custodian stats
 """),
     "two publications": ("script", """
@@ -136,9 +148,9 @@ a table AREA by SEX with totals
     "a batch beside a table": ("lanes", """
 custodian drop 104
 custodian publish
-a table SEX
+ana table SEX
 --
-a table SEX
+ana table SEX
 """),
     "three lanes in two phases": ("lanes", """
 custodian drop 104
@@ -193,8 +205,14 @@ class Model:
         return "".join(line + "\n" for line in [*lines, "."])
 
 
-def edited(people, edit):
-    """The records after an edit that is none of the refused ones."""
+def keys_of(people):
+    """The record key of each person."""
+    return {dict(one)["person"]: dict(one)["record_key"] for one in people}
+
+
+def edited(people, keys, edit):
+    """The records after an edit that is none of the refused ones, where persons of earlier releases
+    and edits have these keys; a new person's key is put there."""
     word, person, *rest = edit.split()
     old = next((dict(one) for one in people if dict(one)["person"] == person), None)
     others = [one for one in people if dict(one)["person"] != person]
@@ -202,7 +220,7 @@ def edited(people, edit):
         return tuple(others) if old else None
     if word == "add":
         key, *rest = rest
-        if old:
+        if old or keys.setdefault(person, key) != key:
             return None
         old = {"person": person, "record_key": key}
     elif old is None:
@@ -227,11 +245,12 @@ class Custodian:
 
     def __init__(self, model, chain):
         self.model, self.chain, self.held = model, list(chain), []
+        self.keys = {person: key for people in chain for person, key in keys_of(people).items()}
 
     def allows(self, line, reply):
         if reply == MEMORY:
             return True
-        people = self.chain[-1]
+        people, keys = self.chain[-1], dict(self.keys)
         if line.startswith("table "):
             return reply == self.model.table(len(self.chain) - 1, people, line)
         if line.startswith("stats"):
@@ -245,14 +264,14 @@ class Custodian:
             return reply == f"held {len(self.held)}\n"
         if not self.held:
             return reply == "refused batch 0 5 Nothing\n"
-        for edit in self.held:
-            people = edited(people, edit)
+        held, self.held = self.held, []
+        for place, edit in enumerate(held, 1):
+            people = edited(people, keys, edit)
             if people is None:
-                # (an edit before it found no memory, so this one doesn't follow)
-                self.held = []
-                return reply.startswith("refused batch ")
+                # (perhaps an edit before it found no memory, so this one doesn't follow)
+                return reply.startswith(f"refused batch {place} ")
         self.chain.append(people)
-        self.held = []
+        self.keys = keys
         return reply == f"published {len(self.chain) - 1}\n"
 
 
@@ -329,6 +348,8 @@ def allows_lanes(model, lines, text):
 def allowed(model, command, lines, status, text):
     """How a run ended, in a word; None where the definitions don't allow it."""
     if status == NO_MEMORY:
+        if not text.endswith("fault memory\n"):
+            return None
         before = text.removesuffix("fault memory\n")
         if command == "lanes" and before:
             return "no memory" if allows_lanes(model, lines, before) else None
