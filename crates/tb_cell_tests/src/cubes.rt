@@ -57,6 +57,20 @@ fn many_worked() -> [Cell; 2] {
     ]
 }
 
+// 2,500 of 5,000 are of each.
+fn thousands_worked() -> [Cell; 2] {
+    [
+        Cell {
+            count: 2_500,
+            key: 0,
+        },
+        Cell {
+            count: 2_500,
+            key: 2_500,
+        },
+    ]
+}
+
 // The persons from 1 to this number.
 pub(crate) fn people_up_to(alloc: Global, last: u32) -> Result<People, Memory> {
     let mut people = People::with_room(alloc, last as usize);
@@ -215,11 +229,11 @@ pub(crate) fn are_right<R: Threads + Sync>(
     )
 }
 
-// Release 0 of as many persons.
-fn many(alloc: Global, schema: &Schema) -> Result<Release, Memory>
+// Release 0 of so many persons.
+fn many(alloc: Global, schema: &Schema, persons: u32) -> Result<Release, Memory>
     ensures { IfOk result (λ release. AllFit (shape_of schema.now) release.records) }
 {
-    first(alloc, schema, people_up_to(alloc, MANY)?)
+    first(alloc, schema, people_up_to(alloc, persons)?)
 }
 
 // Whether that is so of the four persons, and of many.
@@ -237,8 +251,25 @@ fn many_are_right<R: Threads + Sync>(
     alloc: Global,
     schema: &Schema,
 ) -> Result<bool, Memory> {
-    let release = many(alloc, schema)?;
+    let release = many(alloc, schema, MANY)?;
     is_right::<Brand, R>(Blank::new(1), rt, alloc, schema, &release, &many_worked())
+}
+
+// Whether that is so of 5,000 persons, in each number of parts.
+fn thousands_are_right<R: Threads + Sync>(
+    rt: &R,
+    alloc: Global,
+    schema: &Schema,
+) -> Result<bool, Memory> {
+    let release = many(alloc, schema, 5_000)?;
+    is_right_in_parts::<Brand, R>(
+        Blank::new(1),
+        rt,
+        alloc,
+        schema,
+        &release,
+        &thousands_worked(),
+    )
 }
 
 // The same over the small schema.
@@ -249,7 +280,7 @@ fn is_right_of_four<R: Threads + Sync>(rt: &R, alloc: Global) -> Result<bool, Me
 
 fn is_right_of_many<R: Threads + Sync>(rt: &R, alloc: Global) -> Result<bool, Memory> {
     let schema = schema(alloc)?;
-    many_are_right(rt, alloc, &schema)
+    Ok(many_are_right(rt, alloc, &schema)? && thousands_are_right(rt, alloc, &schema)?)
 }
 
 #[test]
