@@ -5,18 +5,18 @@
 //! It stands on nothing but `smallvec` and `itoa`. Its contracts cite `specs/Cells` (a cell is the
 //! count and the key sum of some records), `Keys` (the key range, and the cell key of a key sum),
 //! `Parts` (a cell's two numbers, each summed modulo its own), `Tallies` (what stands at one place
-//! of a column), `Records`, `Pieces` (records by column), `Codes` (how a record's numbers are kept),
-//! `Persons`, `Sets`, `Numbers`, `Statuses`, `Bytes` and `Words` (text, blanks, and the words of a
-//! line); `Lists` and `OneAnswer` (a text that is read has exactly one answer) serve the crates
-//! above. Cells are summed here alone.
+//! of a column), `Records`, `Pieces` (records by column), `Codes` (how a record's numbers are
+//! kept), `Persons`, `Sets`, `Numbers`, `Statuses`, `Bytes` and `Words` (text, blanks, and the
+//! words of a line); `Lists` and `OneAnswer` (a text that is read has exactly one answer) serve the
+//! crates above. Cells are summed here alone.
 //!
 //! Lemmas for the crates above: `proofs/CellLemmas` (how a cell changes with its records),
 //! `CellsBy` (the same of the cells of several groups), `KeyLemmas` (key ranges), `PartLemmas` (the
 //! two numbers of cells, and sums modulo a number), `TallyLemmas` (records that are put in by
 //! tallies of chunks), `PersonLemmas`, `WordLemmas` (the words taken from the front of a line),
-//! `OnlyAnswer` (what is returned for a text), `AllThere` and `Options` (values that may be missing)
-//! and `Texts` (texts that are compared). `ColumnLemmas` has what becomes of columns as their
-//! records change.
+//! `OnlyAnswer` (what is returned for a text), `AllThere` and `Options` (values that may be
+//! missing) and `Texts` (texts that are compared). `ColumnLemmas` has what becomes of columns as
+//! their records change.
 #![tactic(auto)]
 
 mod bytes;

@@ -40,8 +40,8 @@ impl Schema {
     ///
     /// The classification is a CSV file with the columns `variable`, `code` and `label` in any
     /// order, beside others, and a record for each category. Its first record may state the key
-    /// range instead, by the variable `*`, the code `keys` and the label `256` or `4096`; without it
-    /// the key range is 256. Variables are numbered from 0 by first appearance, and a variable's
+    /// range instead, by the variable `*`, the code `keys` and the label `256` or `4096`; without
+    /// it the key range is 256. Variables are numbered from 0 by first appearance, and a variable's
     /// categories in the order of their records, which need not be adjacent. The recodes are one
     /// with the columns `recode`, `variable`, `code` and `group`, and a record for each category of
     /// a recode's variable; recodes and a recode's groups are numbered from 0 by first appearance.
