@@ -2,6 +2,7 @@ pub mod Bytes
 pub mod Cells
 pub mod Codes
 pub mod Keys
+pub mod Laws
 pub mod Lists
 pub mod Numbers
 pub mod OneAnswer
@@ -9,6 +10,7 @@ pub mod Parts
 pub mod Persons
 pub mod Pieces
 pub mod Records
+pub mod Rules
 pub mod Sets
 pub mod Statuses
 pub mod Tallies

@@ -6,16 +6,17 @@
 //! count and the key sum of some records), `Keys` (the key range, and the cell key of a key sum),
 //! `Parts` (a cell's two numbers, each summed modulo its own), `Tallies` (what stands at one place
 //! of a column), `Records`, `Pieces` (records by column), `Codes` (how a record's numbers are
-//! kept), `Persons`, `Sets`, `Numbers`, `Statuses`, `Bytes` and `Words` (text, blanks, and the
-//! words of a line); `Lists` and `OneAnswer` (a text that is read has exactly one answer) serve the
-//! crates above. Cells are summed here alone.
+//! kept), `Rules` (a threshold and the pvalues that were set) with its law in `Laws`, `Persons`,
+//! `Sets`, `Numbers`, `Statuses`, `Bytes` and `Words` (text, blanks, and the words of a line);
+//! `Lists` and `OneAnswer` (a text that is read has exactly one answer) serve the crates above.
+//! Cells are summed here alone.
 //!
 //! Lemmas for the crates above: `proofs/CellLemmas` (how a cell changes with its records),
 //! `CellsBy` (the same of the cells of several groups), `KeyLemmas` (key ranges), `PartLemmas` (the
 //! two numbers of cells, and sums modulo a number), `TallyLemmas` (records that are put in by
 //! tallies of chunks), `PersonLemmas`, `WordLemmas` (the words taken from the front of a line),
 //! `OnlyAnswer` (what is returned for a text), `AllThere` and `Options` (values that may be
-//! missing) and `Texts` (texts that are compared). `ColumnLemmas` has what becomes of columns as
+//! missing), `Setting` (pvalues that are set and found) and `Texts` (texts that are compared). `ColumnLemmas` has what becomes of columns as
 //! their records change.
 #![tactic(auto)]
 
@@ -24,11 +25,14 @@ mod cells;
 mod codes;
 mod columns;
 mod keys;
+pub mod laws;
+mod limits;
 mod memory;
 mod number;
 mod people;
 mod piece;
 mod records;
+mod rules;
 mod shape;
 mod status;
 mod steps;
@@ -40,11 +44,13 @@ pub use bytes::{are_blanks, blank_at, is_blank, is_text, is_text_byte, skip_blan
 pub use cells::{Cell, know_cells, reduce_keys};
 pub use codes::Codes;
 pub use keys::{Keys, MOST_KEYS};
+pub use limits::{LAST_ROW, LEAST_PVALUE, MOST_PVALUE, MOST_THRESHOLD};
 pub use memory::Memory;
-pub use number::{print_number, read_number};
+pub use number::{print_number, read_number, read_signed};
 pub use people::{MOST_PERSONS, People};
 pub use piece::Piece;
 pub use records::Record;
+pub use rules::{Rules, may_be_set};
 pub use shape::Shape;
 pub use status::Status;
 pub use steps::{Steps, charge};

@@ -1,7 +1,7 @@
 // Numbers in decimal digits.
 
 ghost use Rattle.std.specs.Prelude.{◌≡◌, ◌≤◌, length, take, drop, decimal};
-ghost use Rattle.tb_base.specs.Numbers.{number_of};
+ghost use Rattle.tb_base.specs.Numbers.{number_of, signed_of};
 
 use itoa::Buffer;
 
@@ -21,6 +21,17 @@ pub fn read_number(text: &[u8]) -> Option<u32>
         value = 10 * value + u64::from(*c - b'0');
     }
     u32::try_from(value).ok()
+}
+
+/// The number that the text spells, with a minus sign before its digits or not: the digits are
+/// those of `read_number`.
+pub fn read_signed(text: &[u8]) -> Option<i64>
+    ensures { result ≡ signed_of text.now }
+{
+    match text {
+        [b'-', digits @ ..] => Some(-i64::from(read_number(digits)?)),
+        _ => Some(i64::from(read_number(text)?)),
+    }
 }
 
 /// Writes the decimal digits of `value`, without leading zeros, at the start of `buf`, and returns

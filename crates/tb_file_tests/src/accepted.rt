@@ -3,8 +3,7 @@
 ghost use Rattle.std.specs.Prelude.{◌<◌, length};
 
 use std::alloc::Global;
-use tb_base::{Keys, People, Record};
-use tb_model::LAST_ROW;
+use tb_base::{Keys, LAST_ROW, People, Record};
 use tb_ptable::PTable;
 use tb_records::read_people;
 use tb_schema::{NameOf, Schema};

@@ -4,7 +4,7 @@ use Rattle.std.specs.Prelude.{ℤ, pos, ◌-ℤ◌, neg_ℤ}
 use Rattle.std.specs.Int.{int_max}
 use Rattle.std.specs.Fmt.{signed_decimal}
 use Rattle.tb_gen.specs.declared.classes.TheConstants.{KEY_RANGE}
-use Rattle.tb_model.specs.declared.rows.TheConstants.{LAST_ROW}
+use Rattle.tb_base.specs.declared.limits.TheConstants.{LAST_ROW}
 use Rattle.tb_gen.specs.declared.variables.Variable.{Variable}
 use Rattle.tb_gen.specs.declared.variables.Variable.TheVariants.{Area, Age, Sex, Tenure}
 use Rattle.tb_gen.specs.Draws.{after, draw, seed}

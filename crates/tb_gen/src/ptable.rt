@@ -2,7 +2,7 @@
 
 ghost use Rattle.std.specs.Prelude.{◌≡◌, ◌≤◌, ◌<◌, ◌++◌, IfOk, OnOk};
 ghost use Rattle.tb_gen.specs.declared.classes.TheConstants.{KEY_RANGE};
-ghost use Rattle.tb_model.specs.declared.rows.TheConstants.{LAST_ROW};
+ghost use Rattle.tb_base.specs.declared.limits.TheConstants.{LAST_ROW};
 ghost use Rattle.tb_gen.specs.Draws.{after};
 ghost use Rattle.tb_gen.specs.Generated.{drawn_pvalue, pvalue_line, row_lines, generated_ptable};
 
@@ -11,8 +11,7 @@ use crate::draws::Draws;
 use crate::heading::headed;
 use crate::line::Line;
 use std::alloc::Global;
-use tb_base::Memory;
-use tb_model::LAST_ROW;
+use tb_base::{LAST_ROW, Memory};
 
 const HEADER: &[u8] = b"pcv,ckey,pvalue\n";
 // The longest line is `750,255,-2`.

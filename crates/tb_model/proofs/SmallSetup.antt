@@ -40,13 +40,13 @@ records =
     ∷ person 104 7 (1 ∷ 1 ∷ 1 ∷ [])
     ∷ []
 
--- the setup with these lines of the perturbation table and this threshold
-abbrev pub setup : List PerturbationLine → ℕ → SetupValue
-setup listed threshold = record { schema = schema; lines = listed; threshold = threshold }
+-- the setup with these lines of the perturbation table
+abbrev pub setup : List PerturbationLine → SetupValue
+setup listed = record { schema = schema; lines = listed }
 
 -- the same with the key range 4096
-abbrev pub wide_setup : List PerturbationLine → ℕ → SetupValue
-wide_setup listed threshold = record (setup listed threshold) { schema = record schema { keys = K4096 } }
+abbrev pub wide_setup : List PerturbationLine → SetupValue
+wide_setup listed = record (setup listed) { schema = record schema { keys = K4096 } }
 
 abbrev pub sex : NameOf
 sex = name_of.Variable 0

@@ -7,7 +7,8 @@ use Rattle.tb_base.specs.declared.cells.Cell.{Cell}
 use Rattle.tb_base.specs.declared.keys.Keys.{Keys}
 use Rattle.tb_base.specs.Keys.{ckey_of}
 use Rattle.tb_model.specs.declared.names.PerturbationLine.{PerturbationLine}
-use Rattle.tb_model.specs.declared.rows.TheConstants.{LARGE_ROWS, LARGE_ROWS_BEGIN, LAST_ROW}
+use Rattle.tb_base.specs.declared.limits.TheConstants.{LAST_ROW}
+use Rattle.tb_model.specs.declared.rows.TheConstants.{LARGE_ROWS, LARGE_ROWS_BEGIN}
 use Rattle.tb_model.specs.declared.names.Shown.{Shown}
 use Rattle.tb_model.specs.declared.names.Shown.TheVariants.{Number, Suppressed}
 

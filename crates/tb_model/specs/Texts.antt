@@ -48,5 +48,5 @@ text_of_cells schema pvalues threshold query number cells =
 -- the text of a query's table at a release
 abbrev pub table_text : SetupValue → ReleaseValue → QueryValue → List ℕ
 table_text setup release query =
-    text_of_cells setup.schema (pvalues_of setup release) (threshold_of setup release) query
+    text_of_cells setup.schema (pvalues_of setup release) (threshold_of release) query
     release.number (cells_of setup.schema query release.records)

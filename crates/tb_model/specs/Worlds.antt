@@ -27,7 +27,7 @@ world_at setup release query place =
     record {
       schema = setup.schema;
       pvalues = cell_pvalues_of setup release;
-      threshold = threshold_of setup release;
+      threshold = threshold_of release;
       records = release.records;
       query = query;
       place = place;

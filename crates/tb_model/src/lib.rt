@@ -19,4 +19,4 @@ mod rows;
 
 pub use names::{Entry, Filter, NameOf, PerturbationLine, Shown};
 pub use rooms::PAGE_ROOM;
-pub use rows::{LARGE_ROWS, LARGE_ROWS_BEGIN, LAST_ROW};
+pub use rows::{LARGE_ROWS, LARGE_ROWS_BEGIN};

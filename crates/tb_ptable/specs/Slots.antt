@@ -3,8 +3,7 @@ use Rattle.std.specs.Prelude.{◌≡◌, ◌+ℤ◌, ◌≤ℤ◌, ◌+◌, ◌*
 use Rattle.std.specs.Prelude.{Option, Some, None, is_some, unwrap_or, count_by, if◌then◌else◌}
 use Rattle.std.specs.Ordering.{int_eq}
 use Rattle.tb_model.specs.declared.names.PerturbationLine.{PerturbationLine}
-use Rattle.tb_model.specs.declared.rows.TheConstants.{LAST_ROW}
-use Rattle.tb_ptable.specs.declared.line.TheConstants.{MOST_PVALUE}
+use Rattle.tb_base.specs.declared.limits.TheConstants.{LAST_ROW, MOST_PVALUE}
 use Rattle.tb_ptable.specs.declared.slots.TheConstants.{MOST_SLOTS, NO_PVALUE}
 use Rattle.tb_ptable.specs.Lines.{pvalue_in}
 

@@ -10,8 +10,8 @@ ghost use Rattle.tb_ptable.specs.declared.fault.PTableKind.TheVariants.{PairTwic
 use crate::line_list::LineList;
 use std::alloc::Global;
 use std::marker::Model;
-use tb_base::{Keys, MOST_KEYS, Memory};
-use tb_model::{LAST_ROW, PerturbationLine};
+use tb_base::{Keys, LAST_ROW, MOST_KEYS, Memory};
+use tb_model::PerturbationLine;
 
 // How many rows there are, from 0 on.
 const ROWS: usize = LAST_ROW as usize + 1;

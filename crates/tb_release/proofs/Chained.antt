@@ -1,5 +1,5 @@
 -- Batches of edits, and chains.
-use Rattle.std.proofs.Common.{◌≡◌, ℕ, suc, ◌+◌, ◌≤◌, Bool, true, false, eqb, leb, ltb, List, [], ◌∷◌, ◌++◌, length, refl, sym, ap, subst, ◌∙◌, arith}
+use Rattle.std.proofs.Common.{◌≡◌, ℕ, suc, ◌+◌, ◌≤◌, Bool, true, false, cond, eqb, leb, ltb, List, [], ◌∷◌, ◌++◌, length, refl, sym, ap, subst, ◌∙◌, arith}
 use Rattle.std.specs.Prelude.{Option, Some, None, fold, if◌then◌else◌, ◌||◌, ◌↔◌}
 use Rattle.std.specs.Option.{option_map_or}
 use Rattle.std.proofs.lemmas.Bool.{leb-false, lt-leb, ltb-false, le-ltb, eqb-false, ne_eqb}
@@ -7,16 +7,18 @@ use Rattle.std.proofs.lemmas.List.Sums.{sum_by-cons}
 use Rattle.tb_model.specs.Releases.{ReleaseValue}
 use Rattle.tb_release.specs.declared.edits.Change.{Change}
 use Rattle.tb_release.specs.declared.edits.Edit.{Edit}
+use Rattle.tb_release.specs.declared.edits.Edit.TheVariants.{Add, Drop, Amend, Pvalue, Threshold}
 use Rattle.tb_release.specs.declared.fault.EditFaultKind.{EditFaultKind}
 use Rattle.tb_release.specs.declared.fault.EditFaultKind.TheVariants as kind
 use Rattle.tb_release.specs.declared.limits.TheConstants.{MOST_EDITS, MOST_RELEASES, MOST_CHANGES}
 use Rattle.tb_release.specs.Releases.{IsSound}
-use Rattle.tb_release.specs.Edits.{edited, edited_all}
+use Rattle.tb_release.specs.Edits.{edited, edited_all, edited_rules, is_of_rules}
+use Rattle.tb_rules.specs.Rules.{RulesValue}
 use Rattle.tb_release.specs.Possible.{ArePossible, refusal, first_refusal}
-use Rattle.tb_release.specs.Batches.{BatchValue, CanFollow, Follows, batch_of, batch_refusal, changes_of, next_release}
-use Rattle.tb_release.specs.Chains.{changed, after_batch, release_after, change_count, IsChain}
+use Rattle.tb_release.specs.Batches.{BatchValue, CanFollow, Follows, batch_of, batch_length, batch_refusal, change_of, changes_of, next_release, rule_edits_of}
+use Rattle.tb_release.specs.Chains.{changed, after_batch, release_after, change_count, edit_count, IsChain}
 use Rattle.tb_release.specs.Laws.{KeepsKeys, ChainFacts}
-use Rattle.tb_release.proofs.Edited.{possible_of, none_of, sound_after, key_stays, changed-change_of}
+use Rattle.tb_release.proofs.Edited.{possible_of, none_of, sound_after, key_stays, changed-change_of, rules_stay}
 
 -- ---- edits are possible exactly where there is no refusal
 both_none : (number : ℕ) (o : Option EditFaultKind) (rest : Option (EditFaultKind × ℕ)) → option_map_or (λ why. Some (why, number)) o rest ≡ None → (o ≡ None) × (rest ≡ None)
@@ -42,22 +44,29 @@ batch_parts false false false rest none = (refl, refl, refl, none)
 
 pub can_follow : (release : ReleaseValue) (edits : List Edit) → length edits ≤ MOST_EDITS → batch_refusal release edits ≡ None → CanFollow release edits
 can_follow release edits few none =
-    let h = batch_parts (eqb (length edits) 0) (leb MOST_RELEASES release.number) (ltb MOST_CHANGES (release.changes + length edits)) (first_refusal 1 release edits) none in
+    let h = batch_parts (eqb (length edits) 0) (leb MOST_RELEASES release.number) (ltb MOST_CHANGES (release.edits + length edits)) (first_refusal 1 release edits) none in
     let apart = eqb-false (length edits) 0 h.0 in record {
       some = omega arith;
       few = few;
       releases = leb-false MOST_RELEASES release.number h.1;
-      changes = ltb-false MOST_CHANGES (release.changes + length edits) h.2;
+      so_far = ltb-false MOST_CHANGES (release.edits + length edits) h.2;
       possible = all_possible 1 release edits h.3;
     }
 
 no_refusal : (release : ReleaseValue) (edits : List Edit) → CanFollow release edits → batch_refusal release edits ≡ None
 no_refusal release edits can =
     let some = can.some in
-    rw (ne_eqb (length edits) 0 (λ e. omega (arith, some, e)), lt-leb MOST_RELEASES release.number can.releases, le-ltb MOST_CHANGES (release.changes + length edits) can.changes) (none_refused 1 release edits can.possible)
+    rw (ne_eqb (length edits) 0 (λ e. omega (arith, some, e)), lt-leb MOST_RELEASES release.number can.releases, le-ltb MOST_CHANGES (release.edits + length edits) can.so_far) (none_refused 1 release edits can.possible)
 
 pub can_follow_unless_refused : (release : ReleaseValue) (edits : List Edit) → length edits ≤ MOST_EDITS → (batch_refusal release edits ≡ None) ↔ CanFollow release edits
 can_follow_unless_refused release edits few = (can_follow release edits few, no_refusal release edits)
+
+-- the edits of the rules among some, where the first is one, and where it isn't
+filter-true : (e : Edit) (es : List Edit) → is_of_rules e ≡ true → rule_edits_of (e ∷ es) ≡ e ∷ rule_edits_of es
+filter-true e es of = ap (λ (b : Bool). cond b (e ∷ rule_edits_of es) (rule_edits_of es)) of
+
+filter-false : (e : Edit) (es : List Edit) → is_of_rules e ≡ false → rule_edits_of (e ∷ es) ≡ rule_edits_of es
+filter-false e es of = ap (λ (b : Bool). cond b (e ∷ rule_edits_of es) (rule_edits_of es)) of
 
 -- ---- possible edits
 pub stay_sound : (release : ReleaseValue) (edits : List Edit) → ArePossible release edits → IsSound release → IsSound (edited_all release edits)
@@ -68,32 +77,101 @@ pub keys_stay : (release : ReleaseValue) (edits : List Edit) → ArePossible rel
 keys_stay release [] can q k is = is
 keys_stay release (e ∷ es) can q k is = keys_stay (edited release e) es can.1 q k (key_stays release e can.0 q k is)
 
-fold-changes : (release : ReleaseValue) (edits : List Edit) → IsSound release → ArePossible release edits → fold changed release (changes_of release edits) ≡ edited_all release edits
-fold-changes release [] s can = refl
-fold-changes release (e ∷ es) s can =
-    ap (λ r. fold changed r (changes_of (edited release e) es)) (changed-change_of release e s.distinct can.0)
-    ∙ fold-changes (edited release e) es (sound_after release e can.0 s) can.1
+-- changes leave the rules, whatever they are
+with_rules : (release : ReleaseValue) (rules : RulesValue) (changes : List Change)
+    → fold changed (record release { rules = rules }) changes ≡ record (fold changed release changes) { rules = rules }
+with_rules release rules [] = refl
+with_rules release rules (c ∷ cs) = with_rules (changed release c) rules cs
 
-pub length-changes_of : (release : ReleaseValue) (edits : List Edit) → length (changes_of release edits) ≡ length edits
-length-changes_of release [] = refl
-length-changes_of release (e ∷ es) = ap suc (length-changes_of (edited release e) es)
+-- an edit of the rules leaves all else
+rules_alone : (release : ReleaseValue) (e : Edit) → is_of_rules e ≡ true → release ≡ record (edited release e) { rules = release.rules }
+rules_alone release (Add person key codes) of = cc
+rules_alone release (Drop person) of = cc
+rules_alone release (Amend person sets) of = cc
+rules_alone release (Pvalue row key pvalue) of = refl
+rules_alone release (Threshold value) of = refl
+
+-- the changes of an edit and of those after it
+pub changes_of-rule : (release : ReleaseValue) (e : Edit) (es : List Edit) → is_of_rules e ≡ true → changes_of release (e ∷ es) ≡ changes_of (edited release e) es
+changes_of-rule release e es of = ap (λ (b : Bool). if b then changes_of (edited release e) es else change_of release e ∷ changes_of (edited release e) es) of
+
+pub changes_of-record : (release : ReleaseValue) (e : Edit) (es : List Edit) → is_of_rules e ≡ false
+    → changes_of release (e ∷ es) ≡ change_of release e ∷ changes_of (edited release e) es
+changes_of-record release e es of = ap (λ (b : Bool). if b then changes_of (edited release e) es else change_of release e ∷ changes_of (edited release e) es) of
+
+fold-changes : (release : ReleaseValue) (edits : List Edit) → IsSound release → ArePossible release edits
+    → fold changed release (changes_of release edits) ≡ record (edited_all release edits) { rules = release.rules }
+fold-changes release [] s can = refl
+fold-changes release (e ∷ es) s can = by (is_of_rules e) refl (fold-changes (edited release e) es (sound_after release e can.0 s) can.1)
+  where
+    by : (b : Bool) → is_of_rules e ≡ b → fold changed (edited release e) (changes_of (edited release e) es) ≡ record (edited_all (edited release e) es) { rules = (edited release e).rules }
+        → fold changed release (changes_of release (e ∷ es)) ≡ record (edited_all release (e ∷ es)) { rules = release.rules }
+    by true of rest =
+        ap (fold changed release) (changes_of-rule release e es of)
+        ∙ ap (λ r. fold changed r (changes_of (edited release e) es)) (rules_alone release e of)
+        ∙ with_rules (edited release e) release.rules (changes_of (edited release e) es)
+        ∙ ap (λ (r : ReleaseValue). record r { rules = release.rules }) rest
+    by false of rest =
+        ap (fold changed release) (changes_of-record release e es of)
+        ∙ ap (λ r. fold changed r (changes_of (edited release e) es)) (changed-change_of release e of s.distinct can.0)
+        ∙ rest ∙ ap (λ x. record (edited_all (edited release e) es) { rules = x }) (rules_stay release.rules e of)
+
+-- the rules after edits are those after the edits of the rules among them
+pub rules_after : (release : ReleaseValue) (edits : List Edit) → fold edited_rules release.rules (rule_edits_of edits) ≡ (edited_all release edits).rules
+rules_after release [] = refl
+rules_after release (e ∷ es) = by (is_of_rules e) refl (rules_after (edited release e) es)
+  where
+    by : (b : Bool) → is_of_rules e ≡ b → fold edited_rules (edited_rules release.rules e) (rule_edits_of es) ≡ (edited_all (edited release e) es).rules
+        → fold edited_rules release.rules (rule_edits_of (e ∷ es)) ≡ (edited_all release (e ∷ es)).rules
+    by true of rest = ap (fold edited_rules release.rules) (filter-true e es of) ∙ rest
+    by false of rest = ap (fold edited_rules release.rules) (filter-false e es of) ∙ ap (λ x. fold edited_rules x (rule_edits_of es)) (sym (rules_stay release.rules e of)) ∙ rest
+
+pub length-batch_of : (release : ReleaseValue) (edits : List Edit) → batch_length (batch_of release edits) ≡ length edits
+length-batch_of release [] = refl
+length-batch_of release (e ∷ es) = by (is_of_rules e) refl (length-batch_of (edited release e) es)
+  where
+    by : (b : Bool) → is_of_rules e ≡ b → length (changes_of (edited release e) es) + length (rule_edits_of es) ≡ length es
+        → length (changes_of release (e ∷ es)) + length (rule_edits_of (e ∷ es)) ≡ suc (length es)
+    by true of rest =
+        let a = ap length (changes_of-rule release e es of) in
+        let b = ap length (filter-true e es of) in omega (arith, a, b, rest)
+    by false of rest =
+        let a = ap length (changes_of-record release e es of) in
+        let b = ap length (filter-false e es of) in omega (arith, a, b, rest)
 
 pub batches_lead_on : (release : ReleaseValue) (edits : List Edit) → IsSound release → ArePossible release edits
     → after_batch release (batch_of release edits) ≡ next_release release edits
-batches_lead_on release edits s can = rw (fold-changes release edits s can, length-changes_of release edits) refl
+batches_lead_on release edits s can =
+    ap (λ (r : ReleaseValue). record r {
+      number = release.number + 1;
+      changes = release.changes + length (changes_of release edits);
+      edits = release.edits + batch_length (batch_of release edits);
+      rules = fold edited_rules release.rules (rule_edits_of edits);
+    }) (fold-changes release edits s can)
+    ∙ ap (λ n. record (edited_all release edits) {
+      number = release.number + 1;
+      changes = release.changes + length (changes_of release edits);
+      edits = release.edits + n;
+      rules = fold edited_rules release.rules (rule_edits_of edits);
+    }) (length-batch_of release edits)
+    ∙ ap (λ x. record (edited_all release edits) {
+      number = release.number + 1;
+      changes = release.changes + length (changes_of release edits);
+      edits = release.edits + length edits;
+      rules = x;
+    }) (rules_after release edits)
 
 -- ---- chains
 after_follows : (release : ReleaseValue) (batch : BatchValue) (f : Follows release batch) → IsSound release → after_batch release batch ≡ next_release release f.edits
 after_follows release batch f s =
-    let same : batch ≡ batch_of release f.edits = ap (λ (cs : List Change). record { changes = cs }) f.theirs in
-    ap (after_batch release) same ∙ batches_lead_on release f.edits s f.can.possible
+    ap (after_batch release) f.theirs ∙ batches_lead_on release f.edits s f.can.possible
 
 next_sound : (release : ReleaseValue) (edits : List Edit) → ArePossible release edits → IsSound release → IsSound (next_release release edits)
 next_sound release edits can s =
     let h = stay_sound release edits can s in record { distinct = h.distinct; in_book = h.in_book; few = h.few; in_pages = h.in_pages }
 
 pub chains_hold : (release : ReleaseValue) (chain : List BatchValue) → IsSound release → IsChain release chain → ChainFacts release chain
-chains_hold release [] s is = record { sound = s; keys = λ q k at. at; number = omega arith; changes = omega arith }
+chains_hold release [] s is = record { sound = s; keys = λ q k at. at; number = omega arith; changes = omega arith; edits = omega arith }
 chains_hold release (batch ∷ chain) s is =
     let next = after_follows release batch is.0 s in
     let sound : IsSound (after_batch release batch) = subst IsSound (sym next) (next_sound release is.0.edits is.0.can.possible s) in
@@ -105,6 +183,8 @@ chains_hold release (batch ∷ chain) s is =
       number = let number = rest.number in omega arith;
       changes = let more : change_count (batch ∷ chain) ≡ length batch.changes + change_count chain = sum_by-cons (λ (b : BatchValue). length b.changes) batch chain in
           let changes = rest.changes in omega arith;
+      edits = let more : edit_count (batch ∷ chain) ≡ batch_length batch + edit_count chain = sum_by-cons batch_length batch chain in
+          let edits = rest.edits in omega arith;
     }
 
 pub chains_go_on : (release : ReleaseValue) (chain : List BatchValue) (batch : BatchValue) → IsChain release chain → Follows (release_after release chain) batch → IsChain release (chain ++ batch ∷ [])

@@ -16,11 +16,12 @@ use Rattle.tb_pages.specs.Pages.{changed_pages, is_of, record_of}
 use Rattle.tb_pages.proofs.PageLaws.{records_in-added, records_in-without, records_in-replaced}
 use Rattle.tb_pages.proofs.Tests.{get-book_insert}
 use Rattle.tb_release.specs.declared.edits.Edit.{Edit}
-use Rattle.tb_release.specs.declared.edits.Edit.TheVariants.{Add, Drop, Amend}
+use Rattle.tb_release.specs.declared.edits.Edit.TheVariants.{Add, Drop, Amend, Pvalue, Threshold}
 use Rattle.tb_release.specs.declared.fault.EditFaultKind.TheVariants as kind
 use Rattle.tb_release.specs.declared.edits.Change.{Change}
 use Rattle.tb_release.specs.Releases.{IsSound, HasKeyOf}
-use Rattle.tb_release.specs.Edits.{edited, edited_book, edited_pages, edited_records, amended, person_of}
+use Rattle.tb_release.specs.Edits.{edited, edited_book, edited_pages, edited_records, edited_rules, is_of_rules, amended, person_of}
+use Rattle.tb_rules.specs.Rules.{RulesValue}
 use Rattle.tb_release.specs.Possible.{IsPossible, refusal, has_other_key}
 use Rattle.tb_release.specs.Batches.{change_of}
 use Rattle.tb_release.specs.Chains.{changed, changed_book, changed_records}
@@ -47,11 +48,15 @@ possible_of release (Add person key codes) none =
     }
 possible_of release (Drop person) none = there (has_person release.records person) none
 possible_of release (Amend person sets) none = there (has_person release.records person) none
+possible_of release (Pvalue row key pvalue) none = tt
+possible_of release (Threshold value) none = tt
 
 pub none_of : (release : ReleaseValue) (edit : Edit) → IsPossible release edit → refusal release edit ≡ None
 none_of release (Add person key codes) can = rw (can.new, can.same_key, lt-leb MOST_PERSONS (length release.records) can.room) refl
 none_of release (Drop person) is = rw is refl
 none_of release (Amend person sets) is = rw is refl
+none_of release (Pvalue row key pvalue) is = refl
+none_of release (Threshold value) is = refl
 
 -- ---- its change
 pub change_of-add : (release : ReleaseValue) (person key : ℕ) (codes : List ℕ) → has_person release.records person ≡ false
@@ -77,38 +82,59 @@ change_of-amend release person sets r distinct is =
     let kept : record_of (map (λ x. if is_of person x then amended sets x else x) release.records) person ≡ Some (amended sets r) = rw (replaced (amended sets) s) here in
     rw (is, kept) refl
 
--- an edit that is possible is known by its change
-pub leads_records : (release : ReleaseValue) (edit : Edit) → AreDistinct release.records → IsPossible release edit
+-- an edit of a record that is possible is known by its change
+pub leads_records : (release : ReleaseValue) (edit : Edit) → is_of_rules edit ≡ false → AreDistinct release.records → IsPossible release edit
     → changed_records release.records (person_of edit) (change_of release edit).before (change_of release edit).after ≡ edited_records release.records edit
-leads_records release (Add person key codes) distinct can =
+leads_records release (Add person key codes) of distinct can =
     ap (λ (c : Change). changed_records release.records person c.before c.after) (change_of-add release person key codes can.new)
-leads_records release (Drop person) distinct can =
+leads_records release (Drop person) of distinct can =
     let r = found person release.records can in
     ap (λ (c : Change). changed_records release.records person c.before c.after) (change_of-drop release person r.0 distinct r.1)
-leads_records release (Amend person sets) distinct can =
+leads_records release (Amend person sets) of distinct can =
     let r = found person release.records can in
     let s = stands person release.records r.0 distinct r.1 in
     ap (λ (c : Change). changed_records release.records person c.before c.after) (change_of-amend release person sets r.0 distinct r.1)
     ∙ (replaced (λ _. amended sets r.0) s ∙ sym (replaced (amended sets) s))
+leads_records release (Pvalue row key pvalue) of distinct can = cc
+leads_records release (Threshold value) of distinct can = cc
 
-leads_book : (release : ReleaseValue) (edit : Edit) → AreDistinct release.records → IsPossible release edit
+leads_book : (release : ReleaseValue) (edit : Edit) → is_of_rules edit ≡ false → AreDistinct release.records → IsPossible release edit
     → changed_book release.key_book (person_of edit) (change_of release edit).before (change_of release edit).after ≡ edited_book release.key_book edit
-leads_book release (Add person key codes) distinct can =
+leads_book release (Add person key codes) of distinct can =
     ap (λ (c : Change). changed_book release.key_book person c.before c.after) (change_of-add release person key codes can.new)
-leads_book release (Drop person) distinct can =
+leads_book release (Drop person) of distinct can =
     let r = found person release.records can in
     ap (λ (c : Change). changed_book release.key_book person c.before c.after) (change_of-drop release person r.0 distinct r.1)
-leads_book release (Amend person sets) distinct can =
+leads_book release (Amend person sets) of distinct can =
     let r = found person release.records can in
     ap (λ (c : Change). changed_book release.key_book person c.before c.after) (change_of-amend release person sets r.0 distinct r.1)
+leads_book release (Pvalue row key pvalue) of distinct can = cc
+leads_book release (Threshold value) of distinct can = cc
+
+-- it leaves the rules, and the pages that its change leaves
+pub rules_stay : (rules : RulesValue) (edit : Edit) → is_of_rules edit ≡ false → edited_rules rules edit ≡ rules
+rules_stay rules (Add person key codes) of = refl
+rules_stay rules (Drop person) of = refl
+rules_stay rules (Amend person sets) of = refl
+rules_stay rules (Pvalue row key pvalue) of = cc
+rules_stay rules (Threshold value) of = cc
+
+pub leads_pages : (release : ReleaseValue) (edit : Edit) → is_of_rules edit ≡ false
+    → changed_pages (release.number + 1) release.pages (person_of edit) (change_of release edit).before (change_of release edit).after ≡ edited_pages release edit
+leads_pages release edit of =
+    sym (ap (λ (b : Bool). if b then release.pages else changed_pages (release.number + 1) release.pages (person_of edit) (change_of release edit).before (change_of release edit).after) of)
 
 -- releases with the same parts
-pub same_release : {a b : List Record} {ps qs : List PageValue} {m n : KeyBook} {number number' changes changes' : ℕ} → a ≡ b → ps ≡ qs → m ≡ n → number ≡ number' → changes ≡ changes'
-    → ◌≡◌ {A = ReleaseValue} (record { records = a; pages = ps; key_book = m; number = number; changes = changes }) (record { records = b; pages = qs; key_book = n; number = number'; changes = changes' })
-same_release records pages book number changes = rw (records, pages, book, number, changes) refl
+pub same_release : {a b : List Record} {ps qs : List PageValue} {m n : KeyBook} {number number' changes changes' edits edits' : ℕ} {rules rules' : RulesValue}
+    → a ≡ b → ps ≡ qs → m ≡ n → number ≡ number' → changes ≡ changes' → edits ≡ edits' → rules ≡ rules'
+    → ◌≡◌ {A = ReleaseValue} (record { records = a; pages = ps; key_book = m; number = number; changes = changes; edits = edits; rules = rules })
+    (record { records = b; pages = qs; key_book = n; number = number'; changes = changes'; edits = edits'; rules = rules' })
+same_release records pages book number changes edits rules = rw (records, pages, book, number, changes, edits, rules) refl
 
-pub changed-change_of : (release : ReleaseValue) (edit : Edit) → AreDistinct release.records → IsPossible release edit → changed release (change_of release edit) ≡ edited release edit
-changed-change_of release edit distinct can = same_release (leads_records release edit distinct can) refl (leads_book release edit distinct can) refl refl
+pub changed-change_of : (release : ReleaseValue) (edit : Edit) → is_of_rules edit ≡ false → AreDistinct release.records → IsPossible release edit
+    → changed release (change_of release edit) ≡ edited release edit
+changed-change_of release edit of distinct can =
+    same_release (leads_records release edit of distinct can) (leads_pages release edit of) (leads_book release edit of distinct can) refl refl refl (sym (rules_stay release.rules edit of))
 
 -- a change leaves the same in the pages as in the list of all records
 pub records_in-changed : (stamp : ℕ) (pages : List PageValue) (person : ℕ) (before after : Option Record)
@@ -118,18 +144,28 @@ records_in-changed stamp pages person None (Some new) = records_in-added stamp n
 records_in-changed stamp pages person (Some old) None = records_in-without stamp person pages
 records_in-changed stamp pages person (Some old) (Some new) = records_in-replaced stamp person new pages
 
+record_in_pages : (release : ReleaseValue) (edit : Edit) → is_of_rules edit ≡ false → AreDistinct release.records → IsPossible release edit → release.records ≡ records_in release.pages
+    → edited_records release.records edit ≡ records_in (edited_pages release edit)
+record_in_pages release edit of distinct can in_pages =
+    let c = change_of release edit in
+    sym (leads_records release edit of distinct can) ∙ ap (λ rs. changed_records rs (person_of edit) c.before c.after) in_pages
+    ∙ sym (records_in-changed (release.number + 1) release.pages (person_of edit) c.before c.after) ∙ ap records_in (leads_pages release edit of)
+
 pub edited_in_pages : (release : ReleaseValue) (edit : Edit) → AreDistinct release.records → IsPossible release edit → release.records ≡ records_in release.pages
     → edited_records release.records edit ≡ records_in (edited_pages release edit)
-edited_in_pages release edit distinct can in_pages =
-    let c = change_of release edit in
-    sym (leads_records release edit distinct can) ∙ ap (λ rs. changed_records rs (person_of edit) c.before c.after) in_pages
-    ∙ sym (records_in-changed (release.number + 1) release.pages (person_of edit) c.before c.after)
+edited_in_pages release (Add person key codes) distinct can in_pages = record_in_pages release (Add person key codes) refl distinct can in_pages
+edited_in_pages release (Drop person) distinct can in_pages = record_in_pages release (Drop person) refl distinct can in_pages
+edited_in_pages release (Amend person sets) distinct can in_pages = record_in_pages release (Amend person sets) refl distinct can in_pages
+edited_in_pages release (Pvalue row key pvalue) distinct can in_pages = in_pages
+edited_in_pages release (Threshold value) distinct can in_pages = in_pages
 
 -- ---- what it keeps
 pub key_stays : (release : ReleaseValue) (edit : Edit) → IsPossible release edit → (q k : ℕ) → finmap.get release.key_book q ≡ Some k → finmap.get (edited release edit).key_book q ≡ Some k
 key_stays release (Add person key codes) can q k is = book_keeps release.key_book person key q k can.same_key is
 key_stays release (Drop person) can q k is = is
 key_stays release (Amend person sets) can q k is = is
+key_stays release (Pvalue row key pvalue) can q k is = is
+key_stays release (Threshold value) can q k is = is
 
 set_if-person : (b : Bool) (sets : List (ℕ × ℕ)) (r : Record) → (if b then amended sets r else r).person ≡ r.person
 set_if-person true sets r = refl
@@ -166,3 +202,5 @@ sound_after release (Amend person sets) can s = record {
   few = rw length-map s.few;
   in_pages = edited_in_pages release (Amend person sets) s.distinct can s.in_pages;
 }
+sound_after release (Pvalue row key pvalue) can s = record { distinct = s.distinct; in_book = s.in_book; few = s.few; in_pages = s.in_pages }
+sound_after release (Threshold value) can s = record { distinct = s.distinct; in_book = s.in_book; few = s.few; in_pages = s.in_pages }

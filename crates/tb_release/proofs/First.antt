@@ -1,12 +1,12 @@
 -- Release 0, and what a draft takes over from a release.
-use Rattle.std.proofs.Common.{◌≡◌, ℕ, ◌+◌, ◌≤◌, List, length, refl, sym, ap, ◌∙◌, subst, arith}
+use Rattle.std.proofs.Common.{◌≡◌, ℕ, ◌+◌, ◌≤◌, List, [], length, refl, sym, ap, ◌∙◌, subst, arith}
 use Rattle.std.specs.Prelude.{All}
 use Rattle.tb_base.specs.declared.people.TheConstants.{MOST_PERSONS}
 use Rattle.tb_base.specs.declared.records.Record.{Record}
 use Rattle.tb_base.specs.Persons.{AreDistinct}
 use Rattle.tb_model.specs.Pages.{PageValue, records_in}
-use Rattle.tb_model.specs.Releases.{KeyBook, ReleaseValue, first_release}
-use Rattle.tb_model.specs.Setups.{SetupValue}
+use Rattle.tb_model.specs.Releases.{KeyBook, ReleaseValue, first_release, first_rules}
+use Rattle.tb_rules.specs.Rules.{RulesValue, SetPvalue}
 use Rattle.tb_pages.specs.declared.register.Register.{Register}
 use Rattle.tb_pages.specs.declared.stock.Stock.{Stock}
 use Rattle.tb_pages.specs.Books.{keys_in}
@@ -28,8 +28,8 @@ all_there records stock first = ap records_in first.pages ∙ records_in-cut rec
 first_keys : (records : List Record) (stock : Stock) → IsFirst records stock → keys_of stock ≡ keys_of_records records
 first_keys records stock first = ap (λ b. keys_with b stock.pages) first.book ∙ ap keys_of_records (all_there records stock first)
 
-first_sound : (records : List Record) (stock : Stock) → IsFirst records stock → AreDistinct records → length records ≤ MOST_PERSONS → IsSound (stocked stock 0 0)
-first_sound records stock first distinct few =
+first_sound : (records : List Record) (stock : Stock) → IsFirst records stock → AreDistinct records → length records ≤ MOST_PERSONS → (rules : RulesValue) → IsSound (stocked stock 0 0 0 rules)
+first_sound records stock first distinct few rules =
     let all = all_there records stock first in
     let keys : All (HasKeyOf (keys_of_records records)) records = λ k d within. key_at records k d distinct within in record {
       distinct = subst AreDistinct (sym all) distinct;
@@ -46,29 +46,35 @@ first_whole records stock first distinct =
       distinct = subst AreDistinct (sym all) distinct;
     }
 
-pub first_kept : (records : List Record) (stock : Stock) → IsFirst records stock → AreDistinct records → length records ≤ MOST_PERSONS → IsKept stock 0 0
-first_kept records stock first distinct few = record {
+pub first_kept : (records : List Record) (stock : Stock) (rules : RulesValue) → IsFirst records stock → AreDistinct records → length records ≤ MOST_PERSONS → IsKept stock 0 0 0 rules
+first_kept records stock rules first distinct few = record {
   whole = first_whole records stock first distinct;
-  sound = first_sound records stock first distinct few;
+  sound = first_sound records stock first distinct few rules;
   room = subst (λ (ps : List PageValue). AreFilledBy ps (MOST_PERSONS + 0)) (sym first.pages) (let h = records_fill records in omega arith);
+  fewer = omega arith;
   few = omega arith;
 }
 
-pub first_is : (setup : SetupValue) (records : List Record) (stock : Stock) → IsFirst records stock → stocked stock 0 0 ≡ first_release setup records
-first_is setup records stock first = same_release (all_there records stock first) first.pages (first_keys records stock first) refl refl
+pub first_is : (rules : RulesValue) (records : List Record) (stock : Stock) → IsFirst records stock → rules.pvalues ≡ [] → stocked stock 0 0 0 rules ≡ first_release rules.threshold records
+first_is rules records stock first none =
+    let alone : rules ≡ first_rules rules.threshold = ap (λ (ps : List SetPvalue). record { threshold = rules.threshold; pvalues = ps }) none in
+    same_release (all_there records stock first) first.pages (first_keys records stock first) refl refl refl alone
 
 -- ---- a release is shared
-pub few_pages_kept : (stock : Stock) (number changes : ℕ) → IsKept stock number changes → length stock.pages ≤ PAGES
-few_pages_kept stock number changes kept =
+pub few_pages_kept : (stock : Stock) (number changes edits : ℕ) (rules : RulesValue) → IsKept stock number changes edits rules → length stock.pages ≤ PAGES
+few_pages_kept stock number changes edits rules kept =
     let few = kept.few in
+    let fewer = kept.fewer in
     let below = few_pages stock.pages (MOST_PERSONS + changes) kept.room (omega arith) in omega arith
 
-pub shared : (stock : Stock) (number changes : ℕ) (release : ReleaseValue) (register : Register) → IsKept stock number changes → stocked stock number changes ≡ release
+pub shared : (stock : Stock) (number changes edits : ℕ) (rules : RulesValue) (release : ReleaseValue) (register : Register) → IsKept stock number changes edits rules
+    → stocked stock number changes edits rules ≡ release
     → register.pages ≡ stock.pages → keys_in register.book ≡ keys_of stock → IsRegister register → IsShared release register
-shared stock number changes release register kept seen pages keys whole =
+shared stock number changes edits rules release register kept seen pages keys whole =
     subst (λ (r : ReleaseValue). IsShared r register) seen (record {
-      same = same_release (ap records_in (sym pages)) (sym pages) (sym keys) refl refl;
+      same = same_release (ap records_in (sym pages)) (sym pages) (sym keys) refl refl refl refl;
       whole = whole;
       sound = kept.sound;
       room = subst (λ (ps : List PageValue). AreFilledBy ps (MOST_PERSONS + changes)) (sym pages) kept.room;
+      fewer = kept.fewer;
     })

@@ -3,16 +3,18 @@ use Rattle.std.proofs.Common.{◌≡◌, ◌≢◌, ℕ, zero, suc, ◌+◌, ◌
 use Rattle.std.proofs.Common.{List, [], ◌∷◌, drop, length, get_or, Some, refl, sym, ap, ◌∙◌, add-one, arith}
 use Rattle.std.specs.Prelude.{◌↔◌, All, nat_lt, slice_get, slice_index}
 use Rattle.std.specs.List.{list_all, AllByRecursion}
-use Rattle.std.proofs.lemmas.Bool.{and_from, and_parts, lt-ltb, ltb-true}
+use Rattle.std.proofs.lemmas.Bool.{and_from, and_parts, lt-ltb, ltb-true, leb-true, le-leb}
 use Rattle.std.proofs.lemmas.List.{drop_more}
 use Rattle.std.proofs.lemmas.List.Elements.{All-from_recursion, recursion_from_All}
 use Rattle.tb_base.specs.declared.keys.TheConstants.{MOST_KEYS}
 use Rattle.tb_base.specs.declared.records.Record.{Record}
 use Rattle.tb_base.specs.Records.{Fits}
 use Rattle.tb_release.specs.declared.edits.Edit.{Edit}
-use Rattle.tb_release.specs.declared.edits.Edit.TheVariants.{Add, Drop, Amend}
+use Rattle.tb_release.specs.declared.edits.Edit.TheVariants.{Add, Drop, Amend, Pvalue, Threshold}
 use Rattle.tb_release.specs.Fitting.{codes_fit, edit_fits, edits_fit, record_fits, setting_fits}
 use Rattle.tb_release.specs.Laws.{EditFits}
+use Rattle.tb_rules.specs.declared.limits.TheConstants.{MOST_THRESHOLD}
+use Rattle.tb_rules.proofs.Setting.{can_told, can_back}
 
 -- ---- loops over lists: an element that fails, and one that passes
 module _ {X : Type 0} (f : X → Bool) (xs : List X) (i : ℕ) (x : X) (here : drop i xs ≡ x ∷ drop (i + 1) xs) (rest : list_all f
@@ -121,11 +123,15 @@ pub one_told : (shape : List ℕ) (e : Edit) → edit_fits shape e ≡ true → 
 one_told shape (Add person key codes) h = record_told shape person key codes h
 one_told shape (Drop person) h = tt
 one_told shape (Amend person sets) h = sets_told shape sets h
+one_told shape (Pvalue row key pvalue) h = can_told row key pvalue h
+one_told shape (Threshold value) h = leb-true value MOST_THRESHOLD h
 
 one_back : (shape : List ℕ) (e : Edit) → EditFits shape e → edit_fits shape e ≡ true
 one_back shape (Add person key codes) fits = record_back shape (record { person = person; key = key; codes = codes }) fits
 one_back shape (Drop person) fits = refl
 one_back shape (Amend person sets) fits = all_back (setting_fits shape) (Set shape) (setting_back shape) sets fits
+one_back shape (Pvalue row key pvalue) fits = can_back row key pvalue fits
+one_back shape (Threshold value) fits = le-leb value MOST_THRESHOLD fits
 
 pub fits_all : (shape : List ℕ) (edits : List Edit) → edits_fit shape edits ≡ true → All (EditFits shape) edits
 fits_all shape edits h = All-from_recursion (EditFits shape) edits (all_told (edit_fits shape) (EditFits shape) (one_told shape) edits h)

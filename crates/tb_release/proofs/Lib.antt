@@ -9,3 +9,4 @@ pub mod First
 pub mod Made
 pub mod Runs
 pub mod Stamped
+pub mod EntryLemmas

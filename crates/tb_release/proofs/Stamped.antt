@@ -38,7 +38,7 @@ pages_at base chain n = (release_after base (take n chain)).pages
 
 further : (base : ReleaseValue) (chain : List BatchValue) (n : ℕ) → base.number ≡ 0 → n < length chain → KeepsPages (suc n) (pages_at base chain n) (pages_at base chain (suc n))
 further base chain n start within =
-    let none : BatchValue = record { changes = [] } in
+    let none : BatchValue = record { changes = []; rule_edits = [] } in
     let batch = get_or chain n none in
     let more : take (n + 1) chain ≡ take n chain ++ batch ∷ [] = take_more chain n none within in
     let long : length (take n chain) ≡ n = length-take-le n chain (omega arith) in
@@ -67,8 +67,8 @@ keeps base chain start n =
     ]
 
 pub stamps_tell : StampsTell
-stamps_tell setup people chain i within =
-    let base = first_release setup people in
+stamps_tell threshold people chain i within =
+    let base = first_release threshold people in
     let whole : take (length chain) chain ≡ chain = take_all (length chain) chain (omega arith) in
     let now : pages_at base chain (length chain) ≡ (release_after base chain).pages = ap (λ (cs : List BatchValue). (release_after base cs).pages) whole in
     subst (λ (ps : List PageValue). let stamp = (get_or ps i no_page).stamp in (stamp ≤ length chain) × (get_or ps i no_page ≡ get_or (pages_at base chain stamp) i no_page)) now

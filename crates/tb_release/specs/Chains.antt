@@ -6,7 +6,8 @@ use Rattle.tb_base.specs.declared.records.Record.{Record}
 use Rattle.tb_model.specs.Releases.{KeyBook, ReleaseValue}
 use Rattle.tb_pages.specs.Pages.{changed_pages, is_of}
 use Rattle.tb_release.specs.declared.edits.Change.{Change}
-use Rattle.tb_release.specs.Batches.{BatchValue, Follows}
+use Rattle.tb_release.specs.Edits.{edited_rules}
+use Rattle.tb_release.specs.Batches.{BatchValue, Follows, batch_length}
 
 -- the records with a person's record before a change replaced by the one after it
 abbrev pub changed_records : List Record → ℕ → Option Record → Option Record → List Record
@@ -34,21 +35,28 @@ changed release change =
       key_book = changed_book release.key_book change.person change.before change.after;
     }
 
--- the release after a batch
+-- the release after a batch: its changes are made in the records, and its edits of the rules in
+-- the rules
 abbrev pub after_batch : ReleaseValue → BatchValue → ReleaseValue
 after_batch release batch =
     record (fold changed release batch.changes) {
       number = release.number + 1;
       changes = release.changes + length batch.changes;
+      edits = release.edits + batch_length batch;
+      rules = fold edited_rules release.rules batch.rule_edits;
     }
 
 -- the release after the batches of a chain
 abbrev pub release_after : ReleaseValue → List BatchValue → ReleaseValue
 release_after release chain = fold after_batch release chain
 
--- how many changes a chain has
+-- how many changes of records a chain has
 abbrev pub change_count : List BatchValue → ℕ
 change_count chain = sum_by (λ batch. length batch.changes) chain
+
+-- how many edits a chain is of, of records and of rules
+abbrev pub edit_count : List BatchValue → ℕ
+edit_count chain = sum_by batch_length chain
 
 -- each batch of a chain follows the release after those before it
 abbrev pub IsChain : ReleaseValue → List BatchValue → Type 0

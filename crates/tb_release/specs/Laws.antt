@@ -6,18 +6,19 @@ use Rattle.std.specs.FinMap as finmap
 use Rattle.tb_base.specs.declared.records.Record.{Record}
 use Rattle.tb_base.specs.Records.{Fits, AllFit}
 use Rattle.tb_model.specs.Releases.{KeyBook, ReleaseValue, first_release}
-use Rattle.tb_model.specs.Setups.{SetupValue}
 use Rattle.tb_pages.specs.Pages.{no_page}
 use Rattle.tb_pages.specs.Stamps.{KeepsPages}
 use Rattle.tb_release.specs.declared.edits.Edit.{Edit}
-use Rattle.tb_release.specs.declared.edits.Edit.TheVariants.{Add, Drop, Amend}
+use Rattle.tb_release.specs.declared.edits.Edit.TheVariants.{Add, Drop, Amend, Pvalue, Threshold}
+use Rattle.tb_rules.specs.declared.limits.TheConstants.{MOST_THRESHOLD}
+use Rattle.tb_rules.specs.Rules.{MayBeSet}
 use Rattle.tb_release.specs.declared.limits.TheConstants.{MOST_EDITS}
 use Rattle.tb_release.specs.Releases.{IsSound}
 use Rattle.tb_release.specs.Edits.{edited_all}
 use Rattle.tb_release.specs.Possible.{ArePossible}
 use Rattle.tb_release.specs.Batches.{BatchValue, CanFollow, Follows, batch_of, batch_refusal}
 use Rattle.tb_release.specs.Batches.{next_release}
-use Rattle.tb_release.specs.Chains.{after_batch, release_after, change_count, IsChain}
+use Rattle.tb_release.specs.Chains.{after_batch, release_after, change_count, edit_count, IsChain}
 use Rattle.tb_release.specs.Fitting.{edits_fit}
 
 -- edits, at most the most, can follow a release exactly where there is no refusal
@@ -43,13 +44,15 @@ KeysStay =
     (release : ReleaseValue) (edits : List Edit) → ArePossible release edits
     → KeepsKeys release.key_book (edited_all release edits).key_book
 
--- what an edit adds or sets fits a shape
+-- what an edit adds or sets fits a shape, or, if it is one of the rules, is in range
 abbrev pub EditFits : List ℕ → Edit → Type 0
 EditFits shape (Add person key codes) =
     Fits shape (record { person = person; key = key; codes = codes })
 EditFits shape (Drop person) = Unit {0}
 EditFits shape (Amend person sets) =
     AllByRecursion (λ s. (s.0 < length shape) × (s.1 < slice_index shape s.0)) sets
+EditFits shape (Pvalue row key pvalue) = MayBeSet row key pvalue
+EditFits shape (Threshold value) = value ≤ MOST_THRESHOLD
 
 -- the test of edits is true exactly where what each adds or sets fits
 abbrev pub FitIsTold : Type 0
@@ -63,18 +66,19 @@ StayFitting =
     (shape : List ℕ) (release : ReleaseValue) (edits : List Edit) → AllFit shape release.records
     → AllByRecursion (EditFits shape) edits → AllFit shape (edited_all release edits).records
 
--- the changes of edits lead to the release that the edits leave
+-- the batch of edits leads to the release that the edits leave
 abbrev pub BatchesLeadOn : Type 0
 BatchesLeadOn =
     (release : ReleaseValue) (edits : List Edit) → IsSound release → ArePossible release edits
     → after_batch release (batch_of release edits) ≡ next_release release edits
 
--- the release after a chain is sound, has the keys from before, and counts batches and changes
+-- the release after a chain is sound, has the keys from before, and counts batches, changes and edits
 pub record ChainFacts (release : ReleaseValue) (chain : List BatchValue) : Type 0 where
   pub sound : IsSound (release_after release chain)
   pub keys : KeepsKeys release.key_book (release_after release chain).key_book
   pub number : (release_after release chain).number ≡ release.number + length chain
   pub changes : (release_after release chain).changes ≡ release.changes + change_count chain
+  pub edits : (release_after release chain).edits ≡ release.edits + edit_count chain
 
 -- that is so of each chain from a sound release on
 abbrev pub ChainsHold : Type 0
@@ -105,8 +109,8 @@ BatchesKeepPages =
 -- as the page's stamp says
 abbrev pub StampsTell : Type 0
 StampsTell =
-    (setup : SetupValue) (people : List Record) (chain : List BatchValue) (i : ℕ)
-    → let base = first_release setup people in
+    (threshold : ℕ) (people : List Record) (chain : List BatchValue) (i : ℕ)
+    → let base = first_release threshold people in
     let last = release_after base chain in
     let stamp = (slice_index_or last.pages i no_page).stamp in
     i < length last.pages

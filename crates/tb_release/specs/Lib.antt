@@ -8,3 +8,6 @@ pub mod Laws
 pub mod FaultNames
 pub mod Results
 pub mod Drafts
+pub mod EditCodes
+pub mod Entries
+pub mod RuleEdits

@@ -7,7 +7,7 @@ use Rattle.tb_base.specs.declared.people.TheConstants.{MOST_PERSONS}
 use Rattle.tb_base.specs.Persons.{has_person}
 use Rattle.tb_model.specs.Releases.{KeyBook, ReleaseValue}
 use Rattle.tb_release.specs.declared.edits.Edit.{Edit}
-use Rattle.tb_release.specs.declared.edits.Edit.TheVariants.{Add, Drop, Amend}
+use Rattle.tb_release.specs.declared.edits.Edit.TheVariants.{Add, Drop, Amend, Pvalue, Threshold}
 use Rattle.tb_release.specs.declared.fault.EditFaultKind.{EditFaultKind}
 use Rattle.tb_release.specs.declared.fault.EditFaultKind.TheVariants as kind
 use Rattle.tb_release.specs.Edits.{edited}
@@ -24,11 +24,13 @@ pub record CanAdd (release : ReleaseValue) (person key : ℕ) : Type 0 where
   pub same_key : has_other_key release.key_book person key ≡ false
   pub room : length release.records < MOST_PERSONS
 
--- an edit is possible: a drop or an amend where the person has a record
+-- an edit is possible: a drop or an amend where the person has a record, and one of the rules always
 abbrev pub IsPossible : ReleaseValue → Edit → Type 0
 IsPossible release (Add person key codes) = CanAdd release person key
 IsPossible release (Drop person) = has_person release.records person ≡ true
 IsPossible release (Amend person sets) = has_person release.records person ≡ true
+IsPossible release (Pvalue row key pvalue) = Unit {0}
+IsPossible release (Threshold value) = Unit {0}
 
 -- each edit is possible on the release that those before it left
 abbrev pub ArePossible : ReleaseValue → List Edit → Type 0
@@ -47,6 +49,8 @@ refusal release (Drop person) =
     if has_person release.records person then None else Some kind.NoSuchPerson
 refusal release (Amend person sets) =
     if has_person release.records person then None else Some kind.NoSuchPerson
+refusal release (Pvalue row key pvalue) = None
+refusal release (Threshold value) = None
 
 -- why the first edit that isn't possible isn't, with its number, where the first of all has this
 -- number

@@ -12,6 +12,7 @@ use Rattle.tb_pages.specs.Books.{keys_in}
 use Rattle.tb_pages.specs.Registers.{IsRegister}
 use Rattle.tb_pages.specs.Rooms.{AreFilledBy}
 use Rattle.tb_pages.specs.Stocks.{IsStock, keys_of}
+use Rattle.tb_rules.specs.Rules.{RulesValue}
 use Rattle.tb_release.specs.declared.limits.TheConstants.{MOST_CHANGES}
 
 -- a key book has a record's person with the record's key
@@ -27,37 +28,43 @@ pub record IsSound (release : ReleaseValue) : Type 0 where
   pub in_pages : release.records ≡ records_in release.pages
 
 -- a release whose records stand in pages
-abbrev pub release_view : List PageValue → KeyBook → ℕ → ℕ → ReleaseValue
-release_view pages book number changes =
+abbrev pub release_view : List PageValue → KeyBook → ℕ → ℕ → ℕ → RulesValue → ReleaseValue
+release_view pages book number changes edits rules =
     record {
       records = records_in pages;
       pages = pages;
       key_book = book;
       number = number;
       changes = changes;
+      edits = edits;
+      rules = rules;
     }
 
 -- the release of a register
-abbrev pub registered : Register → ℕ → ℕ → ReleaseValue
-registered register number changes =
-    release_view register.pages (keys_in register.book) number changes
+abbrev pub registered : Register → ℕ → ℕ → ℕ → RulesValue → ReleaseValue
+registered register number changes edits rules =
+    release_view register.pages (keys_in register.book) number changes edits rules
 
 -- the release of what is kept of it
-abbrev pub stocked : Stock → ℕ → ℕ → ReleaseValue
-stocked stock number changes = release_view stock.pages (keys_of stock) number changes
+abbrev pub stocked : Stock → ℕ → ℕ → ℕ → RulesValue → ReleaseValue
+stocked stock number changes edits rules =
+    release_view stock.pages (keys_of stock) number changes edits rules
 
--- what is kept serves as a release: it is whole, the release is sound, and there are no more pages
--- and changes than there can be
-pub record IsKept (stock : Stock) (number changes : ℕ) : Type 0 where
+-- what is kept serves as a release: it is whole, the release is sound, and there are no more pages,
+-- changes and edits than there can be
+pub record IsKept (stock : Stock) (number changes edits : ℕ) (rules : RulesValue) : Type 0 where
   pub whole : IsStock stock
-  pub sound : IsSound (stocked stock number changes)
+  pub sound : IsSound (stocked stock number changes edits rules)
   pub room : AreFilledBy stock.pages (MOST_PERSONS + changes)
-  pub few : changes ≤ MOST_CHANGES
+  pub fewer : changes ≤ edits
+  pub few : edits ≤ MOST_CHANGES
 
 -- a register has the records and keys of a release, persons are found on their pages, and there are
 -- no more pages than its changes suffice for
 pub record IsShared (release : ReleaseValue) (register : Register) : Type 0 where
-  pub same : release ≡ registered register release.number release.changes
+  pub same :
+      release ≡ registered register release.number release.changes release.edits release.rules
   pub whole : IsRegister register
   pub sound : IsSound release
   pub room : AreFilledBy register.pages (MOST_PERSONS + release.changes)
+  pub fewer : release.changes ≤ release.edits

@@ -12,7 +12,7 @@ use Rattle.tb_release.specs.declared.fault.EditFault.{EditFault}
 use Rattle.tb_release.specs.declared.fault.EditFault.TheVariants as fault
 use Rattle.tb_release.specs.declared.fault.EditFaultKind.{EditFaultKind}
 use Rattle.tb_release.specs.declared.limits.TheConstants.{MOST_EDITS}
-use Rattle.tb_release.specs.Batches.{BatchValue, CanFollow, changes_of, next_release}
+use Rattle.tb_release.specs.Batches.{BatchValue, CanFollow, batch_of, next_release}
 
 -- how an edit is pushed: it goes last where fewer than the most are held; else, and where the call
 -- is out of memory, it comes back and nothing has changed
@@ -28,7 +28,7 @@ pub record IsNext (old : ReleaseValue) (edits : List Edit) (next : ReleaseValue)
     (batch : BatchValue) : Type 0 where
   pub can : CanFollow old edits
   pub release : next ≡ next_release old edits
-  pub changes : batch.changes ≡ changes_of old edits
+  pub batch_is : batch ≡ batch_of old edits
 
 -- a fault says why edits can't follow; want of memory says nothing of them
 abbrev pub IsWhy : Option (EditFaultKind × ℕ) → EditFault → Type 0

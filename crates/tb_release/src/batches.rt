@@ -1,42 +1,100 @@
 ghost use Rattle.std.specs.Prelude.{◌≡◌, ◌+◌, ◌<◌, ◌≤◌, ◌∷◌, ◌++◌, [], Some, OnOk, OnErr, length};
 ghost use Rattle.std.specs.Prelude.{slice_get};
 ghost use Rattle.std.specs.Arc.{arc_value};
+ghost use Rattle.tb_release.specs.Batches.{batch_length};
+ghost use Rattle.tb_release.specs.Entries.{IsEntry, with_entry};
+ghost use Rattle.tb_release.specs.declared.edits.BatchEntry.TheVariants as entries;
+ghost use Rattle.tb_release.specs.RuleEdits.{IsRuleEdit};
 ghost use Rattle.tb_release.specs.declared.limits.TheConstants.{MOST_EDITS};
 
-use crate::edits::Change;
+use crate::edits::{BatchEntry, Change, Edit};
 use std::alloc::Global;
 use std::marker::Model;
 use std::sync::Arc;
 use std::sync::ledger::Ledger;
 use tb_base::{Memory, Steps, charge};
 
-/// What leads from a release to the next: the changes of its edits, in order, at most `MOST_EDITS`.
+/// What leads from a release to the next: the changes of the edits of records, and the edits of the
+/// rules, each in order, at most `MOST_EDITS` together. What an edit of the rules sets is in range.
 #[derive(Drop)]
 pub struct Batch {
     changes: Vec<Change>,
+    rule_edits: Vec<Edit>,
 }
 
 impl Model for Batch {
-    ghost use Rattle.std.specs.Prelude.{length, ◌≤◌};
+    ghost use Rattle.std.specs.Prelude.{length, ◌+◌, ◌≤◌};
+    ghost use Rattle.std.specs.List.{AllByRecursion};
     ghost use Rattle.tb_release.specs.Batches.{BatchValue, batch_code};
+    ghost use Rattle.tb_release.specs.RuleEdits.{IsRuleEdit};
     ghost use Rattle.tb_release.specs.declared.limits.TheConstants.{MOST_EDITS};
 
     ghost Value = { BatchValue };
 
     ghost coded = { batch_code };
 
-    ghost view = { λ b. record { changes = b.changes.items } };
+    ghost view = { λ b. record { changes = b.changes.items; rule_edits = b.rule_edits.items } };
 
-    ghost invariant = { λ b. length b.changes.items ≤ MOST_EDITS };
+    ghost invariant = { λ b. (length b.changes.items + length b.rule_edits.items ≤ MOST_EDITS)
+        × AllByRecursion IsRuleEdit b.rule_edits.items };
 }
 
 impl Batch {
-    // The batch of some changes.
-    pub(crate) fn of(changes: Vec<Change>) -> Batch
-        requires { length changes.items ≤ MOST_EDITS }
-        ensures { result ≡ record { changes = changes.items } }
+    // The batch of no edits.
+    pub(crate) fn new(alloc: Global) -> Batch
+        ensures { result ≡ record { changes = []; rule_edits = [] } }
     {
-        Batch { changes }
+        Batch {
+            changes: Vec::new(alloc),
+            rule_edits: Vec::new(alloc),
+        }
+    }
+
+    // Adds an entry as the last of its list.
+    pub(crate) fn add(&mut self, entry: BatchEntry) -> Result<(), Memory>
+        requires few { batch_length self.old < MOST_EDITS }
+        requires in_range { IsEntry entry }
+        ensures { OnOk result (self.new ≡ with_entry self.old entry) }
+    {
+        match entry {
+            BatchEntry::Record(change) => self.add_change(change),
+            BatchEntry::Rule(edit) => self.add_rule_edit(edit),
+        }
+    }
+
+    fn add_change(&mut self, change: Change) -> Result<(), Memory>
+        requires { batch_length self.old < MOST_EDITS }
+        ensures { OnOk result (self.new ≡ with_entry self.old (entries.Record change)) }
+    {
+        self.changes.push(change)?;
+        Ok(())
+    }
+
+    #[tactic(auto, using(crate::proofs::EntryLemmas::all_pushed))]
+    fn add_rule_edit(&mut self, edit: Edit) -> Result<(), Memory>
+        requires few { batch_length self.old < MOST_EDITS }
+        requires in_range { IsRuleEdit edit }
+        ensures { OnOk result (self.new ≡ with_entry self.old (entries.Rule edit)) }
+    {
+        self.rule_edits.push(edit)?;
+        Ok(())
+    }
+
+    /// How many edits of the rules there are.
+    pub fn rule_edits(&self) -> usize
+        ensures { result ≡ length self.now.rule_edits }
+    {
+        self.rule_edits.len()
+    }
+
+    /// The edit of the rules at place `i`, from 0. What it sets is in range.
+    #[tactic(auto, using(crate::proofs::EntryLemmas::all_at))]
+    pub fn rule_edit(&self, i: usize) -> &Edit
+        requires { i < length self.now.rule_edits }
+        ensures edit { slice_get self.now.rule_edits i ≡ Some result.now }
+        ensures in_range { IsRuleEdit result.now }
+    {
+        &self.rule_edits[i]
     }
 
     /// How many changes there are.

@@ -14,14 +14,18 @@ ghost use Rattle.tb_release.specs.Drafts.{IsMade, release_of};
 ghost use Rattle.tb_release.specs.Laws.{EditFits};
 ghost use Rattle.tb_release.specs.Possible.{CanAdd, IsPossible, first_refusal, refusal};
 ghost use Rattle.tb_release.specs.Results.{IsWhy};
+ghost use Rattle.tb_rules.specs.declared.limits.TheConstants.{MOST_THRESHOLD};
+ghost use Rattle.tb_rules.specs.Rules.{MayBeSet};
 
-use crate::edits::{Change, Edit, Sets};
+use crate::batches::Batch;
+use crate::edits::{BatchEntry, Change, Edit, Sets};
 use crate::fault::{EditFault, EditFaultKind};
 use crate::parts::amended_record;
 use crate::release::Release;
 use std::alloc::Global;
 use tb_base::{Codes, MOST_PERSONS, Memory, Record, Shape};
 use tb_pages::{Register, Stock};
+use tb_rules::Rules;
 
 /// A release while it is edited. Its pages and shards are those of the old one until an edit
 /// touches them: then a copy is made, once for all its edits.
@@ -30,69 +34,82 @@ pub(crate) struct Draft {
     register: Register,
     number: u32,
     changes: u32,
+    edits: u32,
     made: usize,
+    rules: Rules,
 }
 
 impl Draft {
-    /// A release with no edit made so far.
+    /// A release with no edit made so far. It takes memory for a copy of the rules.
     pub(crate) fn of(alloc: Global, old: &Release) -> Result<Draft, Memory>
         requires { old.now.number < MOST_RELEASES }
         ensures { IfOk result (λ draft. IsDraftOf old.now draft) }
     {
+        let register = old.share(alloc)?;
+        let rules = old.rules().copy()?;
         Ok(Draft {
-            register: old.share(alloc)?,
+            register,
             number: old.number(),
-            changes: old.changes(),
+            changes: old.record_changes(),
+            edits: old.changes(),
             made: 0,
+            rules,
         })
     }
 
-    /// Makes the edits in their order, and returns their changes. The first that isn't possible is
+    /// Makes the edits in their order, and returns their batch. The first that isn't possible is
     /// the last that is looked at.
     pub(crate) fn make_all(
         &mut self,
         alloc: Global,
         shape: &Shape,
         edits: &[Edit],
-    ) -> Result<Vec<Change>, EditFault>
+    ) -> Result<Batch, EditFault>
         requires draft { IsDraft self.old }
         requires few { length edits.now ≤ MOST_EDITS }
         requires room { self.old.changes + (self.old.made + length edits.now) ≤ MOST_CHANGES }
         requires fit { AllFit shape.now (release_of self.old).records }
         requires edits_fit { All (EditFits shape.now) edits.now }
         ensures made { IfOk result
-            (λ changes. AreMade edits.now self.old self.new changes.items) }
+            (λ batch. AreMade edits.now self.old self.new batch) }
         ensures why { IfErr result
             (λ fault. IsWhy (first_refusal 1 (release_of self.old) edits.now) fault) }
     {
-        let mut changes = Vec::with_capacity(alloc, edits.len())?;
+        let mut batch = Batch::new(alloc);
         for (i, edit) in edits.iter().enumerate() {
             if let Some(kind) = self.refusal(edit) {
                 let edit = i as u32 + 1;
                 return Err(EditFault::Refused { kind, edit });
             }
-            changes.push(self.make(alloc, edit)?)?;
+            let entry = self.make(alloc, edit)?;
+            batch.add(entry)?;
         }
-        Ok(changes)
+        Ok(batch)
     }
 
-    /// The next release.
-    pub(crate) fn finish(self, alloc: Global) -> Result<Release, Memory>
+    /// The next release, after so many edits.
+    pub(crate) fn finish(self, alloc: Global, count: usize) -> Result<Release, Memory>
         requires draft { IsDraft self }
-        requires changes { self.changes + self.made ≤ MOST_CHANGES }
+        requires fewer { self.made ≤ count }
+        requires so_far { self.edits + count ≤ MOST_CHANGES }
         ensures { IfOk result (λ next. next ≡ record (release_of self) {
           number = self.number + 1;
           changes = self.changes + self.made;
+          edits = self.edits + count;
         }) }
     {
         let Draft {
             register,
             number,
             changes,
+            edits,
             made,
+            rules,
         } = self;
         let stock = Stock::of(register);
-        let next = Release::of(alloc, stock, number + 1, changes + made as u32)?;
+        let changes = changes + made as u32;
+        let edits = edits + count as u32;
+        let next = Release::of(alloc, stock, number + 1, changes, edits, rules)?;
         Ok(next)
     }
 
@@ -109,6 +126,8 @@ impl Draft {
             } => self.refusal_of_add(*person, *key),
             Edit::Drop { person } => self.refusal_of_absent(*person),
             Edit::Amend { person, sets: _ } => self.refusal_of_absent(*person),
+            Edit::Pvalue { .. } => None,
+            Edit::Threshold { .. } => None,
         }
     }
 
@@ -138,28 +157,57 @@ impl Draft {
         Some(EditFaultKind::NoSuchPerson)
     }
 
-    // Makes an edit that is possible, and returns its change.
-    fn make(&mut self, alloc: Global, edit: &Edit) -> Result<Change, Memory>
+    // Makes an edit that is possible, and returns its entry in the batch.
+    fn make(&mut self, alloc: Global, edit: &Edit) -> Result<BatchEntry, Memory>
         requires draft { IsDraft self.old }
         requires room { self.old.changes + self.old.made < MOST_CHANGES }
         requires possible { IsPossible (release_of self.old) edit.now }
         requires can_set { CanSet (release_of self.old) edit.now }
-        ensures { IfOk result (λ change. IsMade edit.now self.old self.new change) }
+        ensures { IfOk result (λ entry. IsMade edit.now self.old self.new entry) }
     {
         match edit {
             Edit::Add { person, key, codes } => self.add(alloc, *person, *key, codes),
             Edit::Drop { person } => self.take_out(alloc, *person),
             Edit::Amend { person, sets } => self.amend(alloc, *person, sets),
+            Edit::Pvalue { row, key, pvalue } => self.set_pvalue(*row, *key, *pvalue),
+            Edit::Threshold { value } => Ok(self.set_threshold(*value)),
         }
     }
 
+    // Sets the pvalue at a row and a cell key.
+    fn set_pvalue(&mut self, row: u16, key: u16, pvalue: i16) -> Result<BatchEntry, Memory>
+        requires draft { IsDraft self.old }
+        requires in_range { MayBeSet row key pvalue }
+        ensures { IfOk result
+            (λ entry. IsMade (edits.Pvalue row key pvalue) self.old self.new entry) }
+    {
+        self.rules.set(row, key, pvalue)?;
+        Ok(BatchEntry::Rule(Edit::Pvalue { row, key, pvalue }))
+    }
+
+    // Sets the threshold.
+    fn set_threshold(&mut self, value: u32) -> BatchEntry
+        requires draft { IsDraft self.old }
+        requires in_range { value ≤ MOST_THRESHOLD }
+        ensures { IsMade (edits.Threshold value) self.old self.new result }
+    {
+        self.rules.set_threshold(value);
+        BatchEntry::Rule(Edit::Threshold { value })
+    }
+
     // Puts a person's record last.
-    fn add(&mut self, alloc: Global, person: u32, key: u16, codes: &Codes) -> Result<Change, Memory>
+    fn add(
+        &mut self,
+        alloc: Global,
+        person: u32,
+        key: u16,
+        codes: &Codes,
+    ) -> Result<BatchEntry, Memory>
         requires draft { IsDraft self.old }
         requires room { self.old.changes + self.old.made < MOST_CHANGES }
         requires possible { CanAdd (release_of self.old) person key }
         ensures { IfOk result
-            (λ change. IsMade (edits.Add person key codes.now) self.old self.new change) }
+            (λ entry. IsMade (edits.Add person key codes.now) self.old self.new entry) }
     {
         let kept = Record {
             person,
@@ -169,42 +217,42 @@ impl Draft {
         let after = kept.copy()?;
         self.register.add(alloc, self.number + 1, kept)?;
         self.made += 1;
-        Ok(Change {
+        Ok(BatchEntry::Record(Change {
             person,
             before: None,
             after: Some(after),
-        })
+        }))
     }
 
     // Takes a person's record out, and keeps the key.
-    fn take_out(&mut self, alloc: Global, person: u32) -> Result<Change, Memory>
+    fn take_out(&mut self, alloc: Global, person: u32) -> Result<BatchEntry, Memory>
         requires draft { IsDraft self.old }
         requires room { self.old.changes + self.old.made < MOST_CHANGES }
         requires possible { has_person (release_of self.old).records person ≡ true }
         ensures { IfOk result
-            (λ change. IsMade (edits.Drop person) self.old self.new change) }
+            (λ entry. IsMade (edits.Drop person) self.old self.new entry) }
     {
         let spot = self.register.find(person);
         let before = self
             .register
             .take_out(alloc, self.number + 1, person, spot)?;
         self.made += 1;
-        Ok(Change {
+        Ok(BatchEntry::Record(Change {
             person,
             before: Some(before),
             after: None,
-        })
+        }))
     }
 
     // Replaces categories in a person's record.
-    fn amend(&mut self, alloc: Global, person: u32, sets: &Sets) -> Result<Change, Memory>
+    fn amend(&mut self, alloc: Global, person: u32, sets: &Sets) -> Result<BatchEntry, Memory>
         requires draft { IsDraft self.old }
         requires room { self.old.changes + self.old.made < MOST_CHANGES }
         requires possible { has_person (release_of self.old).records person ≡ true }
         requires can_set { ForSome (record_of (release_of self.old).records person)
             (λ r. HaveVariables sets.now r.codes) }
         ensures { IfOk result
-            (λ change. IsMade (edits.Amend person sets.now) self.old self.new change) }
+            (λ entry. IsMade (edits.Amend person sets.now) self.old self.new entry) }
     {
         let spot = self.register.find(person);
         let old = self.register.record(person, spot);
@@ -212,11 +260,11 @@ impl Draft {
         let after = kept.copy()?;
         let before = self.register.replace(alloc, self.number + 1, spot, kept)?;
         self.made += 1;
-        Ok(Change {
+        Ok(BatchEntry::Record(Change {
             person,
             before: Some(before),
             after: Some(after),
-        })
+        }))
     }
 }
 

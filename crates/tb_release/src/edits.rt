@@ -49,21 +49,30 @@ impl Sets {
 }
 
 /// What is asked for one person: to add the person's record, to drop it, or to replace categories
-/// in it.
+/// in it; or of the rules: to set the pvalue at a row and a cell key, or the threshold.
 #[derive(Debug, Drop)]
 pub enum Edit {
     Add { person: u32, key: u16, codes: Codes },
     Drop { person: u32 },
     Amend { person: u32, sets: Sets },
+    Pvalue { row: u16, key: u8, pvalue: i16 },
+    Threshold { value: u32 },
 }
 
-/// What an edit changed: the person's record before it, if there was one, and after it, if there is
-/// one.
+/// What an edit of a record changed: the person's record before it, if there was one, and after it,
+/// if there is one.
 #[derive(Debug, Drop)]
 pub struct Change {
     pub person: u32,
     pub before: Option<Record>,
     pub after: Option<Record>,
+}
+
+// What stands in a batch for an edit: the change of one of a record, and one of the rules itself.
+#[derive(Drop)]
+pub(crate) enum BatchEntry {
+    Record(Change),
+    Rule(Edit),
 }
 
 /// Why an edit isn't held: there are `MOST_EDITS` already, or the call is out of memory. It has the

@@ -27,7 +27,7 @@ fn refused(kind: EditFaultKind) -> EditFault
 ///
 /// They are made in their order, each on what those before it left. The first refusal is returned:
 /// `Nothing` where there is no edit; `TooMany` where the old release is the last that may be, or
-/// there would be too many changes; and else that of the first edit that isn't possible, with its
+/// there would be too many edits; and else that of the first edit that isn't possible, with its
 /// number. It takes memory for the changes, and for a copy of each page and shard that an edit
 /// touches; the other pages and shards are the old release's. After release 0, which has no key
 /// book, it takes memory for one of all its records, and the time to make it.
@@ -58,7 +58,7 @@ pub fn next(
         return Err(refused(EditFaultKind::TooMany));
     }
     let mut draft = Draft::of(alloc, old)?;
-    let changes = draft.make_all(alloc, shape, list)?;
-    let release = draft.finish(alloc)?;
-    Ok((release, Batch::of(changes)))
+    let batch = draft.make_all(alloc, shape, list)?;
+    let release = draft.finish(alloc, list.len())?;
+    Ok((release, batch))
 }

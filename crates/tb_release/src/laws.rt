@@ -19,7 +19,7 @@ pub fn keys_stay()
     ensures { KeysStay }
 {}
 
-/// The test of edits is true exactly where what each adds or sets fits the shape.
+/// The test of edits is true exactly where what each adds or sets fits the shape, or is in range.
 pub fn fit_is_told()
     ensures { FitIsTold }
 {}
@@ -29,12 +29,13 @@ pub fn fitting_edits_leave_fitting_records()
     ensures { StayFitting }
 {}
 
-/// The changes of edits lead to the release that the edits leave.
+/// The batch of edits leads to the release that the edits leave.
 pub fn changes_lead_where_edits_lead()
     ensures { BatchesLeadOn }
 {}
 
-/// The release after a chain is sound, has the keys from before, and counts batches and changes.
+/// The release after a chain is sound, has the keys from before, and counts batches, changes and
+/// edits.
 pub fn chains_hold()
     ensures { ChainsHold }
 {}

@@ -1,7 +1,6 @@
-ghost use Rattle.std.specs.Prelude.{◌≡◌, ◌+◌, ◌<◌, ◌≤◌, IfOk, flat_map, length, slice_index_or};
+ghost use Rattle.std.specs.Prelude.{◌≡◌, ◌+◌, ◌<◌, ◌≤◌, [], IfOk, flat_map, length, slice_index_or};
 ghost use Rattle.tb_base.specs.declared.people.TheConstants.{MOST_PERSONS};
 ghost use Rattle.tb_model.specs.Releases.{first_release};
-ghost use Rattle.tb_model.specs.Setups.{SetupValue};
 ghost use Rattle.tb_pages.specs.Lents.{pieces_of};
 ghost use Rattle.tb_pages.specs.Pages.{no_page};
 ghost use Rattle.tb_release.specs.Releases.{IsKept, IsShared, IsSound, stocked};
@@ -11,9 +10,11 @@ use std::marker::Model;
 use std::sync::ledger::Ledger;
 use tb_base::{Memory, People, Record, Steps, charge};
 use tb_pages::{Lent, Register, Stock, filled_places};
+use tb_rules::Rules;
 
 /// A release of the microdata: its records in order, no two of one person, the key book, its
-/// number, and how many changes led to it. It has at most `MOST_PERSONS` records.
+/// number, how many changes of records and how many edits led to it, and the rules by which it is
+/// shown. It has at most `MOST_PERSONS` records.
 ///
 /// They stand in pages, and the key book in shards, which other releases may share. Release 0 has
 /// no key book: it is made for each draft of the release after it.
@@ -23,6 +24,8 @@ pub struct Release {
     filled: Vec<u16>,
     number: u32,
     changes: u32,
+    edits: u32,
+    rules: Rules,
 }
 
 impl Model for Release {
@@ -35,23 +38,23 @@ impl Model for Release {
 
     ghost coded = { release_code };
 
-    ghost view = { λ r. stocked r.stock r.number r.changes };
+    ghost view = { λ r. stocked r.stock r.number r.changes r.edits r.rules };
 
-    ghost invariant = { λ r. IsKept r.stock r.number r.changes
+    ghost invariant = { λ r. IsKept r.stock r.number r.changes r.edits r.rules
         × (r.filled.items ≡ filled_from 0 r.stock.pages) };
 }
 
 impl Release {
-    /// Release 0: these records, each put into the pages after the other, and no change so far. The
-    /// list of records is given up page by page, so that no second list of them all stands. It
-    /// takes a little memory for the pages.
-    pub fn first(alloc: Global, people: People) -> Result<Release, Memory>
+    /// Release 0: these records, each put into the pages after the other, no edit so far, and rules
+    /// without a pvalue that was set. The list of records is given up page by page, so that no
+    /// second list of them all stands. It takes a little memory for the pages.
+    pub fn first(alloc: Global, people: People, rules: Rules) -> Result<Release, Memory>
         requires few { length people ≤ MOST_PERSONS }
-        ensures { IfOk result
-            (λ release. (setup : SetupValue) → release ≡ first_release setup people) }
+        requires none_set { rules.pvalues ≡ [] }
+        ensures { IfOk result (λ release. release ≡ first_release rules.threshold people) }
     {
         let stock = Stock::first(alloc, people.into_list())?;
-        let first = Release::of(alloc, stock, 0, 0)?;
+        let first = Release::of(alloc, stock, 0, 0, 0, rules)?;
         Ok(first)
     }
 
@@ -78,8 +81,22 @@ impl Release {
         self.stock.living
     }
 
-    /// How many changes led to it.
+    /// How many edits led to it, of records and of rules.
     pub fn changes(&self) -> u32
+        ensures { result ≡ self.now.edits }
+    {
+        self.edits
+    }
+
+    /// The rules by which it is shown.
+    pub fn rules(&self) -> &Rules
+        ensures { result.now ≡ self.now.rules }
+    {
+        &self.rules
+    }
+
+    // How many changes of records led to it.
+    pub(crate) fn record_changes(&self) -> u32
         ensures { result ≡ self.now.changes }
     {
         self.changes
@@ -114,9 +131,11 @@ impl Release {
         stock: Stock,
         number: u32,
         changes: u32,
+        edits: u32,
+        rules: Rules,
     ) -> Result<Release, Memory>
-        requires { IsKept stock number changes }
-        ensures { IfOk result (λ release. release ≡ stocked stock number changes) }
+        requires { IsKept stock number changes edits rules }
+        ensures { IfOk result (λ release. release ≡ stocked stock number changes edits rules) }
     {
         let filled = filled_places(alloc, &stock.pages)?;
         Ok(Release {
@@ -124,6 +143,8 @@ impl Release {
             filled,
             number,
             changes,
+            edits,
+            rules,
         })
     }
 

@@ -1,5 +1,6 @@
 -- The record of a classification whose variable is `*`: it states the key range.
-use Rattle.std.specs.Prelude.{◌≡◌, ◌==◌, ◌⊎◌, ℕ, List, [], codes, bytes_eq, get_or, Option, Some, None}
+use Rattle.std.specs.Prelude.{◌≡◌, ◌==◌, ◌⊎◌, ℕ, List, [], codes, bytes_eq, get_or}
+use Rattle.std.specs.Prelude.{Option, Some, None}
 use Rattle.std.specs.Prelude.{if◌then◌else◌}
 use Rattle.tb_base.specs.declared.keys.Keys.{Keys}
 use Rattle.tb_base.specs.declared.keys.Keys.TheVariants.{K256, K4096}
@@ -19,7 +20,7 @@ stated_by code label = if bytes_eq code (codes "keys") then keys_of label else N
 abbrev pub IsRange : List ℕ → Type 0
 IsRange label = (label ≡ codes "256") ⊎ (label ≡ codes "4096")
 
--- the same of record n: the first alone may state it
+-- the key range that record n states by its code and its label: the first alone may state one
 abbrev pub stated_at : ℕ → List ℕ → List ℕ → Option Keys
 stated_at n code label = if n == 1 then stated_by code label else None
 

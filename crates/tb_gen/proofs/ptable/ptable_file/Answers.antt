@@ -1,6 +1,6 @@
 use Rattle.std.proofs.Common.{ℕ, ◌+◌, ◌*◌, List, ◌++◌, ◌∙◌, sym, ap, arith}
 use Rattle.tb_gen.specs.declared.classes.TheConstants.{KEY_RANGE}
-use Rattle.tb_model.specs.declared.rows.TheConstants.{LAST_ROW}
+use Rattle.tb_base.specs.declared.limits.TheConstants.{LAST_ROW}
 use Rattle.tb_gen.specs.Draws.{after, seed}
 use Rattle.tb_gen.specs.Generated.{row_lines}
 use Rattle.tb_gen.proofs.Steps.{none_yet, starts, draws_more, one_more, none_left}

@@ -1,6 +1,6 @@
 use Rattle.std.proofs.Common.{◌≡◌, ◌++◌, ◌+◌, ◌*◌}
 use Rattle.tb_gen.specs.declared.classes.TheConstants.{KEY_RANGE}
-use Rattle.tb_model.specs.declared.rows.TheConstants.{LAST_ROW}
+use Rattle.tb_base.specs.declared.limits.TheConstants.{LAST_ROW}
 use Rattle.tb_gen.specs.Draws.{after, seed}
 use Rattle.tb_gen.specs.Generated.{row_lines, generated_ptable}
 use Rattle.tb_gen.proofs.Steps.{rest_of}

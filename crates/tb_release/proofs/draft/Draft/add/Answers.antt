@@ -8,6 +8,6 @@ add-requires-clause-room c = room_for_page c.args.self.now c.requires.draft c.re
 
 pub returns : goal.returns
 returns c =
-    let new : Draft = record { register = c.add.new.self; number = c.args.self.now.number; changes = c.args.self.now.changes; made = c.args.self.now.made + 1 } in
+    let new : Draft = record { register = c.add.new.self; number = c.args.self.now.number; changes = c.args.self.now.changes; edits = c.args.self.now.edits; made = c.args.self.now.made + 1; rules = c.args.self.now.rules } in
     add_made c.args.self.now new c.args.person c.args.key c.args.codes.now c.in_ok-copy.field-0 c.in_ok-after.after c.requires.draft c.requires.possible
-    c.in_ok-copy.ensures c.in_ok-after.ensures c.in_ok-add.ensures refl refl refl
+    c.in_ok-copy.ensures c.in_ok-after.ensures c.in_ok-add.ensures refl refl refl refl refl
