@@ -2,6 +2,7 @@
 use Rattle.std.specs.Prelude.{ℕ, List, [], refl}
 use Rattle.std.specs.Coded.{Coded, code_by, coded×, coded_list, coded_ℕ}
 use Rattle.std.specs.FinMap as finmap
+use Rattle.tb_base.specs.Rules.{first_rules}
 use Rattle.tb_model.specs.Releases.{ReleaseValue, release_code}
 
 -- the shape that all records fit, and release 0
@@ -17,7 +18,7 @@ start_code =
     (λ p. record { shape = p.0; base = p.1 })
     (λ _. refl)
 
--- one for those that have none: no variables, and no records
+-- one for those that have none: no variables, no records, and no rule that was set
 abbrev pub blank_start : StartValue
 blank_start =
     record {
@@ -28,5 +29,7 @@ blank_start =
         key_book = finmap.from_entries [];
         number = 0;
         changes = 0;
+        edits = 0;
+        rules = first_rules 0;
       };
     }

@@ -38,7 +38,7 @@ revised-next shape base chain edits h fits can =
     let old : ReleaseValue = release_after base chain in
     let batch : BatchValue = batch_of old edits in
     let follows = follow_told old edits can in
-    let next : IsNext old edits (next_release old edits) batch = record { can = follows; release = refl; changes = refl } in
+    let next : IsNext old edits (next_release old edits) batch = record { can = follows; release = refl; batch_is = refl } in
     revised_on shape base chain batch h (record { edits = edits; can = follows; theirs = refl })
     (batch_fits shape old (next_release old edits) edits batch (after_all shape base chain h).fit (fits_all shape edits fits) next)
 

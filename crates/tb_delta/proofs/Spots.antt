@@ -1,5 +1,5 @@
 -- Where among the records a change is made.
-use Rattle.std.proofs.Common.{◌≡◌, ℕ, ◌<◌, ◌≤◌, List, [], ◌∷◌, ◌++◌, length, length-append, append-nil, refl, sym, ap, subst, arith}
+use Rattle.std.proofs.Common.{◌≡◌, ℕ, ◌<◌, ◌≤◌, false, List, [], ◌∷◌, ◌++◌, length, length-append, append-nil, refl, sym, ap, subst, arith}
 use Rattle.std.specs.Prelude.{Some, None}
 use Rattle.std.specs.Option.{option_to_list}
 use Rattle.tb_base.specs.declared.people.TheConstants.{MOST_PERSONS}
@@ -7,9 +7,9 @@ use Rattle.tb_base.specs.declared.records.Record.{Record}
 use Rattle.tb_model.specs.Releases.{ReleaseValue}
 use Rattle.tb_release.specs.declared.edits.Change.{Change}
 use Rattle.tb_release.specs.declared.edits.Edit.{Edit}
-use Rattle.tb_release.specs.declared.edits.Edit.TheVariants.{Add, Drop, Amend}
+use Rattle.tb_release.specs.declared.edits.Edit.TheVariants.{Add, Drop, Amend, Pvalue, Threshold}
 use Rattle.tb_release.specs.Releases.{IsSound}
-use Rattle.tb_release.specs.Edits.{amended, edited}
+use Rattle.tb_release.specs.Edits.{amended, edited, is_of_rules}
 use Rattle.tb_release.specs.Possible.{IsPossible}
 use Rattle.tb_release.specs.Batches.{change_of}
 use Rattle.tb_release.proofs.Persons.{Stands, stands, found, dropped, replaced}
@@ -37,12 +37,12 @@ fewer : {person : ℕ} {records : List Record} {r : Record} (s : Stands person r
 fewer {person} {records} {r} s few =
     omega (arith, few, ap length s.split, length-append s.before (r ∷ s.after), length-append s.before s.after)
 
--- the spot of an edit that is possible
-pub spot : (release : ReleaseValue) (edit : Edit) → IsSound release → IsPossible release edit → Spot release.records (edited release edit).records (change_of release edit)
-spot release (Add person key codes) sound can =
+-- the spot of an edit of a record that is possible
+pub spot : (release : ReleaseValue) (edit : Edit) → is_of_rules edit ≡ false → IsSound release → IsPossible release edit → Spot release.records (edited release edit).records (change_of release edit)
+spot release (Add person key codes) of sound can =
     let new : Record = record { person = person; key = key; codes = codes } in
     subst (Spot release.records (release.records ++ new ∷ [])) (sym (change_of-add release person key codes can.new)) (added person new release.records can.room)
-spot release (Drop person) sound can =
+spot release (Drop person) of sound can =
     let r = found person release.records can in
     let s = stands person release.records r.0 sound.distinct r.1 in
     subst (Spot release.records (edited release (Drop person)).records) (sym (change_of-drop release person r.0 sound.distinct r.1)) (record {
@@ -52,7 +52,7 @@ spot release (Drop person) sound can =
       after = dropped s;
       few = fewer s sound.few;
     })
-spot release (Amend person sets) sound can =
+spot release (Amend person sets) of sound can =
     let r = found person release.records can in
     let s = stands person release.records r.0 sound.distinct r.1 in
     subst (Spot release.records (edited release (Amend person sets)).records) (sym (change_of-amend release person sets r.0 sound.distinct r.1)) (record {
@@ -62,3 +62,5 @@ spot release (Amend person sets) sound can =
       after = replaced (amended sets) s;
       few = fewer s sound.few;
     })
+spot release (Pvalue row key pvalue) of sound can = cc
+spot release (Threshold value) of sound can = cc

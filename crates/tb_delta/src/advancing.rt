@@ -22,7 +22,8 @@ fn make(cube: &mut Cube, change: &Change)
 
 /// Leads the cube of a release to that of the next, over the same variables: each change of the
 /// batch takes the person's record before it out of its cell, and puts the one after it into its
-/// cell. So the work grows with the batch alone, however many records the release has.
+/// cell. Its edits of the rules change no cube. So the work grows with the batch's changes alone,
+/// however many records the release has.
 ///
 /// The counter rises by how many changes there are. It takes no memory.
 pub fn advance<L: Ledger>(cube: &mut Cube, batch: &Batch, steps: &mut Steps<L>)

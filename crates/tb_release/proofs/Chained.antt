@@ -4,6 +4,7 @@ use Rattle.std.specs.Prelude.{Option, Some, None, fold, if◌then◌else◌, ◌
 use Rattle.std.specs.Option.{option_map_or}
 use Rattle.std.proofs.lemmas.Bool.{leb-false, lt-leb, ltb-false, le-ltb, eqb-false, ne_eqb}
 use Rattle.std.proofs.lemmas.List.Sums.{sum_by-cons}
+use Rattle.tb_base.specs.Rules.{RulesValue}
 use Rattle.tb_model.specs.Releases.{ReleaseValue}
 use Rattle.tb_release.specs.declared.edits.Change.{Change}
 use Rattle.tb_release.specs.declared.edits.Edit.{Edit}
@@ -13,7 +14,6 @@ use Rattle.tb_release.specs.declared.fault.EditFaultKind.TheVariants as kind
 use Rattle.tb_release.specs.declared.limits.TheConstants.{MOST_EDITS, MOST_RELEASES, MOST_CHANGES}
 use Rattle.tb_release.specs.Releases.{IsSound}
 use Rattle.tb_release.specs.Edits.{edited, edited_all, edited_rules, is_of_rules}
-use Rattle.tb_rules.specs.Rules.{RulesValue}
 use Rattle.tb_release.specs.Possible.{ArePossible, refusal, first_refusal}
 use Rattle.tb_release.specs.Batches.{BatchValue, CanFollow, Follows, batch_of, batch_length, batch_refusal, change_of, changes_of, next_release, rule_edits_of}
 use Rattle.tb_release.specs.Chains.{changed, after_batch, release_after, change_count, edit_count, IsChain}
@@ -78,7 +78,7 @@ keys_stay release [] can q k is = is
 keys_stay release (e ∷ es) can q k is = keys_stay (edited release e) es can.1 q k (key_stays release e can.0 q k is)
 
 -- changes leave the rules, whatever they are
-with_rules : (release : ReleaseValue) (rules : RulesValue) (changes : List Change)
+pub with_rules : (release : ReleaseValue) (rules : RulesValue) (changes : List Change)
     → fold changed (record release { rules = rules }) changes ≡ record (fold changed release changes) { rules = rules }
 with_rules release rules [] = refl
 with_rules release rules (c ∷ cs) = with_rules (changed release c) rules cs

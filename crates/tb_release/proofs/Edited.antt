@@ -10,6 +10,7 @@ use Rattle.tb_base.specs.declared.records.Record.{Record}
 use Rattle.tb_base.specs.declared.people.TheConstants.{MOST_PERSONS}
 use Rattle.tb_base.specs.Persons.{has_person, AreDistinct}
 use Rattle.tb_base.proofs.PersonLemmas.{AreDistinct-push}
+use Rattle.tb_base.specs.Rules.{RulesValue}
 use Rattle.tb_model.specs.Pages.{PageValue, records_in}
 use Rattle.tb_model.specs.Releases.{KeyBook, ReleaseValue}
 use Rattle.tb_pages.specs.Pages.{changed_pages, is_of, record_of}
@@ -21,7 +22,6 @@ use Rattle.tb_release.specs.declared.fault.EditFaultKind.TheVariants as kind
 use Rattle.tb_release.specs.declared.edits.Change.{Change}
 use Rattle.tb_release.specs.Releases.{IsSound, HasKeyOf}
 use Rattle.tb_release.specs.Edits.{edited, edited_book, edited_pages, edited_records, edited_rules, is_of_rules, amended, person_of}
-use Rattle.tb_rules.specs.Rules.{RulesValue}
 use Rattle.tb_release.specs.Possible.{IsPossible, refusal, has_other_key}
 use Rattle.tb_release.specs.Batches.{change_of}
 use Rattle.tb_release.specs.Chains.{changed, changed_book, changed_records}

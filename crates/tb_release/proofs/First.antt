@@ -4,9 +4,9 @@ use Rattle.std.specs.Prelude.{All}
 use Rattle.tb_base.specs.declared.people.TheConstants.{MOST_PERSONS}
 use Rattle.tb_base.specs.declared.records.Record.{Record}
 use Rattle.tb_base.specs.Persons.{AreDistinct}
+use Rattle.tb_base.specs.Rules.{RulesValue, SetPvalue, first_rules}
 use Rattle.tb_model.specs.Pages.{PageValue, records_in}
-use Rattle.tb_model.specs.Releases.{KeyBook, ReleaseValue, first_release, first_rules}
-use Rattle.tb_rules.specs.Rules.{RulesValue, SetPvalue}
+use Rattle.tb_model.specs.Releases.{KeyBook, ReleaseValue, first_release}
 use Rattle.tb_pages.specs.declared.register.Register.{Register}
 use Rattle.tb_pages.specs.declared.stock.Stock.{Stock}
 use Rattle.tb_pages.specs.Books.{keys_in}

@@ -9,12 +9,12 @@ use Rattle.std.proofs.lemmas.List.Elements.{All-from_recursion, recursion_from_A
 use Rattle.tb_base.specs.declared.keys.TheConstants.{MOST_KEYS}
 use Rattle.tb_base.specs.declared.records.Record.{Record}
 use Rattle.tb_base.specs.Records.{Fits}
+use Rattle.tb_base.specs.declared.limits.TheConstants.{MOST_THRESHOLD}
+use Rattle.tb_base.proofs.Setting.{can_told, can_back}
 use Rattle.tb_release.specs.declared.edits.Edit.{Edit}
 use Rattle.tb_release.specs.declared.edits.Edit.TheVariants.{Add, Drop, Amend, Pvalue, Threshold}
 use Rattle.tb_release.specs.Fitting.{codes_fit, edit_fits, edits_fit, record_fits, setting_fits}
 use Rattle.tb_release.specs.Laws.{EditFits}
-use Rattle.tb_rules.specs.declared.limits.TheConstants.{MOST_THRESHOLD}
-use Rattle.tb_rules.proofs.Setting.{can_told, can_back}
 
 -- ---- loops over lists: an element that fails, and one that passes
 module _ {X : Type 0} (f : X → Bool) (xs : List X) (i : ℕ) (x : X) (here : drop i xs ≡ x ∷ drop (i + 1) xs) (rest : list_all f

@@ -16,14 +16,13 @@ use Rattle.tb_pages.proofs.RoomLemmas.{few_pages, filled_changed}
 use Rattle.tb_release.specs.declared.draft.Draft.{Draft}
 use Rattle.tb_release.specs.declared.edits.Change.{Change}
 use Rattle.tb_release.specs.declared.edits.Edit.{Edit}
-use Rattle.tb_release.specs.declared.edits.Edit.TheVariants.{Add, Drop, Amend, Pvalue, Threshold}
+use Rattle.tb_release.specs.declared.edits.Edit.TheVariants.{Add, Drop, Amend}
 use Rattle.tb_release.specs.declared.fault.EditFaultKind.TheVariants as kind
 use Rattle.tb_release.specs.declared.limits.TheConstants.{MOST_CHANGES}
 use Rattle.tb_release.specs.Releases.{IsSound}
 use Rattle.tb_release.specs.Edits.{amended, edited, edited_book, edited_pages, edited_records, is_of_rules, person_of}
 use Rattle.tb_release.specs.Entries.{entry_of}
 use Rattle.tb_release.specs.declared.edits.BatchEntry.TheVariants as entry
-use Rattle.tb_rules.specs.Rules.{MayBeSet, RulesValue, with_pvalue, with_threshold}
 use Rattle.tb_release.specs.Possible.{CanAdd, IsPossible, has_other_key, refusal}
 use Rattle.tb_release.specs.Batches.{change_of}
 use Rattle.tb_release.specs.Drafts.{IsDraft, IsMade, release_of}

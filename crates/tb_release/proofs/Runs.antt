@@ -12,16 +12,16 @@ use Rattle.tb_base.specs.Records.{Fits, AllFit}
 use Rattle.tb_model.specs.Releases.{ReleaseValue}
 use Rattle.tb_pages.specs.Pages.{record_of}
 use Rattle.tb_pages.specs.Rooms.{AreFilledBy}
-use Rattle.tb_release.specs.declared.draft.Draft.{Draft}
-use Rattle.tb_release.specs.declared.edits.Edit.{Edit}
-use Rattle.tb_release.specs.declared.edits.Edit.TheVariants.{Add, Drop, Amend, Pvalue, Threshold}
-use Rattle.tb_release.specs.declared.edits.Change.{Change}
-use Rattle.tb_release.specs.declared.limits.TheConstants.{MOST_EDITS, MOST_RELEASES, MOST_CHANGES}
 use Rattle.tb_pages.specs.declared.register.Register.{Register}
 use Rattle.tb_pages.specs.declared.stock.Stock.{Stock}
 use Rattle.tb_pages.specs.Books.{Book}
 use Rattle.tb_pages.specs.Fillings.{ArePlaced}
 use Rattle.tb_pages.specs.Registers.{IsRegister}
+use Rattle.tb_release.specs.declared.draft.Draft.{Draft}
+use Rattle.tb_release.specs.declared.edits.Edit.{Edit}
+use Rattle.tb_release.specs.declared.edits.Edit.TheVariants.{Add, Drop, Amend, Pvalue, Threshold}
+use Rattle.tb_release.specs.declared.edits.Change.{Change}
+use Rattle.tb_release.specs.declared.limits.TheConstants.{MOST_EDITS, MOST_RELEASES, MOST_CHANGES}
 use Rattle.tb_release.specs.Releases.{IsKept, IsShared, IsSound, stocked}
 use Rattle.tb_release.specs.Edits.{edited, edited_all, is_of_rules, person_of}
 use Rattle.tb_release.specs.Possible.{refusal, first_refusal}

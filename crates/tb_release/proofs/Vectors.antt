@@ -1,15 +1,15 @@
 -- Worked batches over the small setup's records.
 use Rattle.std.proofs.Common.{◌≡◌, ℕ, List, [], ◌∷◌, refl}
-use Rattle.std.specs.Prelude.{Some, None}
+use Rattle.std.specs.Prelude.{Some, None, pos, negsuc}
 use Rattle.std.specs.FinMap.{get-insert, get-from_entries}
 use Rattle.std.specs.Cmp.{nat_cmp_total}
 use Rattle.tb_model.specs.Releases.{ReleaseValue, first_release}
 use Rattle.tb_model.proofs.SmallSetup.{records, person}
 use Rattle.tb_release.specs.declared.edits.Edit.{Edit}
-use Rattle.tb_release.specs.declared.edits.Edit.TheVariants.{Add, Drop, Amend}
+use Rattle.tb_release.specs.declared.edits.Edit.TheVariants.{Add, Drop, Amend, Pvalue, Threshold}
 use Rattle.tb_release.specs.declared.fault.EditFaultKind.TheVariants as kind
 use Rattle.tb_release.specs.Edits.{edited_all}
-use Rattle.tb_release.specs.Batches.{changes_of, next_release, batch_refusal}
+use Rattle.tb_release.specs.Batches.{batch_of, batch_refusal, changes_of, next_release}
 
 -- a person comes, is amended and goes
 abbrev comes_and_goes : List Edit
@@ -42,7 +42,7 @@ no_edits t = refl
 later_setting_stands : (t : ℕ) → (edited_all (first_release t records) (Amend 101 ((1, 2) ∷ (1, 1) ∷ []) ∷ Drop 102 ∷ Drop 103 ∷ Drop 104 ∷ [])).records ≡ person 101 200 (0 ∷ 1 ∷ 0 ∷ []) ∷ []
 later_setting_stands t = refl
 
--- there may be 10,000 releases after the first, and 1,000,000 changes in all
+-- there may be 10,000 releases after the first, and 1,000,000 edits in all, of records and of rules
 abbrev far : ℕ → ℕ → ℕ → ReleaseValue
 far t number edits = record (first_release t records) { number = number; edits = edits }
 
@@ -58,8 +58,52 @@ last_changes t = refl
 no_further_change : (t : ℕ) → batch_refusal (far t 1 999999) (Drop 101 ∷ Drop 102 ∷ []) ≡ Some (kind.TooMany, 0)
 no_further_change t = refl
 
+last_rule_edits : (t : ℕ) → batch_refusal (far t 1 999998) (Drop 101 ∷ Threshold 3 ∷ []) ≡ None
+last_rule_edits t = refl
+
+no_further_rule_edit : (t : ℕ) → batch_refusal (far t 1 999999) (Drop 101 ∷ Threshold 3 ∷ []) ≡ Some (kind.TooMany, 0)
+no_further_rule_edit t = refl
+
 no_edits_first : (t : ℕ) → batch_refusal (far t 10000 0) [] ≡ Some (kind.Nothing, 0)
 no_edits_first t = refl
 
 person_there : (t : ℕ) → batch_refusal (first_release t records) (Amend 102 ((0, 1) ∷ []) ∷ Add 102 100 (0 ∷ 2 ∷ 0 ∷ []) ∷ []) ≡ Some (kind.PersonThere, 2)
 person_there t = refl
+
+-- a pvalue is set, a person leaves, the threshold is set, and that pvalue once more
+abbrev of_both : List Edit
+of_both = Pvalue 3 64 (pos 5) ∷ Drop 101 ∷ Threshold 3 ∷ Pvalue 3 64 (negsuc 2) ∷ []
+
+both_can_follow : (t : ℕ) → batch_refusal (first_release t records) of_both ≡ None
+both_can_follow t = refl
+
+rules_of_both : (t : ℕ) → (next_release (first_release t records) of_both).rules ≡ record { threshold = 3; pvalues = ((3, 64), negsuc 2) ∷ [] }
+rules_of_both t = refl
+
+batch_of_both : (t : ℕ) → batch_of (first_release t records) of_both ≡ record {
+  changes = record { person = 101; before = Some (person 101 200 (0 ∷ 0 ∷ 0 ∷ [])); after = None } ∷ [];
+  rule_edits = Pvalue 3 64 (pos 5) ∷ Threshold 3 ∷ Pvalue 3 64 (negsuc 2) ∷ [];
+}
+batch_of_both t = refl
+
+changes_of_both : (t : ℕ) → (next_release (first_release t records) of_both).changes ≡ 1
+changes_of_both t = refl
+
+edits_of_both : (t : ℕ) → (next_release (first_release t records) of_both).edits ≡ 4
+edits_of_both t = refl
+
+-- pvalues stand by row and then by cell key, whatever order they were set in
+pvalues_in_order : (t : ℕ) → (next_release (first_release t records) (Pvalue 4 7 (pos 1) ∷ Pvalue 3 64 (pos 5) ∷ Pvalue 3 9 (pos 2) ∷ [])).rules
+    ≡ record { threshold = t; pvalues = ((3, 9), pos 2) ∷ ((3, 64), pos 5) ∷ ((4, 7), pos 1) ∷ [] }
+pvalues_in_order t = refl
+
+-- an edit of the rules touches no record and no page
+records_stay : (t : ℕ) → (next_release (first_release t records) (Threshold 3 ∷ [])).records ≡ records
+records_stay t = refl
+
+pages_stay : (t : ℕ) → (next_release (first_release t records) (Threshold 3 ∷ [])).pages ≡ (first_release t records).pages
+pages_stay t = refl
+
+-- edits of the rules count where an edit is refused
+refused_after_rules : (t : ℕ) → batch_refusal (first_release t records) (Pvalue 3 64 (pos 5) ∷ Threshold 3 ∷ Drop 999 ∷ []) ≡ Some (kind.NoSuchPerson, 3)
+refused_after_rules t = refl

@@ -1,12 +1,12 @@
 -- Batches of changes, and which of them follow a release.
 use Rattle.std.specs.Prelude.{◌≡◌, ◌<◌, ◌≤◌, ℕ, ◌+◌, ◌==◌, ◌||◌, nat_le, nat_lt}
-use Rattle.std.specs.Prelude.{if◌then◌else◌, List, [], ◌∷◌, ◌++◌, filter, length, Option, Some, refl}
+use Rattle.std.specs.Prelude.{if◌then◌else◌, List, [], ◌∷◌, filter, length, Option, Some, refl}
 use Rattle.std.specs.Coded.{Coded, code_by, coded×, coded_ℕ, coded_list, coded_option}
-use Rattle.tb_release.specs.EditCodes.{edit_code}
 use Rattle.tb_base.specs.declared.records.Record.{Record}
 use Rattle.tb_base.specs.Records.{record_code}
 use Rattle.tb_model.specs.Releases.{ReleaseValue}
 use Rattle.tb_pages.specs.Pages.{record_of}
+use Rattle.tb_release.specs.EditCodes.{edit_code}
 use Rattle.tb_release.specs.declared.edits.Edit.{Edit}
 use Rattle.tb_release.specs.declared.edits.Change.{Change}
 use Rattle.tb_release.specs.declared.fault.EditFaultKind.{EditFaultKind}
@@ -36,8 +36,8 @@ changes_of release (edit ∷ edits) =
 abbrev pub rule_edits_of : List Edit → List Edit
 rule_edits_of edits = filter is_of_rules edits
 
--- a batch: the changes of one list of edits and those of the edits that are of the rules, both in
--- order
+-- a batch: the changes of one list of edits, and those of its edits that are of the rules, each
+-- list in order
 pub record BatchValue : Type 0 where
   pub changes : List Change
   pub rule_edits : List Edit

@@ -3,6 +3,8 @@ use Rattle.std.specs.Prelude.{◌≡◌, ◌+◌, ◌<◌, ◌≤◌, ℕ, List,
 use Rattle.std.specs.List.{AllByRecursion}
 use Rattle.std.specs.Option.{ForSome}
 use Rattle.tb_base.specs.declared.people.TheConstants.{MOST_PERSONS}
+use Rattle.tb_base.specs.declared.limits.TheConstants.{MOST_THRESHOLD}
+use Rattle.tb_base.specs.Rules.{MayBeSet}
 use Rattle.tb_model.specs.Releases.{ReleaseValue}
 use Rattle.tb_pages.specs.Pages.{record_of}
 use Rattle.tb_pages.specs.Registers.{IsRegister}
@@ -11,8 +13,6 @@ use Rattle.tb_release.specs.declared.draft.Draft.{Draft}
 use Rattle.tb_release.specs.declared.edits.Edit.{Edit}
 use Rattle.tb_release.specs.declared.edits.Edit.TheVariants.{Add, Drop, Amend, Pvalue, Threshold}
 use Rattle.tb_release.specs.declared.edits.BatchEntry.{BatchEntry}
-use Rattle.tb_rules.specs.declared.limits.TheConstants.{MOST_THRESHOLD}
-use Rattle.tb_rules.specs.Rules.{MayBeSet}
 use Rattle.tb_release.specs.declared.limits.TheConstants.{MOST_RELEASES}
 use Rattle.tb_release.specs.Releases.{IsSound, registered}
 use Rattle.tb_release.specs.Edits.{edited, edited_all}

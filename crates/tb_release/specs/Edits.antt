@@ -3,12 +3,12 @@ use Rattle.std.specs.Prelude.{ℕ, ◌+◌, Bool, true, false, not, if◌then◌
 use Rattle.std.specs.Prelude.{map, filter, fold, slice_set}
 use Rattle.std.specs.FinMap as finmap
 use Rattle.tb_base.specs.declared.records.Record.{Record}
+use Rattle.tb_base.specs.Rules.{RulesValue, with_pvalue, with_threshold}
 use Rattle.tb_model.specs.Pages.{PageValue}
 use Rattle.tb_model.specs.Releases.{KeyBook, ReleaseValue}
 use Rattle.tb_pages.specs.Pages.{changed_pages, is_of, record_of}
 use Rattle.tb_release.specs.declared.edits.Edit.{Edit}
 use Rattle.tb_release.specs.declared.edits.Edit.TheVariants.{Add, Drop, Amend, Pvalue, Threshold}
-use Rattle.tb_rules.specs.Rules.{RulesValue, with_pvalue, with_threshold}
 
 -- whether an edit is one of the rules, and not of a record
 abbrev pub is_of_rules : Edit → Bool

@@ -3,10 +3,10 @@ use Rattle.std.specs.Prelude.{ℕ, ◌&&◌, Bool, true, false, List, [], ◌∷
 use Rattle.std.specs.Prelude.{slice_index}
 use Rattle.std.specs.List.{list_all}
 use Rattle.tb_base.specs.declared.keys.TheConstants.{MOST_KEYS}
+use Rattle.tb_base.specs.declared.limits.TheConstants.{MOST_THRESHOLD}
+use Rattle.tb_base.specs.Rules.{can_be_set}
 use Rattle.tb_release.specs.declared.edits.Edit.{Edit}
 use Rattle.tb_release.specs.declared.edits.Edit.TheVariants.{Add, Drop, Amend, Pvalue, Threshold}
-use Rattle.tb_rules.specs.declared.limits.TheConstants.{MOST_THRESHOLD}
-use Rattle.tb_rules.specs.Rules.{can_be_set}
 
 -- whether there is one category of each variable, and one that the variable has
 abbrev pub codes_fit : List ℕ → List ℕ → Bool

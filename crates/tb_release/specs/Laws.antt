@@ -5,13 +5,13 @@ use Rattle.std.specs.List.{AllByRecursion}
 use Rattle.std.specs.FinMap as finmap
 use Rattle.tb_base.specs.declared.records.Record.{Record}
 use Rattle.tb_base.specs.Records.{Fits, AllFit}
+use Rattle.tb_base.specs.declared.limits.TheConstants.{MOST_THRESHOLD}
+use Rattle.tb_base.specs.Rules.{MayBeSet}
 use Rattle.tb_model.specs.Releases.{KeyBook, ReleaseValue, first_release}
 use Rattle.tb_pages.specs.Pages.{no_page}
 use Rattle.tb_pages.specs.Stamps.{KeepsPages}
 use Rattle.tb_release.specs.declared.edits.Edit.{Edit}
 use Rattle.tb_release.specs.declared.edits.Edit.TheVariants.{Add, Drop, Amend, Pvalue, Threshold}
-use Rattle.tb_rules.specs.declared.limits.TheConstants.{MOST_THRESHOLD}
-use Rattle.tb_rules.specs.Rules.{MayBeSet}
 use Rattle.tb_release.specs.declared.limits.TheConstants.{MOST_EDITS}
 use Rattle.tb_release.specs.Releases.{IsSound}
 use Rattle.tb_release.specs.Edits.{edited_all}
@@ -72,7 +72,8 @@ BatchesLeadOn =
     (release : ReleaseValue) (edits : List Edit) → IsSound release → ArePossible release edits
     → after_batch release (batch_of release edits) ≡ next_release release edits
 
--- the release after a chain is sound, has the keys from before, and counts batches, changes and edits
+-- the release after a chain is sound, has the keys from before, and counts batches, changes and
+-- edits
 pub record ChainFacts (release : ReleaseValue) (chain : List BatchValue) : Type 0 where
   pub sound : IsSound (release_after release chain)
   pub keys : KeepsKeys release.key_book (release_after release chain).key_book

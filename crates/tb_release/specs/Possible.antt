@@ -24,7 +24,8 @@ pub record CanAdd (release : ReleaseValue) (person key : ℕ) : Type 0 where
   pub same_key : has_other_key release.key_book person key ≡ false
   pub room : length release.records < MOST_PERSONS
 
--- an edit is possible: a drop or an amend where the person has a record, and one of the rules always
+-- an edit is possible: a drop or an amend where the person has a record, and one of the rules
+-- always
 abbrev pub IsPossible : ReleaseValue → Edit → Type 0
 IsPossible release (Add person key codes) = CanAdd release person key
 IsPossible release (Drop person) = has_person release.records person ≡ true

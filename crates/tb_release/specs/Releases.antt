@@ -4,6 +4,7 @@ use Rattle.std.specs.FinMap as finmap
 use Rattle.tb_base.specs.declared.people.TheConstants.{MOST_PERSONS}
 use Rattle.tb_base.specs.declared.records.Record.{Record}
 use Rattle.tb_base.specs.Persons.{AreDistinct}
+use Rattle.tb_base.specs.Rules.{RulesValue}
 use Rattle.tb_model.specs.Pages.{PageValue, records_in}
 use Rattle.tb_model.specs.Releases.{KeyBook, ReleaseValue}
 use Rattle.tb_pages.specs.declared.register.Register.{Register}
@@ -12,7 +13,6 @@ use Rattle.tb_pages.specs.Books.{keys_in}
 use Rattle.tb_pages.specs.Registers.{IsRegister}
 use Rattle.tb_pages.specs.Rooms.{AreFilledBy}
 use Rattle.tb_pages.specs.Stocks.{IsStock, keys_of}
-use Rattle.tb_rules.specs.Rules.{RulesValue}
 use Rattle.tb_release.specs.declared.limits.TheConstants.{MOST_CHANGES}
 
 -- a key book has a record's person with the record's key

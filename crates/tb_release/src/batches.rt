@@ -15,7 +15,8 @@ use std::sync::ledger::Ledger;
 use tb_base::{Memory, Steps, charge};
 
 /// What leads from a release to the next: the changes of the edits of records, and the edits of the
-/// rules, each in order, at most `MOST_EDITS` together. What an edit of the rules sets is in range.
+/// rules, each in order, at most `MOST_EDITS` together. What an edit of the rules sets is in range:
+/// rules take it.
 #[derive(Drop)]
 pub struct Batch {
     changes: Vec<Change>,
@@ -97,14 +98,14 @@ impl Batch {
         &self.rule_edits[i]
     }
 
-    /// How many changes there are.
+    /// How many changes of records there are.
     pub fn len(&self) -> usize
         ensures { result ≡ length self.now.changes }
     {
         self.changes.len()
     }
 
-    /// The changes. The counter rises by how many there are.
+    /// The changes of records. The counter rises by how many there are.
     pub fn lend<L: Ledger>(&self, steps: &mut Steps<L>) -> &[Change]
         ensures changes { result.now ≡ self.now.changes }
         ensures charge { steps.new ≡ steps.old + length self.now.changes }

@@ -3,8 +3,10 @@
 ghost use Rattle.std.specs.Prelude.{◌≡◌, ◌+◌, ◌==◌, ◌<◌, ◌≤◌, [], true, false, not, All, IfOk};
 ghost use Rattle.std.specs.Prelude.{IfErr, length};
 ghost use Rattle.std.specs.Option.{ForSome, option_map_or};
+ghost use Rattle.tb_base.specs.declared.limits.TheConstants.{MOST_THRESHOLD};
 ghost use Rattle.tb_base.specs.Persons.{has_person};
 ghost use Rattle.tb_base.specs.Records.{AllFit};
+ghost use Rattle.tb_base.specs.Rules.{MayBeSet};
 ghost use Rattle.tb_pages.specs.Pages.{record_of};
 ghost use Rattle.tb_release.specs.declared.edits.Edit.TheVariants as edits;
 ghost use Rattle.tb_release.specs.declared.limits.TheConstants.{MOST_CHANGES, MOST_EDITS};
@@ -14,10 +16,9 @@ ghost use Rattle.tb_release.specs.Drafts.{IsMade, release_of};
 ghost use Rattle.tb_release.specs.Laws.{EditFits};
 ghost use Rattle.tb_release.specs.Possible.{CanAdd, IsPossible, first_refusal, refusal};
 ghost use Rattle.tb_release.specs.Results.{IsWhy};
-ghost use Rattle.tb_rules.specs.declared.limits.TheConstants.{MOST_THRESHOLD};
-ghost use Rattle.tb_rules.specs.Rules.{MayBeSet};
 
 use crate::batches::Batch;
+use crate::draft_rules::DraftRules;
 use crate::edits::{BatchEntry, Change, Edit, Sets};
 use crate::fault::{EditFault, EditFaultKind};
 use crate::parts::amended_record;
@@ -25,9 +26,8 @@ use crate::release::Release;
 use std::alloc::Global;
 use tb_base::{Codes, MOST_PERSONS, Memory, Record, Shape};
 use tb_pages::{Register, Stock};
-use tb_rules::Rules;
 
-/// A release while it is edited. Its pages and shards are those of the old one until an edit
+/// A release while it is edited. Its pages, shards and rules are those of the old one until an edit
 /// touches them: then a copy is made, once for all its edits.
 #[derive(Drop)]
 pub(crate) struct Draft {
@@ -36,17 +36,18 @@ pub(crate) struct Draft {
     changes: u32,
     edits: u32,
     made: usize,
-    rules: Rules,
+    rules: DraftRules,
 }
 
 impl Draft {
-    /// A release with no edit made so far. It takes memory for a copy of the rules.
+    /// A release with no edit made so far.
     pub(crate) fn of(alloc: Global, old: &Release) -> Result<Draft, Memory>
         requires { old.now.number < MOST_RELEASES }
         ensures { IfOk result (λ draft. IsDraftOf old.now draft) }
     {
         let register = old.share(alloc)?;
-        let rules = old.rules().copy()?;
+        let shared = old.shared_rules()?;
+        let rules = DraftRules::of(shared);
         Ok(Draft {
             register,
             number: old.number(),
@@ -109,6 +110,7 @@ impl Draft {
         let stock = Stock::of(register);
         let changes = changes + made as u32;
         let edits = edits + count as u32;
+        let rules = rules.finish(alloc)?;
         let next = Release::of(alloc, stock, number + 1, changes, edits, rules)?;
         Ok(next)
     }
@@ -170,7 +172,7 @@ impl Draft {
             Edit::Drop { person } => self.take_out(alloc, *person),
             Edit::Amend { person, sets } => self.amend(alloc, *person, sets),
             Edit::Pvalue { row, key, pvalue } => self.set_pvalue(*row, *key, *pvalue),
-            Edit::Threshold { value } => Ok(self.set_threshold(*value)),
+            Edit::Threshold { value } => self.set_threshold(*value),
         }
     }
 
@@ -181,18 +183,18 @@ impl Draft {
         ensures { IfOk result
             (λ entry. IsMade (edits.Pvalue row key pvalue) self.old self.new entry) }
     {
-        self.rules.set(row, key, pvalue)?;
+        self.rules.set_pvalue(row, key, pvalue)?;
         Ok(BatchEntry::Rule(Edit::Pvalue { row, key, pvalue }))
     }
 
     // Sets the threshold.
-    fn set_threshold(&mut self, value: u32) -> BatchEntry
+    fn set_threshold(&mut self, value: u32) -> Result<BatchEntry, Memory>
         requires draft { IsDraft self.old }
         requires in_range { value ≤ MOST_THRESHOLD }
-        ensures { IsMade (edits.Threshold value) self.old self.new result }
+        ensures { IfOk result (λ entry. IsMade (edits.Threshold value) self.old self.new entry) }
     {
-        self.rules.set_threshold(value);
-        BatchEntry::Rule(Edit::Threshold { value })
+        self.rules.set_threshold(value)?;
+        Ok(BatchEntry::Rule(Edit::Threshold { value }))
     }
 
     // Puts a person's record last.

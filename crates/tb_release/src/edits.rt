@@ -49,13 +49,13 @@ impl Sets {
 }
 
 /// What is asked for one person: to add the person's record, to drop it, or to replace categories
-/// in it; or of the rules: to set the pvalue at a row and a cell key, or the threshold.
+/// in it; or of the rules: to set the pvalue at a row and a cell key, or to set the threshold.
 #[derive(Debug, Drop)]
 pub enum Edit {
     Add { person: u32, key: u16, codes: Codes },
     Drop { person: u32 },
     Amend { person: u32, sets: Sets },
-    Pvalue { row: u16, key: u8, pvalue: i16 },
+    Pvalue { row: u16, key: u16, pvalue: i16 },
     Threshold { value: u32 },
 }
 

@@ -3,16 +3,15 @@
 ghost use Rattle.std.specs.Prelude.{◌≡◌, ◌≤◌, ◌↔◌, ℕ, true, nat_le, nat_lt, All};
 ghost use Rattle.std.specs.List.{list_all};
 ghost use Rattle.tb_base.specs.declared.keys.TheConstants.{MOST_KEYS as LIMIT};
+ghost use Rattle.tb_base.specs.declared.limits.TheConstants.{MOST_THRESHOLD as THRESHOLD_LIMIT};
 ghost use Rattle.tb_base.specs.Records.{AllFit, Fits};
 ghost use Rattle.tb_release.specs.declared.edits.Edit.TheVariants as edits;
 ghost use Rattle.tb_release.specs.Fitting.{codes_fit, edit_fits as is_fit, edits_fit as are_fit};
 ghost use Rattle.tb_release.specs.Fitting.{record_fits as is_record, setting_fits as is_setting};
 ghost use Rattle.tb_release.specs.Laws.{EditFits};
-ghost use Rattle.tb_rules.specs.Rules.{MayBeSet, can_be_set};
-ghost use Rattle.tb_rules.specs.declared.limits.TheConstants.{MOST_THRESHOLD as THRESHOLD_LIMIT};
 
 use crate::edits::{Edit, Edits, Sets};
-use tb_base::{Codes, MOST_KEYS, Record, Shape};
+use tb_base::{Codes, MOST_KEYS, MOST_THRESHOLD, Record, Shape, may_be_set};
 
 /// Whether a record with this key and these categories fits a shape: its key is below `MOST_KEYS`,
 /// and it has one category of each variable, and one that the variable has.
@@ -64,7 +63,7 @@ pub fn edit_fits(shape: &Shape, edit: &Edit) -> bool
         } => record_fits(shape, *key, codes),
         Edit::Drop { person: _ } => true,
         Edit::Amend { person: _, sets } => sets_fit(shape, sets),
-        Edit::Pvalue { row, key, pvalue } => pvalue_fits(*row, *key, *pvalue),
+        Edit::Pvalue { row, key, pvalue } => may_be_set(*row, *key, *pvalue),
         Edit::Threshold { value } => is_threshold(*value),
     }
 }
@@ -89,29 +88,7 @@ fn is_key(key: u16) -> bool
     key < MOST_KEYS
 }
 
-// Whether a pvalue may be set at a row and a cell key: all three are in range, and it leaves no count
-// negative.
-fn pvalue_fits(row: u16, key: u8, pvalue: i16) -> bool
-    ensures test { result ≡ can_be_set row key pvalue }
-    ensures told { result ≡ true → MayBeSet row key pvalue }
-{
-    is_in_range(row, key, pvalue)
-}
-
-// The test of that.
-fn is_in_range(row: u16, key: u8, pvalue: i16) -> bool
-    ensures { result ≡ can_be_set row key pvalue }
-{
-    let sum = i32::from(row) + i32::from(pvalue);
-    row >= 1
-        && row <= MOST_ROW
-        && u16::from(key) < KEY_RANGE
-        && pvalue >= LEAST_PVALUE
-        && pvalue <= MOST_PVALUE
-        && sum >= 0
-}
-
-// Whether it is at most the greatest threshold.
+// Whether a threshold is at most the greatest.
 fn is_threshold(value: u32) -> bool
     ensures test { result ≡ nat_le value THRESHOLD_LIMIT }
     ensures told { result ≡ true → value ≤ THRESHOLD_LIMIT }

@@ -29,8 +29,9 @@ fn refused(kind: EditFaultKind) -> EditFault
 /// `Nothing` where there is no edit; `TooMany` where the old release is the last that may be, or
 /// there would be too many edits; and else that of the first edit that isn't possible, with its
 /// number. It takes memory for the changes, and for a copy of each page and shard that an edit
-/// touches; the other pages and shards are the old release's. After release 0, which has no key
-/// book, it takes memory for one of all its records, and the time to make it.
+/// touches, and of the rules where an edit sets something in them; all else is shared with the old
+/// release. After release 0, which has no key book, it takes memory for one of all its records, and
+/// the time to make it.
 pub fn next(
     alloc: Global,
     shape: &Shape,
@@ -53,8 +54,8 @@ pub fn next(
     if list.is_empty() {
         return Err(refused(EditFaultKind::Nothing));
     }
-    let changes = old.changes() as usize + list.len();
-    if old.number() >= MOST_RELEASES || changes > MOST_CHANGES as usize {
+    let in_all = old.changes() as usize + list.len();
+    if old.number() >= MOST_RELEASES || in_all > MOST_CHANGES as usize {
         return Err(refused(EditFaultKind::TooMany));
     }
     let mut draft = Draft::of(alloc, old)?;

@@ -1,21 +1,26 @@
-//! Releases of the microdata: their records and numbers, what edits make of them, and the batches
-//! that lead from one to the next.
+//! Releases of the microdata: their records, numbers and rules, what edits make of them, and the
+//! batches that lead from one to the next.
 //!
-//! It stands on `tb_base`, `tb_model` and `tb_rows` (how a refusal is printed). Its contracts cite
-//! `Releases` of `tb_model` (what a release is, and release 0), and here `specs/Releases` (what is
-//! true of every release), `Edits` (what an edit leaves), `Possible` (which edits are possible, and
-//! why one isn't), `Batches` (which batches follow a release, and the first refusal of edits) and
-//! `Results` (what the calls return), and `Fitting` (whether records and edits fit a shape). `laws`
-//! cites `Chains` too (the release to which a chain of batches leads).
+//! It stands on `tb_base` (with the rules), `tb_model`, `tb_pages` (the pages and key books in
+//! which records stand) and `tb_rows` (how a refusal is printed). Its contracts cite `Releases` of
+//! `tb_model` (what a release is, and release 0), and here `specs/Releases` (what is true of every
+//! release), `Edits` (what an edit leaves), `Possible` (which edits are possible, and why one
+//! isn't), `Batches` (which batches follow a release, and the first refusal of edits), `RuleEdits`
+//! (what is true of the edits of the rules in a batch), `Results` (what the calls return) and
+//! `Fitting` (whether records and edits fit a shape, or are in range). `laws` cites `Chains` too
+//! (the release to which a chain of batches leads). `EditCodes` is for types whose values hold
+//! edits; `Drafts` and `Entries` serve a release while it is edited.
 //!
-//! Of the lemmas `Persons`, `Books` (key books), `Edited` (one edit) and `Chained` (batches and
-//! chains) are over the definitions, and give the laws; `SlotLemmas`, `InPlace`, `Places`, `Keys`,
-//! `Made` and `Runs` serve a release while it is edited, `Fitting` that its records still fit, and
-//! `FitTests` the tests of that. `Vectors` has worked batches.
+//! Of the lemmas `Persons`, `Books` (key books), `Edited` (one edit), `Chained` (batches and
+//! chains) and `Stamped` (the stamps of pages) are over the definitions, and give the laws;
+//! `First`, `Made` and `Runs` serve a release while it is edited, `EntryLemmas` its batch,
+//! `Fitting` that its records still fit, and `FitTests` the tests of that. `Vectors` has worked
+//! batches.
 #![tactic(auto)]
 
 mod batches;
 mod draft;
+mod draft_rules;
 mod edits;
 mod fault;
 mod fits;

@@ -1,4 +1,5 @@
 ghost use Rattle.std.specs.Prelude.{◌≡◌, ◌+◌, ◌<◌, ◌≤◌, [], IfOk, flat_map, length, slice_index_or};
+ghost use Rattle.std.specs.Arc.{arc_value};
 ghost use Rattle.tb_base.specs.declared.people.TheConstants.{MOST_PERSONS};
 ghost use Rattle.tb_model.specs.Releases.{first_release};
 ghost use Rattle.tb_pages.specs.Lents.{pieces_of};
@@ -7,17 +8,17 @@ ghost use Rattle.tb_release.specs.Releases.{IsKept, IsShared, IsSound, stocked};
 
 use std::alloc::Global;
 use std::marker::Model;
+use std::sync::Arc;
 use std::sync::ledger::Ledger;
-use tb_base::{Memory, People, Record, Steps, charge};
+use tb_base::{Memory, People, Record, Rules, Steps, charge};
 use tb_pages::{Lent, Register, Stock, filled_places};
-use tb_rules::Rules;
 
 /// A release of the microdata: its records in order, no two of one person, the key book, its
 /// number, how many changes of records and how many edits led to it, and the rules by which it is
 /// shown. It has at most `MOST_PERSONS` records.
 ///
-/// They stand in pages, and the key book in shards, which other releases may share. Release 0 has
-/// no key book: it is made for each draft of the release after it.
+/// The records stand in pages, and the key book in shards, which other releases may share, as they
+/// may the rules. Release 0 has no key book: it is made for each draft of the release after it.
 #[derive(Drop)]
 pub struct Release {
     stock: Stock,
@@ -25,11 +26,12 @@ pub struct Release {
     number: u32,
     changes: u32,
     edits: u32,
-    rules: Rules,
+    rules: Arc<Rules>,
 }
 
 impl Model for Release {
     ghost use Rattle.std.specs.Prelude.{◌≡◌};
+    ghost use Rattle.std.specs.Arc.{arc_value};
     ghost use Rattle.tb_model.specs.Releases.{ReleaseValue, release_code};
     ghost use Rattle.tb_pages.specs.Lents.{filled_from};
     ghost use Rattle.tb_release.specs.Releases.{IsKept, stocked};
@@ -38,22 +40,24 @@ impl Model for Release {
 
     ghost coded = { release_code };
 
-    ghost view = { λ r. stocked r.stock r.number r.changes r.edits r.rules };
+    ghost view = { λ r. stocked r.stock r.number r.changes r.edits (arc_value r.rules) };
 
-    ghost invariant = { λ r. IsKept r.stock r.number r.changes r.edits r.rules
+    ghost invariant = { λ r. IsKept r.stock r.number r.changes r.edits (arc_value r.rules)
         × (r.filled.items ≡ filled_from 0 r.stock.pages) };
 }
 
 impl Release {
     /// Release 0: these records, each put into the pages after the other, no edit so far, and rules
     /// without a pvalue that was set. The list of records is given up page by page, so that no
-    /// second list of them all stands. It takes a little memory for the pages.
+    /// second list of them all stands. It takes a little memory for the pages, and to share the
+    /// rules.
     pub fn first(alloc: Global, people: People, rules: Rules) -> Result<Release, Memory>
         requires few { length people ≤ MOST_PERSONS }
         requires none_set { rules.pvalues ≡ [] }
         ensures { IfOk result (λ release. release ≡ first_release rules.threshold people) }
     {
         let stock = Stock::first(alloc, people.into_list())?;
+        let rules = Arc::new(alloc, rules)?;
         let first = Release::of(alloc, stock, 0, 0, 0, rules)?;
         Ok(first)
     }
@@ -81,7 +85,7 @@ impl Release {
         self.stock.living
     }
 
-    /// How many edits led to it, of records and of rules.
+    /// How many edits led to it, of records and of the rules.
     pub fn changes(&self) -> u32
         ensures { result ≡ self.now.edits }
     {
@@ -93,6 +97,15 @@ impl Release {
         ensures { result.now ≡ self.now.rules }
     {
         &self.rules
+    }
+
+    /// The same for another owner, who may hold them after the release is let go. It takes no
+    /// memory; it returns `Memory` only where they have as many owners as can be counted.
+    pub fn shared_rules(&self) -> Result<Arc<Rules>, Memory>
+        ensures { IfOk result (λ rules. arc_value rules ≡ self.now.rules) }
+    {
+        let rules = Arc::try_clone(&self.rules)?;
+        Ok(rules)
     }
 
     // How many changes of records led to it.
@@ -132,10 +145,11 @@ impl Release {
         number: u32,
         changes: u32,
         edits: u32,
-        rules: Rules,
+        rules: Arc<Rules>,
     ) -> Result<Release, Memory>
-        requires { IsKept stock number changes edits rules }
-        ensures { IfOk result (λ release. release ≡ stocked stock number changes edits rules) }
+        requires { IsKept stock number changes edits (arc_value rules) }
+        ensures { IfOk result
+            (λ release. release ≡ stocked stock number changes edits (arc_value rules)) }
     {
         let filled = filled_places(alloc, &stock.pages)?;
         Ok(Release {

@@ -3,7 +3,6 @@ use Rattle.tb_base.specs.Records.{AllFit}
 use Rattle.tb_model.specs.Releases.{ReleaseValue}
 use Rattle.tb_release.specs.declared.limits.TheConstants.{MOST_EDITS, MOST_RELEASES, MOST_CHANGES}
 use Rattle.tb_release.specs.Releases.{IsSound}
-use Rattle.tb_release.specs.Drafts.{release_of}
 use Rattle.tb_release.specs.Results.{IsNext}
 use Rattle.tb_release.proofs.Runs.{fewer_changes, is_next, last_counts, next_follows, next_leads, next_fits, batch_fits, some_edits}
 use Rattle.tb_release.proofs.following.next.Goals as goal

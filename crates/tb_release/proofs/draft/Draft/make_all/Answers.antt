@@ -1,7 +1,6 @@
-use Rattle.std.proofs.Common.{arith, ◌≡◌, ◌<◌, ap, ◌∙◌, sym, drop, length, ◌+◌, ◌∷◌, subst}
+use Rattle.std.proofs.Common.{arith, ◌≡◌, ap, ◌∙◌, sym, drop, length, ◌+◌, ◌∷◌, subst}
 use Rattle.tb_base.specs.Records.{AllFit}
 use Rattle.tb_model.specs.Releases.{ReleaseValue}
-use Rattle.tb_release.specs.declared.limits.TheConstants.{MOST_EDITS}
 use Rattle.tb_release.specs.Edits.{edited_all}
 use Rattle.tb_release.specs.Possible.{first_refusal}
 use Rattle.tb_release.specs.Batches.{BatchValue, batch_length, batch_of}
