@@ -13,11 +13,11 @@
 //!
 //! Lemmas for the crates above: `proofs/CellLemmas` (how a cell changes with its records),
 //! `CellsBy` (the same of the cells of several groups), `KeyLemmas` (key ranges), `PartLemmas` (the
-//! two numbers of cells, and sums modulo a number), `TallyLemmas` (records that are put in by
-//! tallies of chunks), `PersonLemmas`, `WordLemmas` (the words taken from the front of a line),
-//! `OnlyAnswer` (what is returned for a text), `AllThere` and `Options` (values that may be
-//! missing), `Setting` (pvalues that are set and found) and `Texts` (texts that are compared). `ColumnLemmas` has what becomes of columns as
-//! their records change.
+//! two numbers of cells, and sums modulo a number), `TallyLemmas` (records put in by tallies of
+//! chunks), `PersonLemmas`, `WordLemmas` (words from the front of a line), `OnlyAnswer` (what is
+//! returned for a text), `AllThere` and `Options` (values that may be missing), `Setting` (pvalues
+//! that are set and found), `Texts` (texts that are compared) and `ColumnLemmas` (what becomes of
+//! columns as their records change).
 #![tactic(auto)]
 
 mod bytes;

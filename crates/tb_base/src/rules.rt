@@ -15,8 +15,8 @@ use std::marker::Model;
 /// The rules by which a release is shown: the threshold, below which no perturbed count is shown,
 /// and the pvalues that were set, each at a row and a cell key, in ascending order of these.
 ///
-/// They are seen as both. A row is 1 to `LAST_ROW`, a cell key is below `MOST_KEYS`, and a pvalue is
-/// `LEAST_PVALUE` to `MOST_PVALUE` and leaves no count negative.
+/// They are seen as both. A row is 1 to `LAST_ROW`, a cell key is below `MOST_KEYS`, and a pvalue
+/// is `LEAST_PVALUE` to `MOST_PVALUE` and leaves no count negative.
 #[derive(Drop)]
 pub struct Rules {
     threshold: u32,

@@ -1,30 +1,33 @@
 -- An edit that was read fits the classification.
 use Rattle.std.proofs.Common.{◌≡◌, ◌∙◌, sym, refl, subst, ℕ, zero, suc, ◌+◌, ◌==◌, ◌<◌, Bool, true, false, List, [], ◌∷◌, length, map, get_or, Option, Some, None, arith}
-use Rattle.std.specs.Prelude.{bytes_eq, if◌then◌else◌, is_none, nat_lt, option_and_then, slice_index, unwrap_or}
+use Rattle.std.specs.Prelude.{bytes_eq, if◌then◌else◌, is_none, nat_le, nat_lt, not, ◌||◌, option_and_then, slice_index, unwrap_or}
 use Rattle.std.specs.List.{AllByRecursion, list_any, range_with_len}
-use Rattle.std.proofs.lemmas.Bool.{ltb-true}
+use Rattle.std.proofs.lemmas.Bool.{leb-true, ltb-true}
 use Rattle.std.proofs.lemmas.Bool.Decides.{nat_tests}
 use Rattle.std.proofs.lemmas.List.{get_or-map, length-map}
 use Rattle.std.proofs.lemmas.List.FromFn.{length-range_with_len}
 use Rattle.std.proofs.lemmas.List.Quantifiers.{position-Some}
 use Rattle.tb_base.specs.Keys.{key_range}
 use Rattle.tb_base.specs.Lists.{all_some}
-use Rattle.tb_base.specs.Numbers.{number_of}
+use Rattle.tb_base.specs.Numbers.{number_of, signed_of}
 use Rattle.tb_base.specs.Records.{Fits}
 use Rattle.tb_base.specs.declared.keys.Keys.{Keys}
 use Rattle.tb_base.specs.declared.keys.TheConstants.{MOST_KEYS}
+use Rattle.tb_base.specs.declared.limits.TheConstants.{MOST_THRESHOLD}
 use Rattle.tb_base.proofs.AllThere.{first-some, length-all_some}
 use Rattle.tb_base.proofs.KeyLemmas.{key-most}
 use Rattle.tb_base.proofs.Options.{none_both}
+use Rattle.tb_base.proofs.Setting.{can_told}
 use Rattle.tb_model.specs.Schemas.{CategoryValue, SchemaValue, VariableValue, shape_of, variable_at}
+use Rattle.tb_records.specs.People.{key_of}
 use Rattle.tb_schema.specs.Names.{place_in}
 use Rattle.tb_release.specs.Laws.{EditFits}
 use Rattle.tb_revise.specs.declared.fault.EditTextFault.{EditTextFault}
 use Rattle.tb_revise.specs.declared.fault.EditTextFault.TheVariants as faults
 use Rattle.tb_revise.specs.Faults.{has_bad_number, has_unknown_name, has_unknown_code, misses_variable, settings_refusal, refusal}
-use Rattle.tb_revise.specs.Grammar.{NamedSetting, NamedEdit, NamedAdd, NamedDrop, NamedAmend}
+use Rattle.tb_revise.specs.Grammar.{NamedSetting, NamedEdit, NamedAdd, NamedDrop, NamedAmend, NamedPvalue, NamedThreshold}
 use Rattle.tb_revise.specs.Laws.{ReadEditsFit}
-use Rattle.tb_revise.specs.Meanings.{categories_named, categories_set, category_named, category_set, edit_meant, key_meant, person_meant, set_meant, sets_meant, variable_meant, variable_named}
+use Rattle.tb_revise.specs.Meanings.{categories_named, categories_set, category_named, category_set, edit_meant, key_meant, number_meant, person_meant, set_meant, sets_meant, signed_meant, variable_meant, variable_named}
 
 -- a setting's variable and category are below their bounds
 abbrev SetFits : List ℕ → ℕ × ℕ → Type 0
@@ -140,6 +143,12 @@ fits-add schema person key ss cs fits h =
       key = key-below schema.keys (number_of key);
     }
 
+-- where no test finds a fault, the last finds its condition met
+last-well : (tests met : Bool) → (tests || not met) ≡ false → met ≡ true
+last-well true met h = absurd (cc)
+last-well false true h = refl
+last-well false false h = absurd (cc)
+
 fits-meant : (schema : SchemaValue) (named : NamedEdit) → refusal schema named ≡ None → EditFits (shape_of schema) (edit_meant schema named)
 fits-meant schema (NamedAdd person key ss) h =
     let (numbers, rest) = none_of (has_bad_number schema.keys (NamedAdd person key ss)) faults.BadNumber _ h in
@@ -152,6 +161,13 @@ fits-meant schema (NamedAmend person ss) h =
     let (numbers, rest) = none_of (has_bad_number schema.keys (NamedAmend person ss)) faults.BadNumber _ h in
     let (known, all) = none_both (settings_refusal schema ss) _ rest in
     known-fit schema ss known
+fits-meant schema (NamedPvalue row key pvalue) h =
+    let (numbers, _) = none_of (has_bad_number schema.keys (NamedPvalue row key pvalue)) faults.BadNumber _ h in
+    can_told (number_meant row) (key_meant schema.keys key) (signed_meant pvalue)
+    (last-well (is_none (number_of row) || is_none (key_of schema.keys key) || is_none (signed_of pvalue)) _ numbers)
+fits-meant schema (NamedThreshold value) h =
+    let (numbers, _) = none_of (has_bad_number schema.keys (NamedThreshold value)) faults.BadNumber _ h in
+    leb-true (number_meant value) MOST_THRESHOLD (last-well (is_none (number_of value)) _ numbers)
 
 pub read_edits_fit : ReadEditsFit
 read_edits_fit schema line edit h = subst (EditFits (shape_of schema)) h.means (fits-meant schema h.named h.no_fault)

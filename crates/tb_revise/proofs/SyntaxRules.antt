@@ -6,7 +6,7 @@ use Rattle.std.specs.Option.{option_map}
 use Rattle.std.proofs.lemmas.Bool.Decides.{nat_tests}
 use Rattle.tb_revise.specs.Grammar.{NamedSetting, NamedEdit, NamedAdd, NamedAmend, IsEdit, is_equals}
 use Rattle.tb_revise.specs.Laws.{SyntaxByRules, has_syntax_fault, lacks_equals, lacks_words}
-use Rattle.tb_revise.specs.Reading.{read_setting, read_settings, read_add, read_drop, read_amend, read_words}
+use Rattle.tb_revise.specs.Reading.{read_setting, read_settings, read_add, read_drop, read_amend, read_pvalue, read_threshold, read_words}
 use Rattle.tb_revise.proofs.Spelled.{is-edit, no-edit}
 
 none-mapped : {A B : Type 0} (f : A → B) (o : Option A) → is_none (option_map f o) ≡ is_none o
@@ -62,18 +62,37 @@ no-amend [] = refl
 no-amend (person ∷ []) = refl
 no-amend (person ∷ word ∷ words) = rw (enough (length words)) (none-mapped (NamedAmend person) (read_settings (word ∷ words)) ∙ no-settings (word ∷ words))
 
-rules-of : (first : List ℕ) (words : List (List ℕ)) (a d m : Bool) → bytes_eq first (codes "add") ≡ a → bytes_eq first (codes "drop") ≡ d → bytes_eq first (codes "amend") ≡ m
-    → is_none (read_words (first ∷ words)) ≡ has_syntax_fault (first ∷ words)
+not-three : (n : ℕ) → not (suc (suc (suc (suc n))) == 3) ≡ true
+not-three n = grind (arith, nat_tests)
+
+no-pvalue : (words : List (List ℕ)) → is_none (read_pvalue words) ≡ not (length words == 3)
+unfolding read_pvalue
+no-pvalue [] = refl
+no-pvalue (row ∷ []) = refl
+no-pvalue (row ∷ key ∷ []) = refl
+no-pvalue (row ∷ key ∷ pvalue ∷ []) = refl
+no-pvalue (row ∷ key ∷ pvalue ∷ word ∷ words) = sym (not-three (length words))
+
+no-threshold : (words : List (List ℕ)) → is_none (read_threshold words) ≡ not (length words == 1)
+unfolding read_threshold
+no-threshold [] = refl
+no-threshold (value ∷ []) = refl
+no-threshold (value ∷ word ∷ words) = sym (not-one (length words))
+
+rules-of : (first : List ℕ) (words : List (List ℕ)) (a d m p t : Bool) → bytes_eq first (codes "add") ≡ a → bytes_eq first (codes "drop") ≡ d → bytes_eq first (codes "amend") ≡ m
+    → bytes_eq first (codes "pvalue") ≡ p → bytes_eq first (codes "threshold") ≡ t → is_none (read_words (first ∷ words)) ≡ has_syntax_fault (first ∷ words)
 unfolding read_words
-rules-of first words true d m ea ed em = rw ea (no-add words)
-rules-of first words false true m ea ed em = rw (ea, ed) (no-drop words)
-rules-of first words false false true ea ed em = rw (ea, ed, em) (no-amend words)
-rules-of first words false false false ea ed em = rw (ea, ed, em) refl
+rules-of first words true d m p t ea ed em ep et = rw ea (no-add words)
+rules-of first words false true m p t ea ed em ep et = rw (ea, ed) (no-drop words)
+rules-of first words false false true p t ea ed em ep et = rw (ea, ed, em) (no-amend words)
+rules-of first words false false false true t ea ed em ep et = rw (ea, ed, em, ep) (no-pvalue words)
+rules-of first words false false false false true ea ed em ep et = rw (ea, ed, em, ep, et) (no-threshold words)
+rules-of first words false false false false false ea ed em ep et = rw (ea, ed, em, ep, et) refl
 
 rules : (words : List (List ℕ)) → is_none (read_words words) ≡ has_syntax_fault words
 unfolding read_words
 rules [] = refl
-rules (first ∷ words) = rules-of first words (bytes_eq first (codes "add")) (bytes_eq first (codes "drop")) (bytes_eq first (codes "amend")) refl refl refl
+rules (first ∷ words) = rules-of first words (bytes_eq first (codes "add")) (bytes_eq first (codes "drop")) (bytes_eq first (codes "amend")) (bytes_eq first (codes "pvalue")) (bytes_eq first (codes "threshold")) refl refl refl refl refl
 
 none-read : (words : List (List ℕ)) (o : Option NamedEdit) → read_words words ≡ o → ((e : NamedEdit) → ¬ IsEdit words e) → is_none (read_words words) ≡ true
 none-read words None e none = rw e refl

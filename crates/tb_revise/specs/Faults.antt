@@ -1,25 +1,35 @@
 -- The faults of an edit line, in their order, and what a line reads as.
-use Rattle.std.specs.Prelude.{◌≡◌, ◌||◌, ℕ, Bool, false, if◌then◌else◌, List, [], ◌∷◌}
-use Rattle.std.specs.Prelude.{Option, Some, None, is_none}
+use Rattle.std.specs.Prelude.{◌≡◌, ◌||◌, ℕ, Bool, false, not, if◌then◌else◌, List, [], ◌∷◌}
+use Rattle.std.specs.Prelude.{Option, Some, None, is_none, nat_le}
 use Rattle.std.specs.List.{list_any}
 use Rattle.std.specs.Option.{is_some, option_or}
+use Rattle.tb_base.specs.Numbers.{number_of, signed_of}
+use Rattle.tb_base.specs.Rules.{can_be_set}
 use Rattle.tb_base.specs.declared.keys.Keys.{Keys}
+use Rattle.tb_base.specs.declared.limits.TheConstants.{MOST_THRESHOLD}
 use Rattle.tb_model.specs.Schemas.{SchemaValue}
 use Rattle.tb_records.specs.People.{key_of, person_of}
 use Rattle.tb_release.specs.declared.edits.Edit.{Edit}
 use Rattle.tb_revise.specs.declared.fault.EditTextFault.{EditTextFault}
 use Rattle.tb_revise.specs.declared.fault.EditTextFault.TheVariants as faults
 use Rattle.tb_revise.specs.Grammar.{NamedSetting, NamedEdit, NamedAdd, NamedDrop, NamedAmend}
-use Rattle.tb_revise.specs.Grammar.{Spells, settings_of}
+use Rattle.tb_revise.specs.Grammar.{NamedPvalue, NamedThreshold, Spells, settings_of}
 use Rattle.tb_revise.specs.Meanings.{categories_named, category_named, category_set, edit_meant}
-use Rattle.tb_revise.specs.Meanings.{sets_meant, variable_named}
+use Rattle.tb_revise.specs.Meanings.{key_meant, number_meant, sets_meant, signed_meant}
+use Rattle.tb_revise.specs.Meanings.{variable_named}
 
--- whether the person is no number from 1 on, or the key no number below the key range
+-- whether a number is bad: a person is none from 1 on, a key is none below the key range, a row or
+-- a pvalue is none, or no such pvalue may be set there, or a threshold is none up to the greatest
 abbrev pub has_bad_number : Keys → NamedEdit → Bool
 has_bad_number keys (NamedAdd person key settings) =
     is_none (person_of person) || is_none (key_of keys key)
 has_bad_number keys (NamedDrop person) = is_none (person_of person)
 has_bad_number keys (NamedAmend person settings) = is_none (person_of person)
+has_bad_number keys (NamedPvalue row key pvalue) =
+    is_none (number_of row) || is_none (key_of keys key) || is_none (signed_of pvalue)
+    || not (can_be_set (number_meant row) (key_meant keys key) (signed_meant pvalue))
+has_bad_number keys (NamedThreshold value) =
+    is_none (number_of value) || not (nat_le (number_meant value) MOST_THRESHOLD)
 
 -- whether a setting's name is no variable
 abbrev pub has_unknown_name : SchemaValue → List NamedSetting → Bool
@@ -40,6 +50,8 @@ misses_variable schema (NamedAdd person key settings) =
     is_none (categories_named schema settings)
 misses_variable schema (NamedDrop person) = false
 misses_variable schema (NamedAmend person settings) = false
+misses_variable schema (NamedPvalue row key pvalue) = false
+misses_variable schema (NamedThreshold value) = false
 
 -- the first fault of settings by themselves
 abbrev pub settings_refusal : SchemaValue → List NamedSetting → Option EditTextFault

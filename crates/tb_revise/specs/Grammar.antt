@@ -3,6 +3,8 @@
 --   add PERSON KEY VAR=CODE ..
 --   amend PERSON VAR=CODE ..
 --   drop PERSON
+--   pvalue PCV CKEY P
+--   threshold T
 -- An amend has a setting or more, and an add may have none: whether it sets every variable is asked
 -- of what it means.
 use Rattle.std.specs.Prelude.{◌≡◌, ◌==◌, ◌||◌, ℕ, Bool, true, false, List, [], ◌∷◌, ◌++◌, map}
@@ -16,16 +18,21 @@ pub record NamedSetting : Type 0 where
   pub name : List ℕ
   pub code : List ℕ
 
--- an edit by the words of its person, its key and its settings
+-- an edit by its words: those of its person, its key and its settings, or of what it sets of the
+-- rules
 pub data NamedEdit : Type 0 where
   NamedAdd : (person key : List ℕ) (settings : List NamedSetting) → NamedEdit
   NamedDrop : (person : List ℕ) → NamedEdit
   NamedAmend : (person : List ℕ) (settings : List NamedSetting) → NamedEdit
+  NamedPvalue : (row key pvalue : List ℕ) → NamedEdit
+  NamedThreshold : (value : List ℕ) → NamedEdit
 
 abbrev pub settings_of : NamedEdit → List NamedSetting
 settings_of (NamedAdd person key settings) = settings
 settings_of (NamedDrop person) = []
 settings_of (NamedAmend person settings) = settings
+settings_of (NamedPvalue row key pvalue) = []
+settings_of (NamedThreshold value) = []
 
 -- VAR=CODE; the byte between is `=`
 abbrev pub setting_word : NamedSetting → List ℕ
@@ -37,12 +44,15 @@ edit_words (NamedAdd person key settings) =
     codes "add" ∷ person ∷ key ∷ map setting_word settings
 edit_words (NamedDrop person) = codes "drop" ∷ person ∷ []
 edit_words (NamedAmend person settings) = codes "amend" ∷ person ∷ map setting_word settings
+edit_words (NamedPvalue row key pvalue) = codes "pvalue" ∷ row ∷ key ∷ pvalue ∷ []
+edit_words (NamedThreshold value) = codes "threshold" ∷ value ∷ []
 
 -- whether a word is one with which an edit begins
 abbrev pub begins_edit : List ℕ → Bool
 begins_edit word =
     bytes_eq word (codes "add") || bytes_eq word (codes "drop")
-    || bytes_eq word (codes "amend")
+    || bytes_eq word (codes "amend") || bytes_eq word (codes "pvalue")
+    || bytes_eq word (codes "threshold")
 
 -- a name ends at the first `=` of its setting
 abbrev pub is_equals : ℕ → Bool
@@ -61,6 +71,8 @@ abbrev pub HasEnough : NamedEdit → Type 0
 HasEnough (NamedAdd person key settings) = Unit {0}
 HasEnough (NamedDrop person) = Unit {0}
 HasEnough (NamedAmend person settings) = HasSome settings
+HasEnough (NamedPvalue row key pvalue) = Unit {0}
+HasEnough (NamedThreshold value) = Unit {0}
 
 -- the words of a line are this edit
 pub record IsEdit (words : List (List ℕ)) (edit : NamedEdit) : Type 0 where

@@ -30,6 +30,8 @@ has_syntax_fault (first ∷ words) =
     if bytes_eq first (codes "add") then lacks_words 2 words
     else if bytes_eq first (codes "drop") then not (length words == 1)
     else if bytes_eq first (codes "amend") then lacks_words 1 words
+    else if bytes_eq first (codes "pvalue") then not (length words == 3)
+    else if bytes_eq first (codes "threshold") then not (length words == 1)
     else true
 
 -- words are no edit exactly where a rule of the syntax is broken
@@ -44,7 +46,7 @@ OneAnswer =
     (schema : SchemaValue) (line : List ℕ)
     → HasOneAnswer faults.Memory (Reads schema line) (IsRefused schema line)
 
--- an edit that a line reads as fits the classification's shape
+-- an edit that a line reads as fits the classification's shape, or is one of the rules in range
 abbrev pub ReadEditsFit : Type 0
 ReadEditsFit =
     (schema : SchemaValue) (line : List ℕ) (edit : Edit)

@@ -1,16 +1,18 @@
 -- What the words of an edit stand for over a schema.
-use Rattle.std.specs.Prelude.{ℕ, ◌==◌, List, [], Option, find, length, map, unwrap_or}
+use Rattle.std.specs.Prelude.{ℕ, ℤ, pos, ◌==◌, List, [], Option, find, length, map, unwrap_or}
 use Rattle.std.specs.List.{range_with_len}
 use Rattle.std.specs.Option.{option_map}
 use Rattle.tb_base.specs.Lists.{all_some}
+use Rattle.tb_base.specs.Numbers.{number_of, signed_of}
 use Rattle.tb_base.specs.declared.keys.Keys.{Keys}
 use Rattle.tb_model.specs.declared.names.NameOf.TheVariants as name_of
 use Rattle.tb_model.specs.Schemas.{SchemaValue}
 use Rattle.tb_records.specs.People.{key_of, person_of}
 use Rattle.tb_release.specs.declared.edits.Edit.{Edit}
-use Rattle.tb_release.specs.declared.edits.Edit.TheVariants.{Add, Drop, Amend}
+use Rattle.tb_release.specs.declared.edits.Edit.TheVariants.{Add, Drop, Amend, Pvalue, Threshold}
 use Rattle.tb_schema.specs.Names.{code_in, place_in, variable_names}
 use Rattle.tb_revise.specs.Grammar.{NamedSetting, NamedEdit, NamedAdd, NamedDrop, NamedAmend}
+use Rattle.tb_revise.specs.Grammar.{NamedPvalue, NamedThreshold}
 
 -- the variable that a setting names, if there is one
 unfoldable pub variable_named : SchemaValue → NamedSetting → Option ℕ
@@ -51,6 +53,13 @@ person_meant word = unwrap_or (person_of word) 0
 abbrev pub key_meant : Keys → List ℕ → ℕ
 key_meant keys word = unwrap_or (key_of keys word) 0
 
+-- a number and a signed number, where the words are such numbers
+abbrev pub number_meant : List ℕ → ℕ
+number_meant word = unwrap_or (number_of word) 0
+
+abbrev pub signed_meant : List ℕ → ℤ
+signed_meant word = unwrap_or (signed_of word) (pos 0)
+
 -- the edit that the words stand for, where they have no fault
 abbrev pub edit_meant : SchemaValue → NamedEdit → Edit
 edit_meant schema (NamedAdd person key settings) =
@@ -59,3 +68,6 @@ edit_meant schema (NamedAdd person key settings) =
 edit_meant schema (NamedDrop person) = Drop (person_meant person)
 edit_meant schema (NamedAmend person settings) =
     Amend (person_meant person) (sets_meant schema settings)
+edit_meant schema (NamedPvalue row key pvalue) =
+    Pvalue (number_meant row) (key_meant schema.keys key) (signed_meant pvalue)
+edit_meant schema (NamedThreshold value) = Threshold (number_meant value)

@@ -6,7 +6,7 @@ use Rattle.tb_base.specs.Lists.{all_some}
 use Rattle.tb_revise.specs.declared.fault.EditTextFault.{EditTextFault}
 use Rattle.tb_revise.specs.declared.fault.EditTextFault.TheVariants as faults
 use Rattle.tb_revise.specs.Grammar.{NamedSetting, NamedEdit, NamedAdd, NamedDrop, NamedAmend}
-use Rattle.tb_revise.specs.Grammar.{IsEdit, is_equals}
+use Rattle.tb_revise.specs.Grammar.{NamedPvalue, NamedThreshold, IsEdit, is_equals}
 
 -- a word as a setting, if it has an `=`
 unfoldable pub read_setting : List ℕ → Option NamedSetting
@@ -36,6 +36,20 @@ read_amend (person ∷ []) = None
 read_amend (person ∷ word ∷ words) =
     option_map (NamedAmend person) (read_settings (word ∷ words))
 
+-- the words after `pvalue`
+unfoldable pub read_pvalue : List (List ℕ) → Option NamedEdit
+read_pvalue [] = None
+read_pvalue (row ∷ []) = None
+read_pvalue (row ∷ key ∷ []) = None
+read_pvalue (row ∷ key ∷ pvalue ∷ []) = Some (NamedPvalue row key pvalue)
+read_pvalue (row ∷ key ∷ pvalue ∷ word ∷ words) = None
+
+-- the words after `threshold`
+unfoldable pub read_threshold : List (List ℕ) → Option NamedEdit
+read_threshold [] = None
+read_threshold (value ∷ []) = Some (NamedThreshold value)
+read_threshold (value ∷ word ∷ words) = None
+
 -- all words of a line
 unfoldable pub read_words : List (List ℕ) → Option NamedEdit
 read_words [] = None
@@ -43,6 +57,8 @@ read_words (first ∷ words) =
     if bytes_eq first (codes "add") then read_add words
     else if bytes_eq first (codes "drop") then read_drop words
     else if bytes_eq first (codes "amend") then read_amend words
+    else if bytes_eq first (codes "pvalue") then read_pvalue words
+    else if bytes_eq first (codes "threshold") then read_threshold words
     else None
 
 -- why nothing was read, unless for want of memory

@@ -20,7 +20,7 @@ pub fn one_answer()
 {}
 
 /// An edit that a line reads as sets variables of the schema to categories of theirs, and an add
-/// has one of each variable and a key in range.
+/// has one of each variable and a key in range; what one sets of the rules is in range.
 pub fn read_edits_fit()
     ensures { ReadEditsFit }
 {}

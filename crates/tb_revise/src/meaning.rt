@@ -4,7 +4,8 @@ ghost use Rattle.std.specs.Prelude.{◌≡◌, ◌<◌, IfErr, IfOk, IfSome, Non
 ghost use Rattle.std.specs.Prelude.{is_none, length};
 ghost use Rattle.tb_revise.specs.Faults.{RefusesBy, fault_if, has_unknown_name, refusal};
 ghost use Rattle.tb_revise.specs.Faults.{sets_twice, settings_refusal};
-ghost use Rattle.tb_revise.specs.Grammar.{NamedAdd, NamedAmend, NamedDrop};
+ghost use Rattle.tb_revise.specs.Grammar.{NamedAdd, NamedAmend, NamedDrop, NamedPvalue};
+ghost use Rattle.tb_revise.specs.Grammar.{NamedThreshold};
 ghost use Rattle.tb_revise.specs.Meanings.{categories_set, category_named, category_set};
 ghost use Rattle.tb_revise.specs.Meanings.{edit_meant, sets_meant, variable_named};
 ghost use Rattle.tb_revise.specs.Views.{edit_view, setting_view, setting_views};
@@ -12,7 +13,7 @@ ghost use Rattle.tb_revise.specs.Views.{edit_view, setting_view, setting_views};
 use crate::fault::EditTextFault;
 use crate::parse::{EditWords, Setting};
 use std::alloc::Global;
-use tb_base::Codes;
+use tb_base::{Codes, MOST_THRESHOLD, may_be_set, read_number, read_signed};
 use tb_records::{read_key, read_person};
 use tb_release::{Edit, Sets};
 use tb_schema::{NameOf, Schema};
@@ -201,6 +202,48 @@ fn amend_meant(
     Ok(Edit::Amend { person, sets })
 }
 
+// The setting of a pvalue by these words.
+fn pvalue_meant(
+    schema: &Schema,
+    row: &[u8],
+    key: &[u8],
+    pvalue: &[u8],
+) -> Result<Edit, EditTextFault>
+    ensures meant { IfOk result (λ e. e
+        ≡ edit_meant schema.now (NamedPvalue row.now key.now pvalue.now)) }
+    ensures no_fault { IfOk result (λ _.
+        refusal schema.now (NamedPvalue row.now key.now pvalue.now) ≡ None) }
+    ensures refused { IfErr result (λ e. RefusesBy e
+        (refusal schema.now (NamedPvalue row.now key.now pvalue.now))) }
+{
+    let row = read_number(row);
+    let key = read_key(schema.keys(), key);
+    let pvalue = read_signed(pvalue);
+    let (Some(row), Some(key), Some(pvalue)) = (row, key, pvalue) else {
+        return Err(EditTextFault::BadNumber);
+    };
+    let (Ok(row), Ok(pvalue)) = (u16::try_from(row), i16::try_from(pvalue)) else {
+        return Err(EditTextFault::BadNumber);
+    };
+    if !may_be_set(row, key, pvalue) {
+        return Err(EditTextFault::BadNumber);
+    }
+    Ok(Edit::Pvalue { row, key, pvalue })
+}
+
+// The setting of a threshold by this word.
+fn threshold_meant(schema: &Schema, value: &[u8]) -> Result<Edit, EditTextFault>
+    ensures meant { IfOk result (λ e. e ≡ edit_meant schema.now (NamedThreshold value.now)) }
+    ensures no_fault { IfOk result (λ _. refusal schema.now (NamedThreshold value.now) ≡ None) }
+    ensures refused { IfErr result (λ e. RefusesBy e
+        (refusal schema.now (NamedThreshold value.now))) }
+{
+    match read_number(value) {
+        Some(value) if value <= MOST_THRESHOLD => Ok(Edit::Threshold { value }),
+        _ => Err(EditTextFault::BadNumber),
+    }
+}
+
 /// The edit that the words stand for, or the first fault of what they stand for.
 pub fn edit_meant(alloc: Global, schema: &Schema, edit: &EditWords) -> Result<Edit, EditTextFault>
     ensures meant { IfOk result (λ e. e ≡ edit_meant schema.now (edit_view edit.now)) }
@@ -215,5 +258,7 @@ pub fn edit_meant(alloc: Global, schema: &Schema, edit: &EditWords) -> Result<Ed
         } => add_meant(alloc, schema, person, key, settings),
         EditWords::Drop { person } => drop_meant(schema, person),
         EditWords::Amend { person, settings } => amend_meant(alloc, schema, person, settings),
+        EditWords::Pvalue { row, key, pvalue } => pvalue_meant(schema, row, key, pvalue),
+        EditWords::Threshold { value } => threshold_meant(schema, value),
     }
 }

@@ -5,18 +5,24 @@ ghost use Rattle.std.specs.Prelude.{length, position};
 ghost use Rattle.tb_base.specs.Words.{words_of};
 ghost use Rattle.tb_revise.specs.Grammar.{IsEdit, begins_edit, is_equals};
 ghost use Rattle.tb_revise.specs.Reading.{ParsesNone, StopsBy, read_add, read_amend, read_drop};
-ghost use Rattle.tb_revise.specs.Reading.{read_setting, read_settings, read_words};
+ghost use Rattle.tb_revise.specs.Reading.{read_pvalue, read_setting, read_settings};
+ghost use Rattle.tb_revise.specs.Reading.{read_threshold, read_words};
 ghost use Rattle.tb_revise.specs.Views.{edit_view, setting_view, setting_views};
 
 use crate::fault::EditTextFault;
 use std::alloc::Global;
 use tb_base::first_word;
 
-/// Whether a word is one with which an edit begins: `add`, `drop` or `amend`.
+/// Whether a word is one with which an edit begins: `add`, `drop`, `amend`, `pvalue` or
+/// `threshold`.
 pub fn begins_edit(word: &[u8]) -> bool
     ensures { result ≡ begins_edit word.now }
 {
-    word == b"add".as_slice() || word == b"drop".as_slice() || word == b"amend".as_slice()
+    word == b"add".as_slice()
+        || word == b"drop".as_slice()
+        || word == b"amend".as_slice()
+        || word == b"pvalue".as_slice()
+        || word == b"threshold".as_slice()
 }
 
 /// A setting, by the text of its variable's name and of its code.
@@ -26,7 +32,8 @@ pub struct Setting<'a> {
     pub code: &'a [u8],
 }
 
-/// An edit, by the words of its person, its key and its settings.
+/// An edit, by its words: those of its person, its key and its settings, or of what it sets of the
+/// rules.
 #[derive(Drop)]
 pub enum EditWords<'a> {
     Add {
@@ -40,6 +47,14 @@ pub enum EditWords<'a> {
     Amend {
         person: &'a [u8],
         settings: Vec<Setting<'a>>,
+    },
+    Pvalue {
+        row: &'a [u8],
+        key: &'a [u8],
+        pvalue: &'a [u8],
+    },
+    Threshold {
+        value: &'a [u8],
     },
 }
 
@@ -138,6 +153,44 @@ fn amend<'a>(alloc: Global, text: &'a [u8]) -> Result<EditWords<'a>, EditTextFau
     Ok(EditWords::Amend { person, settings })
 }
 
+// What follows `pvalue`.
+#[tactic(auto, unfolding(crate::specs::Reading::read_pvalue))]
+fn pvalue<'a>(text: &'a [u8]) -> Result<EditWords<'a>, EditTextFault>
+    ensures { MatchResult result
+        (λ e. read_pvalue (words_of text.now) ≡ Some (edit_view e))
+        (StopsBy (read_pvalue (words_of text.now))) }
+{
+    let Some((row, rest)) = first_word(text) else {
+        return Err(EditTextFault::Syntax);
+    };
+    let Some((key, rest)) = first_word(rest) else {
+        return Err(EditTextFault::Syntax);
+    };
+    let Some((pvalue, rest)) = first_word(rest) else {
+        return Err(EditTextFault::Syntax);
+    };
+    match first_word(rest) {
+        Some(_) => Err(EditTextFault::Syntax),
+        None => Ok(EditWords::Pvalue { row, key, pvalue }),
+    }
+}
+
+// What follows `threshold`.
+#[tactic(auto, unfolding(crate::specs::Reading::read_threshold))]
+fn threshold<'a>(text: &'a [u8]) -> Result<EditWords<'a>, EditTextFault>
+    ensures { MatchResult result
+        (λ e. read_threshold (words_of text.now) ≡ Some (edit_view e))
+        (StopsBy (read_threshold (words_of text.now))) }
+{
+    let Some((value, rest)) = first_word(text) else {
+        return Err(EditTextFault::Syntax);
+    };
+    match first_word(rest) {
+        Some(_) => Err(EditTextFault::Syntax),
+        None => Ok(EditWords::Threshold { value }),
+    }
+}
+
 // The whole edit.
 #[tactic(auto, unfolding(crate::specs::Reading::read_words))]
 fn edit<'a>(alloc: Global, line: &'a [u8]) -> Result<EditWords<'a>, EditTextFault>
@@ -154,6 +207,10 @@ fn edit<'a>(alloc: Global, line: &'a [u8]) -> Result<EditWords<'a>, EditTextFaul
         drop(rest)
     } else if word == b"amend".as_slice() {
         amend(alloc, rest)
+    } else if word == b"pvalue".as_slice() {
+        pvalue(rest)
+    } else if word == b"threshold".as_slice() {
+        threshold(rest)
     } else {
         Err(EditTextFault::Syntax)
     }

@@ -30,19 +30,24 @@ fn read(alloc: Global, schema: &Schema, line: &[u8]) -> Result<Edit, EditTextFau
 ///
 /// - `add PERSON KEY VAR=CODE ..` sets every variable once, in any order,
 /// - `amend PERSON VAR=CODE ..` sets one or more, each once,
-/// - `drop PERSON` has no further word.
+/// - `drop PERSON` has no further word,
+/// - `pvalue PCV CKEY P` sets the pvalue at a row and a cell key,
+/// - `threshold T` sets the threshold.
 ///
 /// Words are separated by spaces and tabs, which may also stand before and after them. PERSON is a
-/// number from 1 to `u32::MAX`, KEY one below the schema's key range, VAR the name of a variable
-/// and CODE one of its codes, compared as bytes. Whether the edit is possible on a release isn't
-/// asked here. It takes memory for the line's settings and for the edit.
+/// number from 1 to `u32::MAX`, KEY and CKEY one below the schema's key range, PCV one from 1 to
+/// `LAST_ROW`, P one from `LEAST_PVALUE` to `MOST_PVALUE` that with PCV isn't negative, T one up to
+/// `MOST_THRESHOLD`, VAR the name of a variable and CODE one of its codes, compared as bytes.
+/// Whether the edit is possible on a release isn't asked here. It takes memory for the line's
+/// settings and for the edit.
 pub fn read_edit(alloc: Global, schema: &Schema, line: &[u8]) -> Result<Edit, EditTextFault>
     // The line reads as the edit that is returned.
     ensures read { IfOk result (Reads schema.now line.now) }
     // Where it reads as an edit, that is returned, or the run is out of memory.
     ensures only { (edit : EditValue) → Reads schema.now line.now edit
         → MatchResult result (λ e. e ≡ edit) (λ f. f ≡ EditTextFault.Memory) }
-    // Its variables and categories are those of the schema, and an add has one of each.
+    // Its variables and categories are those of the schema, and an add has one of each; what it
+    // sets of the rules is in range.
     ensures fits { IfOk result (EditFits (shape_of schema.now)) }
     // A refusal is the line's first fault. Memory can run out at any line.
     ensures refused { IfErr result (IsRefused schema.now line.now) }
