@@ -18,13 +18,13 @@ abbrev cell_at : SetupValue → ReleaseValue → QueryValue → Place → Cell
 cell_at setup release query place = cell_of (own_records setup.schema query place release.records)
 
 line_of_world : (setup : SetupValue) (release : ReleaseValue) (query : QueryValue) (place : Place)
-    → place_text setup.schema (pvalues_of setup release) (threshold_of setup release) query place (cell_at setup release query place) ≡ world_line setup release query place
+    → place_text setup.schema (pvalues_of setup release) (threshold_of release) query place (cell_at setup release query place) ≡ world_line setup release query place
 line_of_world setup release query place =
-    sym (one_line setup.schema (pvalues_of setup release) (threshold_of setup release) query place (cell_at setup release query place))
+    sym (one_line setup.schema (pvalues_of setup release) (threshold_of release) query place (cell_at setup release query place))
     ∙ sym (append_assoc (entries_text setup.schema query place) (text_at (world_at setup release query place)) (10 ∷ []))
 
 lines_of_worlds : (setup : SetupValue) (release : ReleaseValue) (query : QueryValue) (places : List Place)
-    → flat_map (λ p. place_text setup.schema (pvalues_of setup release) (threshold_of setup release) query p.0 p.1) (zip places (map (cell_at setup release query) places))
+    → flat_map (λ p. place_text setup.schema (pvalues_of setup release) (threshold_of release) query p.0 p.1) (zip places (map (cell_at setup release query) places))
     ≡ flat_map (world_line setup release query) places
 lines_of_worlds setup release query [] = refl
 lines_of_worlds setup release query (place ∷ places) =

@@ -14,7 +14,7 @@ use crate::bytes::{Bytes, WIDTH, put, put_end};
 use crate::cut::Cut;
 use crate::fields::EntryFields;
 use crate::setup::Setup;
-use tb_base::Cell;
+use tb_base::{Cell, Rules};
 use tb_io::{Sink, Wrote, write_all};
 use tb_model::Shown;
 
@@ -121,6 +121,7 @@ fn add_cell<K: Sink>(
     waiting: &mut Bytes,
     sink: &mut K,
     setup: &Setup,
+    rules: &Rules,
     begin: &[u8],
     len: usize,
     fields: &EntryFields,
@@ -133,13 +134,13 @@ fn add_cell<K: Sink>(
     ensures on { OnOk result (IsOn (K.faults sink.old) (K.faults sink.new) (K.taken sink.old)
         (K.taken sink.new) waiting.new (waiting.old
         ++ ((take len begin.now ++ slice_index_or fields.now i [])
-        ++ end_of (pvalues_in setup.now) setup.now.threshold cell))) }
+        ++ end_of (pvalues_in setup.now rules.now) rules.now.threshold cell))) }
     ensures cut { OnErr result (IsCut (K.faults sink.old) (K.faults sink.new)
         (K.taken sink.old) (K.taken sink.new) (waiting.old
         ++ ((take len begin.now ++ slice_index_or fields.now i [])
-        ++ end_of (pvalues_in setup.now) setup.now.threshold cell))) }
+        ++ end_of (pvalues_in setup.now rules.now) rules.now.threshold cell))) }
 {
-    let shown = setup.shown(cell);
+    let shown = setup.shown(rules, cell);
     let field_len = fields.field_len(i);
     let field = fields.wide_field(i);
     add_line(waiting, sink, begin, len, field, field_len, shown)
@@ -150,6 +151,7 @@ fn add_row<K: Sink>(
     waiting: &mut Bytes,
     sink: &mut K,
     setup: &Setup,
+    rules: &Rules,
     begin: &[u8],
     len: usize,
     fields: &EntryFields,
@@ -159,15 +161,15 @@ fn add_row<K: Sink>(
     requires room { len + 16 ≤ length begin.now }
     ensures on { OnOk result (IsOn (K.faults sink.old) (K.faults sink.new) (K.taken sink.old)
         (K.taken sink.new) waiting.new (waiting.old
-        ++ lines_under (end_of (pvalues_in setup.now) setup.now.threshold)
+        ++ lines_under (end_of (pvalues_in setup.now rules.now) rules.now.threshold)
         (take len begin.now) (fields.now ∷ []) cells.now)) }
     ensures cut { OnErr result (IsCut (K.faults sink.old) (K.faults sink.new)
         (K.taken sink.old) (K.taken sink.new) (waiting.old
-        ++ lines_under (end_of (pvalues_in setup.now) setup.now.threshold)
+        ++ lines_under (end_of (pvalues_in setup.now rules.now) rules.now.threshold)
         (take len begin.now) (fields.now ∷ []) cells.now)) }
 {
     for i in 0..fields.len().min(cells.len()) {
-        add_cell(waiting, sink, setup, begin, len, fields, i, cells[i])?;
+        add_cell(waiting, sink, setup, rules, begin, len, fields, i, cells[i])?;
     }
     Ok(())
 }
@@ -177,6 +179,7 @@ fn add_alone<K: Sink>(
     waiting: &mut Bytes,
     sink: &mut K,
     setup: &Setup,
+    rules: &Rules,
     begin: &[u8],
     len: usize,
     cells: &[Cell],
@@ -187,11 +190,11 @@ fn add_alone<K: Sink>(
     requires room { len + 16 ≤ length begin.now }
     ensures on { OnOk result (IsOn (K.faults sink.old) (K.faults sink.new) (K.taken sink.old)
         (K.taken sink.new) waiting.new (waiting.old
-        ++ lines_under (end_of (pvalues_in setup.now) setup.now.threshold)
+        ++ lines_under (end_of (pvalues_in setup.now rules.now) rules.now.threshold)
         (take len begin.now) [] (drop at cells.now))) }
     ensures cut { OnErr result (IsCut (K.faults sink.old) (K.faults sink.new)
         (K.taken sink.old) (K.taken sink.new) (waiting.old
-        ++ lines_under (end_of (pvalues_in setup.now) setup.now.threshold)
+        ++ lines_under (end_of (pvalues_in setup.now rules.now) rules.now.threshold)
         (take len begin.now) [] (drop at cells.now))) }
     ensures within { IfOk result (λ next. next ≤ length cells.now) }
     ensures next { IfOk result (λ next. drop next cells.now ≡ drop 1 (drop at cells.now)) }
@@ -199,7 +202,7 @@ fn add_alone<K: Sink>(
     if at == cells.len() {
         return Ok(at);
     }
-    let shown = setup.shown(cells[at]);
+    let shown = setup.shown(rules, cells[at]);
     add_line(waiting, sink, begin, len, begin, 0, shown)?;
     Ok(at + 1)
 }
@@ -212,6 +215,7 @@ pub(crate) fn add_lines<K: Sink>(
     waiting: &mut Bytes,
     sink: &mut K,
     setup: &Setup,
+    rules: &Rules,
     begin: &mut [u8],
     len: usize,
     dimensions: &[EntryFields],
@@ -223,11 +227,11 @@ pub(crate) fn add_lines<K: Sink>(
     requires room { HasRoom len (length begin.old) dimensions.now }
     ensures on { OnOk result (IsOn (K.faults sink.old) (K.faults sink.new) (K.taken sink.old)
         (K.taken sink.new) waiting.new (waiting.old
-        ++ lines_under (end_of (pvalues_in setup.now) setup.now.threshold)
+        ++ lines_under (end_of (pvalues_in setup.now rules.now) rules.now.threshold)
         (take len begin.old) dimensions.now (drop at cells.now))) }
     ensures cut { OnErr result (IsCut (K.faults sink.old) (K.faults sink.new)
         (K.taken sink.old) (K.taken sink.new) (waiting.old
-        ++ lines_under (end_of (pvalues_in setup.now) setup.now.threshold)
+        ++ lines_under (end_of (pvalues_in setup.now rules.now) rules.now.threshold)
         (take len begin.old) dimensions.now (drop at cells.now))) }
     ensures begin { OnOk result (take len begin.new ≡ take len begin.old) }
     ensures long { length begin.new ≡ length begin.old }
@@ -236,11 +240,11 @@ pub(crate) fn add_lines<K: Sink>(
         ≡ drop (length (row_major dimensions.now)) (drop at cells.now)) }
 {
     let Some((fields, rest)) = dimensions.split_first() else {
-        return add_alone(waiting, sink, setup, begin, len, cells, at);
+        return add_alone(waiting, sink, setup, rules, begin, len, cells, at);
     };
     if rest.is_empty() {
         let row = &cells[at..];
-        add_row(waiting, sink, setup, begin, len, fields, row)?;
+        add_row(waiting, sink, setup, rules, begin, len, fields, row)?;
         return Ok(at + fields.len().min(row.len()));
     }
     let mut next = at;
@@ -248,7 +252,7 @@ pub(crate) fn add_lines<K: Sink>(
         let field_len = fields.field_len(i);
         put(begin, len, fields.wide_field(i), field_len);
         let end = len + field_len;
-        next = add_lines(waiting, sink, setup, begin, end, rest, cells, next)?;
+        next = add_lines(waiting, sink, setup, rules, begin, end, rest, cells, next)?;
     }
     Ok(next)
 }

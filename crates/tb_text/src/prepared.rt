@@ -1,6 +1,8 @@
 // A table that is ready to be written.
 
 ghost use Rattle.std.specs.Prelude.{◌≡◌, ◌≤◌, ◌+◌, ℕ, List, All, IfOk};
+ghost use Rattle.std.specs.Arc.{arc_value};
+ghost use Rattle.tb_base.specs.Rules.{RulesValue};
 ghost use Rattle.tb_base.specs.declared.cells.Cell.{Cell};
 ghost use Rattle.tb_base.specs.declared.people.TheConstants.{MOST_PERSONS};
 ghost use Rattle.tb_io.specs.Taken.{IsWritten};
@@ -19,7 +21,8 @@ use crate::table::head_with_room;
 use crate::whole_text::WholeText;
 use std::alloc::Global;
 use std::marker::Model;
-use tb_base::{Cell, Memory};
+use std::sync::Arc;
+use tb_base::{Cell, Memory, Rules};
 use tb_io::{Sink, Wrote};
 use tb_query::Query;
 
@@ -58,8 +61,9 @@ fn begin_room(dimensions: &[EntryFields]) -> Result<usize, Memory>
     }
 }
 
-/// All that a table needs but its cells: the lines before the first place, in the room in which
-/// lines wait, the fields of each dimension, and room for the fields with which a line begins.
+/// All that a table needs but its rules and its cells: the lines before the first place, in the
+/// room in which lines wait, the fields of each dimension, and room for the fields with which a
+/// line begins.
 #[derive(Drop)]
 pub(crate) struct Prepared<'a> {
     setup: &'a Setup,
@@ -93,8 +97,9 @@ impl<'a> Prepared<'a> {
         most: usize,
     ) -> Result<Prepared<'a>, Memory>
         requires names { All (IsName setup.now.schema) query.now.dimensions }
-        ensures { IfOk result (λ p. (cells : List Cell) → prepared_text p cells
-            ≡ text_of_cells setup.now.schema (pvalues_in setup.now) setup.now.threshold
+        ensures { IfOk result (λ p. (rules : RulesValue) (cells : List Cell)
+            → prepared_text p rules cells
+            ≡ text_of_cells setup.now.schema (pvalues_in setup.now rules) rules.threshold
             query.now number cells) }
     {
         let fields = all_fields(alloc, &setup.schema, query)?;
@@ -111,28 +116,43 @@ impl<'a> Prepared<'a> {
         })
     }
 
-    /// Writes the table with these cells, in one write where it is short, else piece by piece. It
-    /// takes no memory.
-    pub(crate) fn write<K: Sink>(self, cells: &[Cell], sink: &mut K) -> Wrote
+    /// Writes the table by these rules with these cells, in one write where it is short, else piece
+    /// by piece. It takes no memory.
+    pub(crate) fn write<K: Sink>(self, rules: &Rules, cells: &[Cell], sink: &mut K) -> Wrote
         requires { All (λ cell. cell.count ≤ MOST_PERSONS) cells.now }
         ensures { IsWritten result (K.faults sink.old) (K.faults sink.new) (K.taken sink.old)
-            (K.taken sink.new) (prepared_text self.entry cells.now) }
+            (K.taken sink.new) (prepared_text self.entry rules.now cells.now) }
     {
         let mut begin = self.begin;
         let mut waiting = self.waiting;
         let setup = self.setup;
         let fields = self.fields;
-        match add_lines(&mut waiting, sink, setup, &mut begin, 0, &fields, cells, 0) {
+        match add_lines(
+            &mut waiting,
+            sink,
+            setup,
+            rules,
+            &mut begin,
+            0,
+            &fields,
+            cells,
+            0,
+        ) {
             Ok(_) => finish(&mut waiting, sink),
             Err(Cut) => Wrote::Failed,
         }
     }
 
-    /// The text of the table with these cells: the lines that wait, where there is room for all. It
-    /// takes memory where there isn't.
-    pub(crate) fn text(self, alloc: Global, cells: &[Cell]) -> Result<Vec<u8>, Memory>
+    /// The text of the table by these rules with these cells: the lines that wait, where there is
+    /// room for all. It takes memory where there isn't.
+    pub(crate) fn text(
+        self,
+        alloc: Global,
+        rules: &Rules,
+        cells: &[Cell],
+    ) -> Result<Vec<u8>, Memory>
         requires { All (λ cell. cell.count ≤ MOST_PERSONS) cells.now }
-        ensures { IfOk result (λ text. text.items ≡ prepared_text self.entry cells.now) }
+        ensures { IfOk result (λ text. text.items ≡ prepared_text self.entry rules.now cells.now) }
     {
         let mut begin = self.begin;
         let mut waiting = self.waiting;
@@ -143,6 +163,7 @@ impl<'a> Prepared<'a> {
             &mut waiting,
             &mut whole,
             setup,
+            rules,
             &mut begin,
             0,
             &fields,
@@ -162,27 +183,31 @@ impl<'a> Prepared<'a> {
 #[derive(Drop)]
 pub struct PreparedTable<'a> {
     prepared: Prepared<'a>,
+    rules: Arc<Rules>,
     cells: Vec<Cell>,
 }
 
 impl<'a> Model for PreparedTable<'a> {
     ghost use Rattle.std.specs.Prelude.{ℕ, List, ◌≤◌, All};
+    ghost use Rattle.std.specs.Arc.{arc_value};
     ghost use Rattle.tb_base.specs.declared.people.TheConstants.{MOST_PERSONS};
     ghost use Rattle.tb_text.specs.PreparedTables.{prepared_text};
 
     ghost Value = { List ℕ };
 
-    ghost view = { λ t. prepared_text t.prepared t.cells.items };
+    ghost view = { λ t. prepared_text t.prepared (arc_value t.rules) t.cells.items };
 
     ghost invariant = { λ t. All (λ cell. cell.count ≤ MOST_PERSONS) t.cells.items };
 }
 
 impl<'a> PreparedTable<'a> {
-    /// The table of a query at the release of this number, where these are its cells, as
-    /// `table_text` says. It takes all the memory, though not that of the text.
+    /// The table of a query at the release of this number, where these are its rules and these its
+    /// cells, as `table_text` says. It shares the rules, so it may outlive the release. It takes
+    /// all the memory, though not that of the text.
     pub fn of(
         alloc: Global,
         setup: &'a Setup,
+        rules: Arc<Rules>,
         query: &Query,
         number: u32,
         cells: Vec<Cell>,
@@ -190,11 +215,15 @@ impl<'a> PreparedTable<'a> {
         requires names { All (IsName setup.now.schema) query.now.dimensions }
         requires few { All (λ cell. cell.count ≤ MOST_PERSONS) cells.items }
         ensures { IfOk result (λ text. text
-            ≡ text_of_cells setup.now.schema (pvalues_in setup.now) setup.now.threshold
-            query.now number cells.items) }
+            ≡ text_of_cells setup.now.schema (pvalues_in setup.now (arc_value rules))
+            (arc_value rules).threshold query.now number cells.items) }
     {
         let prepared = Prepared::of(alloc, setup, query, number, cells.len(), BUFFER)?;
-        Ok(PreparedTable { prepared, cells })
+        Ok(PreparedTable {
+            prepared,
+            rules,
+            cells,
+        })
     }
 
     /// Writes the text, in one write where it is short, else piece by piece. It takes no memory. A
@@ -203,6 +232,6 @@ impl<'a> PreparedTable<'a> {
         ensures { IsWritten result (K.faults sink.old) (K.faults sink.new) (K.taken sink.old)
             (K.taken sink.new) self.entry }
     {
-        self.prepared.write(&self.cells, sink)
+        self.prepared.write(&self.rules, &self.cells, sink)
     }
 }

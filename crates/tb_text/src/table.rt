@@ -17,7 +17,7 @@ use crate::prepared::{BUFFER, Prepared};
 use crate::setup::Setup;
 use crate::writing::{begin_record, bytes_from, write_one, writer_after, written_len};
 use std::alloc::Global;
-use tb_base::{Cell, Memory, print_number};
+use tb_base::{Cell, Memory, Rules, print_number};
 use tb_io::{Sink, Wrote};
 use tb_query::Query;
 use tb_schema::Schema;
@@ -123,12 +123,13 @@ pub(crate) fn head_with_room(
     Ok(head)
 }
 
-/// The text of a query's table at the release of this number, where these are its cells: one for
-/// each of its places in row-major order, each of at most `MOST_PERSONS` persons. It takes memory
-/// for the text, and for the fields of each dimension.
+/// The text of a query's table at the release of this number, where these are the rules by which it
+/// is shown and these the table's cells: one for each of its places in row-major order, each of at
+/// most `MOST_PERSONS` persons. It takes memory for the text, and for the fields of each dimension.
 pub fn table_text(
     alloc: Global,
     setup: &Setup,
+    rules: &Rules,
     query: &Query,
     number: u32,
     cells: &[Cell],
@@ -136,11 +137,11 @@ pub fn table_text(
     requires names { All (IsName setup.now.schema) query.now.dimensions }
     requires few { All (λ cell. cell.count ≤ MOST_PERSONS) cells.now }
     ensures { IfOk result (λ text. text.items
-        ≡ text_of_cells setup.now.schema (pvalues_in setup.now) setup.now.threshold
+        ≡ text_of_cells setup.now.schema (pvalues_in setup.now rules.now) rules.now.threshold
         query.now number cells.now) }
 {
     let prepared = Prepared::of(alloc, setup, query, number, cells.len(), usize::MAX)?;
-    let text = prepared.text(alloc, cells)?;
+    let text = prepared.text(alloc, rules, cells)?;
     Ok(text)
 }
 
@@ -150,6 +151,7 @@ pub fn table_text(
 pub fn write_table<K: Sink>(
     alloc: Global,
     setup: &Setup,
+    rules: &Rules,
     query: &Query,
     number: u32,
     cells: &[Cell],
@@ -159,11 +161,11 @@ pub fn write_table<K: Sink>(
     requires few { All (λ cell. cell.count ≤ MOST_PERSONS) cells.now }
     ensures written { IfOk result (λ wrote. IsWritten wrote (K.faults sink.old)
         (K.faults sink.new) (K.taken sink.old) (K.taken sink.new)
-        (text_of_cells setup.now.schema (pvalues_in setup.now) setup.now.threshold
+        (text_of_cells setup.now.schema (pvalues_in setup.now rules.now) rules.now.threshold
         query.now number cells.now)) }
     ensures err { OnErr result (sink.new ≡ sink.old) }
 {
     let prepared = Prepared::of(alloc, setup, query, number, cells.len(), BUFFER)?;
-    let wrote = prepared.write(cells, sink);
+    let wrote = prepared.write(rules, cells, sink);
     Ok(wrote)
 }

@@ -8,9 +8,9 @@ use Rattle.tb_text.proofs.PlaceLines.{text_of_parts}
 use Rattle.tb_text.proofs.prepared.Prepared.of.Goals as goal
 
 pub returns : goal.returns
-returns c cells =
+returns c rules cells =
     let setup = c.args.setup.now in
-    text_of_parts setup.schema (pvalues_in setup) setup.threshold c.args.number c.args.query.now cells c.in_ok-fields.fields.items
+    text_of_parts setup.schema (pvalues_in setup rules) rules.threshold c.args.number c.args.query.now cells c.in_ok-fields.fields.items
     [] [] (line_text (codes "release " ++ decimal c.args.number)) c.in_ok-waiting.waiting _ _
     refl refl (c.in_ok-fields.ensures ∙ ap (λ (s : SetupValue). map (entry_fields s.schema c.args.query.now) c.args.query.now.dimensions) c.setup.view_is) refl
     (c.in_ok-waiting.ensures ∙ ap (λ (s : SetupValue). line_text (codes "release " ++ decimal c.args.number) ++ heading s.schema c.args.query.now) c.setup.view_is)

@@ -10,8 +10,8 @@ use Rattle.tb_text.proofs.prepared.Prepared.text.Goals as goal
 pub returns-in-Ok : goal.returns-in-Ok
 returns-in-Ok c =
     let inside = c.self.inside in
-    let end = end_of (pvalues_in inside.setup.now) inside.setup.now.threshold in
+    let end = end_of (pvalues_in inside.setup.now c.args.rules.now) c.args.rules.now.threshold in
     c.in_ok-text-in-Ok.ensures
     ∙ ap (λ xs. xs ++ line_text (codes ".")) (kept_whole _ _ _ _ _ _ c.new-whole.ensures c.in-Ok.ensures.on)
     ∙ ap (λ (fs : List (List (List ℕ))). (inside.waiting ++ lines_under end [] fs c.args.cells.now) ++ line_text (codes ".")) c.deref.ensures.value
-    ∙ ap (λ (p : PreparedValue). prepared_text p c.args.cells.now) c.self.view_is
+    ∙ ap (λ (p : PreparedValue). prepared_text p c.args.rules.now c.args.cells.now) c.self.view_is
