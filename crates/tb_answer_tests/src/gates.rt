@@ -56,10 +56,11 @@ impl Gate for Flagged<'_> {
     }
 }
 
-// What the first caller gets, whose cube is built at release 3, and what the others get.
-const FIRST: &[u8] = b"release 3\nSEX,count\n1,1\n2,2\n.\nrelease 4\nSEX,count\n1,1\n2,0\n.\n";
+// What the first caller gets, whose cube is built at release 3, and what the others get. Release 4
+// has another threshold and pvalue: the first table is shown by the rules of its own release.
+const FIRST: &[u8] = b"release 3\nSEX,count\n1,1\n2,2\n.\nrelease 4\nSEX,count\n1,8\n2,c\n.\n";
 
-const OTHERS: &[u8] = b"held 1\npublished 4\nrelease 4\nSEX,count\n1,1\n2,0\n.\n\
+const OTHERS: &[u8] = b"held 1\nheld 2\nheld 3\npublished 4\nrelease 4\nSEX,count\n1,8\n2,c\n.\n\
     stats release 4 looks 3 hits 1 entries 1 capacity 64\n";
 
 // The first caller asks, and waits at the gate; then it asks again, and isn't there again.
@@ -117,7 +118,7 @@ fn publish_and_ask<B: Named, R: Threads + Wait + Sync>(
     requires party { IsPartyOf B.name (shape_of setup.now.schema) party.old }
 {
     let there = waits_for(&flags.there);
-    let edits = "drop 104\npublish";
+    let edits = "threshold 1\ndrop 104\npvalue 3 64 5\npublish";
     let published = ask_all(rt, alloc, setup, board, own, edits, sink, &mut Open);
     let asked = ask_all(rt, alloc, setup, board, party, "table SEX", sink, &mut Open);
     flags.open.store(true, Ordering::SeqCst);

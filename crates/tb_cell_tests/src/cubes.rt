@@ -14,7 +14,7 @@ use std::marker::Brand;
 use std::sync::ledger::{Blank, Ledger};
 use std::test::Fail;
 use std::thread::Threads;
-use tb_base::{Cell, MOST_PERSONS, Memory, People, Steps, VarSet};
+use tb_base::{Cell, MOST_PERSONS, Memory, People, Rules, Steps, VarSet};
 use tb_build::{Gate, Open, build, build_in_parts};
 use tb_cube::{Cube, narrow};
 use tb_release::{Release, records_fit};
@@ -91,7 +91,7 @@ pub(crate) fn first(alloc: Global, schema: &Schema, people: People) -> Result<Re
     if people.len() > MOST_PERSONS {
         return Err(Memory);
     }
-    let release = Release::first(alloc, people)?;
+    let release = Release::first(alloc, people, Rules::new(alloc, 0))?;
     Ok(release)
 }
 

@@ -197,6 +197,126 @@ fn amends_are_read(rt: HostRuntime) -> Result<(), Fail> {
     Ok(())
 }
 
+// A line, and the row, the cell key and the pvalue that it sets there.
+type SetPvalue = (&'static str, u16, u16, i16);
+
+static PVALUES: [SetPvalue; 6] = [
+    ("pvalue 3 64 5", 3, 64, 5),
+    (
+        " \tpvalue\t0000000750   0000000255\t1000 ",
+        750,
+        255,
+        1_000,
+    ),
+    ("pvalue 750 0 -750", 750, 0, -750),
+    ("pvalue 1 0 -1", 1, 0, -1),
+    ("pvalue 1 000 -0", 1, 0, 0),
+    ("pvalue 03 64 -0000000003", 3, 64, -3),
+];
+
+fn pvalues() -> &'static [SetPvalue] {
+    &PVALUES
+}
+
+// With the key range 4096.
+static WIDE_PVALUES: [SetPvalue; 2] = [
+    ("pvalue 3 4095 5", 3, 4095, 5),
+    ("pvalue 750 00256 -750", 750, 256, -750),
+];
+
+fn wide_pvalues() -> &'static [SetPvalue] {
+    &WIDE_PVALUES
+}
+
+fn is_pvalue(edit: &Edit, set: &SetPvalue) -> bool {
+    match edit {
+        Edit::Pvalue { row, key, pvalue } => (*row, *key, *pvalue) == (set.1, set.2, set.3),
+        _ => false,
+    }
+}
+
+// Whether a line is read so.
+fn reads_as_pvalue(alloc: Global, schema: &Schema, set: &SetPvalue) -> bool {
+    match read_edit(alloc, schema, set.0.as_bytes()) {
+        Ok(edit) => is_pvalue(&edit, set),
+        Err(_) => false,
+    }
+}
+
+// The place of the first line that isn't.
+fn wrong_pvalue(alloc: Global, schema: &Schema, rows: &[SetPvalue]) -> Option<usize> {
+    for (i, set) in rows.iter().enumerate() {
+        if !reads_as_pvalue(alloc, schema, set) {
+            return Some(i);
+        }
+    }
+    None
+}
+
+fn wrong_pvalue_of_small(alloc: Global) -> Result<Option<usize>, Memory> {
+    let schema = schema(alloc)?;
+    Ok(wrong_pvalue(alloc, &schema, pvalues()))
+}
+
+fn wrong_pvalue_of_wide(alloc: Global) -> Result<Option<usize>, Memory> {
+    let schema = wide_schema(alloc)?;
+    Ok(wrong_pvalue(alloc, &schema, wide_pvalues()))
+}
+
+#[test]
+fn pvalues_are_read(rt: HostRuntime) -> Result<(), Fail> {
+    assert_eq!(rt; wrong_pvalue_of_small(rt.alloc())?, None);
+    assert_eq!(rt; wrong_pvalue_of_wide(rt.alloc())?, None);
+    Ok(())
+}
+
+// Lines and their thresholds.
+static THRESHOLDS: [(&'static str, u32); 3] = [
+    ("threshold 3", 3),
+    ("\tthreshold  0000000000 ", 0),
+    ("threshold 1000000", 1_000_000),
+];
+
+fn thresholds() -> &'static [(&'static str, u32)] {
+    &THRESHOLDS
+}
+
+fn is_threshold(edit: &Edit, want: u32) -> bool {
+    match edit {
+        Edit::Threshold { value } => *value == want,
+        _ => false,
+    }
+}
+
+// Whether a line is read so.
+fn reads_as_threshold(alloc: Global, schema: &Schema, line: &str, want: u32) -> bool {
+    match read_edit(alloc, schema, line.as_bytes()) {
+        Ok(edit) => is_threshold(&edit, want),
+        Err(_) => false,
+    }
+}
+
+// The place of the first line that isn't.
+fn wrong_threshold(alloc: Global, schema: &Schema) -> Option<usize> {
+    for (i, (line, want)) in thresholds().iter().enumerate() {
+        if !reads_as_threshold(alloc, schema, line, *want) {
+            return Some(i);
+        }
+    }
+    None
+}
+
+fn wrong_threshold_of_small(alloc: Global) -> Result<Option<usize>, Memory> {
+    let schema = schema(alloc)?;
+    Ok(wrong_threshold(alloc, &schema))
+}
+
+#[test]
+fn thresholds_are_read(rt: HostRuntime) -> Result<(), Fail> {
+    assert_eq!(rt; wrong_threshold_of_small(rt.alloc())?, None);
+    Ok(())
+}
+
 // Lines, and the number and the word of their first fault.
 type Refused = (&'static [u8], u8, &'static str);
 
@@ -254,10 +374,67 @@ fn refused() -> &'static [Refused] {
     &REFUSED
 }
 
+// Of the rules.
+static RULES_REFUSED: [Refused; 39] = [
+    // Another word, a byte that is no text, a word is missing, or one too many.
+    (b"Pvalue 3 64 5", 1, "Syntax"),
+    (b"thresholds 3", 1, "Syntax"),
+    (b"pvalue 3 64 5\r", 1, "Syntax"),
+    (b"pvalue", 1, "Syntax"),
+    (b"pvalue 3", 1, "Syntax"),
+    (b"pvalue 3 64", 1, "Syntax"),
+    (b"pvalue 3 64 - 5", 1, "Syntax"),
+    (b"pvalue 3 64 5 SEX=1", 1, "Syntax"),
+    (b"threshold", 1, "Syntax"),
+    (b"threshold 3 4", 1, "Syntax"),
+    // The row is no number from 1 to 750.
+    (b"pvalue 0 0 0", 2, "BadNumber"),
+    (b"pvalue 751 64 5", 2, "BadNumber"),
+    (b"pvalue 65539 64 5", 2, "BadNumber"),
+    (b"pvalue -3 64 5", 2, "BadNumber"),
+    (b"pvalue 00000000003 64 5", 2, "BadNumber"),
+    (b"pvalue PCV 64 5", 2, "BadNumber"),
+    // The key is no number from 0 to 255.
+    (b"pvalue 3 256 5", 2, "BadNumber"),
+    (b"pvalue 3 65600 5", 2, "BadNumber"),
+    (b"pvalue 3 -0 5", 2, "BadNumber"),
+    (b"pvalue 3 0x40 5", 2, "BadNumber"),
+    // The pvalue is no signed number from -1000 to 1000, or below the row's count.
+    (b"pvalue 3 64 -4", 2, "BadNumber"),
+    (b"pvalue 750 64 -751", 2, "BadNumber"),
+    (b"pvalue 750 64 -1001", 2, "BadNumber"),
+    (b"pvalue 750 64 1001", 2, "BadNumber"),
+    (b"pvalue 3 64 65541", 2, "BadNumber"),
+    (b"pvalue 3 64 -65536", 2, "BadNumber"),
+    (b"pvalue 3 64 4294967296", 2, "BadNumber"),
+    (b"pvalue 3 64 +5", 2, "BadNumber"),
+    (b"pvalue 3 64 --1", 2, "BadNumber"),
+    (b"pvalue 3 64 -", 2, "BadNumber"),
+    (b"pvalue 3 64 SEX=1", 2, "BadNumber"),
+    // The threshold is no number from 0 to 1000000.
+    (b"threshold 1000001", 2, "BadNumber"),
+    (b"threshold 4294967296", 2, "BadNumber"),
+    (b"threshold -0", 2, "BadNumber"),
+    (b"threshold 00000000003", 2, "BadNumber"),
+    (b"threshold c", 2, "BadNumber"),
+    // Two faults in one line.
+    (b"pvalue 0 256", 1, "Syntax"),
+    (b"pvalue 3 64 -4 0", 1, "Syntax"),
+    (b"threshold 1000001 c", 1, "Syntax"),
+];
+
+fn rules_refused() -> &'static [Refused] {
+    &RULES_REFUSED
+}
+
 // With the key range 4096.
-static WIDE_REFUSED: [Refused; 2] = [
+static WIDE_REFUSED: [Refused; 6] = [
     (b"add 300 4096 SEX=1 AGE=65+ AREA=E1", 2, "BadNumber"),
     (b"add 300 65536 SEX=1 AGE=65+ AREA=E1", 2, "BadNumber"),
+    (b"pvalue 3 4096 5", 2, "BadNumber"),
+    (b"pvalue 3 65600 5", 2, "BadNumber"),
+    (b"pvalue 751 4095 5", 2, "BadNumber"),
+    (b"pvalue 3 4095 -4", 2, "BadNumber"),
 ];
 
 fn wide_refused() -> &'static [Refused] {
@@ -293,6 +470,11 @@ fn wrong_refusal_of_small(alloc: Global) -> Result<Option<usize>, Memory> {
     Ok(wrong_refusal(alloc, &schema, refused()))
 }
 
+fn wrong_refusal_of_rules(alloc: Global) -> Result<Option<usize>, Memory> {
+    let schema = schema(alloc)?;
+    Ok(wrong_refusal(alloc, &schema, rules_refused()))
+}
+
 fn wrong_refusal_of_wide(alloc: Global) -> Result<Option<usize>, Memory> {
     let schema = wide_schema(alloc)?;
     Ok(wrong_refusal(alloc, &schema, wide_refused()))
@@ -301,6 +483,7 @@ fn wrong_refusal_of_wide(alloc: Global) -> Result<Option<usize>, Memory> {
 #[test]
 fn edit_refusals(rt: HostRuntime) -> Result<(), Fail> {
     assert_eq!(rt; wrong_refusal_of_small(rt.alloc())?, None);
+    assert_eq!(rt; wrong_refusal_of_rules(rt.alloc())?, None);
     assert_eq!(rt; wrong_refusal_of_wide(rt.alloc())?, None);
     Ok(())
 }

@@ -8,7 +8,7 @@ use crate::counting::CountingSink;
 use crate::making::schema_of;
 use std::alloc::Global;
 use std::test::Fail;
-use tb_base::{Cell, Keys, MOST_PERSONS, Memory};
+use tb_base::{Cell, Keys, MOST_PERSONS, Memory, Rules, may_be_set};
 use tb_io::{MemSink, Wrote};
 use tb_ptable::PTable;
 use tb_query::{MOST_QUERY_BYTES, Query, read_query};
@@ -20,6 +20,7 @@ struct Row {
     name: &'static str,
     classes: &'static [u8],
     threshold: u32,
+    pvalues: &'static [(u16, u16, i16)],
     query: &'static [u8],
     number: u32,
     cells: &'static [(u32, u16)],
@@ -31,11 +32,12 @@ const OTHER: &[u8] = b"variable,code,label\nSEX,1,Male\nSEX,2,\nAGE,0-15,\nAGE,1
     AREA,E1,\"a \"\"b\"\" c\"\nAREA,E2,\nAREA,E3,K\xc3\xb6ln and its surroundings\n\
     AREA,E4,\"x,y\"\n";
 
-static ROWS: [Row; 6] = [
+static ROWS: [Row; 8] = [
     Row {
         name: "labels_with_commas",
         classes: CLASSES,
         threshold: 0,
+        pvalues: &[],
         query: b"table AREA by SEX with totals with labels",
         number: 0,
         cells: &[
@@ -57,6 +59,7 @@ static ROWS: [Row; 6] = [
         name: "key_range_of_the_classification",
         classes: WIDE_CLASSES,
         threshold: 0,
+        pvalues: &[],
         query: b"table SEX",
         number: 0,
         cells: &[(3, 320), (1, 7)],
@@ -66,6 +69,7 @@ static ROWS: [Row; 6] = [
         name: "a_group_has_no_label",
         classes: CLASSES,
         threshold: 0,
+        pvalues: &[],
         query: b"table AGE2 by AREA with labels",
         number: 1,
         cells: &[(1, 200), (0, 0), (1, 100), (2, 27)],
@@ -76,6 +80,7 @@ static ROWS: [Row; 6] = [
         name: "three_dimensions",
         classes: CLASSES,
         threshold: 0,
+        pvalues: &[],
         query: b"table SEX by AREA by AGE2",
         number: 4294967295,
         cells: &[
@@ -92,9 +97,30 @@ static ROWS: [Row; 6] = [
             1,E2,old,1\n2,E1,young,0\n2,E1,old,0\n2,E2,young,0\n2,E2,old,2\n.\n",
     },
     Row {
+        name: "a_pvalue_that_was_set_comes_before_the_file",
+        classes: CLASSES,
+        threshold: 3,
+        pvalues: &[(3, 64, 5), (3, 65, -3)],
+        query: b"table SEX with totals",
+        number: 1,
+        cells: &[(3, 320), (1, 7), (4, 327)],
+        text: b"release 1\nSEX,count\n1,8\n2,c\nTotal,6\n.\n",
+    },
+    Row {
+        name: "a_pvalue_that_was_set_in_the_wide_key_range",
+        classes: WIDE_CLASSES,
+        threshold: 0,
+        pvalues: &[(3, 320, -3), (3, 64, 5)],
+        query: b"table SEX",
+        number: 1,
+        cells: &[(3, 320), (1, 7)],
+        text: b"release 1\nSEX,count\n1,0\n2,2\n.\n",
+    },
+    Row {
         name: "labels_of_any_bytes",
         classes: OTHER,
         threshold: 8,
+        pvalues: &[],
         query: b"table AREA by SEX with labels",
         number: 12,
         cells: &[
@@ -115,6 +141,7 @@ static ROWS: [Row; 6] = [
         name: "an_empty_label_comes_first",
         classes: OTHER,
         threshold: 1,
+        pvalues: &[],
         query: b"table SEX with totals with labels",
         number: 0,
         cells: &[(9, 0), (10, 0), (0, 0)],
@@ -153,11 +180,20 @@ fn ptable(alloc: Global, keys: Keys) -> Result<PTable, Memory>
 fn setup_of(alloc: Global, row: &Row) -> Result<Setup, Memory> {
     let schema = schema_of(alloc, row.classes, Some(RECODES))?;
     let ptable = ptable(alloc, schema.keys())?;
-    Ok(Setup {
-        schema,
-        ptable,
-        threshold: row.threshold,
-    })
+    Ok(Setup { schema, ptable })
+}
+
+// The rules of a row. A pvalue that may not be set fails the test: it is told as want of memory.
+fn rules_of(alloc: Global, row: &Row) -> Result<Rules, Memory> {
+    let mut rules = Rules::new(alloc, row.threshold);
+    for set in row.pvalues {
+        let (at, key, pvalue) = *set;
+        if !may_be_set(at, key, pvalue) {
+            return Err(Memory);
+        }
+        rules.set(at, key, pvalue)?;
+    }
+    Ok(rules)
 }
 
 // The query of a line. One that isn't read fails the test: it is told as want of memory.
@@ -174,21 +210,33 @@ fn query_of(alloc: Global, schema: &Schema, line: &[u8]) -> Result<Query, Memory
 }
 
 // Whether a row's query prints the row's text.
-fn prints(alloc: Global, setup: &Setup, row: &Row, cells: &[Cell]) -> Result<bool, Memory>
+fn prints(
+    alloc: Global,
+    setup: &Setup,
+    rules: &Rules,
+    row: &Row,
+    cells: &[Cell],
+) -> Result<bool, Memory>
     requires { All (λ cell. cell.count ≤ MOST_PERSONS) cells.now }
 {
     let query = query_of(alloc, &setup.schema, row.query)?;
-    let text = table_text(alloc, setup, &query, row.number, cells)?;
+    let text = table_text(alloc, setup, rules, &query, row.number, cells)?;
     Ok(text.as_slice() == row.text)
 }
 
 // Whether a row's text is written in one write, by a sink that has room for it.
-fn writes(alloc: Global, setup: &Setup, row: &Row, cells: &[Cell]) -> Result<bool, Memory>
+fn writes(
+    alloc: Global,
+    setup: &Setup,
+    rules: &Rules,
+    row: &Row,
+    cells: &[Cell],
+) -> Result<bool, Memory>
     requires { All (λ cell. cell.count ≤ MOST_PERSONS) cells.now }
 {
     let query = query_of(alloc, &setup.schema, row.query)?;
     let mut sink = CountingSink::new(alloc, row.text.len())?;
-    let wrote = write_table(alloc, setup, &query, row.number, cells, &mut sink)?;
+    let wrote = write_table(alloc, setup, rules, &query, row.number, cells, &mut sink)?;
     Ok(wrote == Wrote::All && sink.taken() == row.text && sink.writes() == 1)
 }
 
@@ -196,6 +244,7 @@ fn writes(alloc: Global, setup: &Setup, row: &Row, cells: &[Cell]) -> Result<boo
 fn is_cut(
     alloc: Global,
     setup: &Setup,
+    rules: &Rules,
     query: &Query,
     row: &Row,
     cells: &[Cell],
@@ -205,19 +254,25 @@ fn is_cut(
     requires few { All (λ cell. cell.count ≤ MOST_PERSONS) cells.now }
 {
     let mut sink = MemSink::new(alloc, bound)?;
-    let wrote = write_table(alloc, setup, query, row.number, cells, &mut sink)?;
+    let wrote = write_table(alloc, setup, rules, query, row.number, cells, &mut sink)?;
     let fits = row.text.len().min(bound);
     let all = wrote == Wrote::All;
     Ok(all == (fits == row.text.len()) && sink.taken() == &row.text[..fits])
 }
 
 // Whether that is so for each number of bytes below 200.
-fn is_cut_anywhere(alloc: Global, setup: &Setup, row: &Row, cells: &[Cell]) -> Result<bool, Memory>
+fn is_cut_anywhere(
+    alloc: Global,
+    setup: &Setup,
+    rules: &Rules,
+    row: &Row,
+    cells: &[Cell],
+) -> Result<bool, Memory>
     requires { All (λ cell. cell.count ≤ MOST_PERSONS) cells.now }
 {
     let query = query_of(alloc, &setup.schema, row.query)?;
     for bound in 0..200 {
-        if !is_cut(alloc, setup, &query, row, cells, bound)? {
+        if !is_cut(alloc, setup, rules, &query, row, cells, bound)? {
             return Ok(false);
         }
     }
@@ -225,15 +280,27 @@ fn is_cut_anywhere(alloc: Global, setup: &Setup, row: &Row, cells: &[Cell]) -> R
 }
 
 // Whether both are so over these cells.
-fn is_right(alloc: Global, setup: &Setup, row: &Row, cells: &[Cell]) -> Result<bool, Memory>
+fn is_right(
+    alloc: Global,
+    setup: &Setup,
+    rules: &Rules,
+    row: &Row,
+    cells: &[Cell],
+) -> Result<bool, Memory>
     requires { All (λ cell. cell.count ≤ MOST_PERSONS) cells.now }
 {
-    Ok(prints(alloc, setup, row, cells)? && is_cut_anywhere(alloc, setup, row, cells)?)
+    Ok(prints(alloc, setup, rules, row, cells)?
+        && is_cut_anywhere(alloc, setup, rules, row, cells)?)
+}
+
+fn is_so_by(alloc: Global, setup: &Setup, rules: &Rules, row: &Row) -> Result<bool, Memory> {
+    let cells = few_cells(alloc, row.cells)?;
+    is_right(alloc, setup, rules, row, &cells)
 }
 
 fn is_so_over(alloc: Global, setup: &Setup, row: &Row) -> Result<bool, Memory> {
-    let cells = few_cells(alloc, row.cells)?;
-    is_right(alloc, setup, row, &cells)
+    let rules = rules_of(alloc, row)?;
+    is_so_by(alloc, setup, &rules, row)
 }
 
 fn is_so(alloc: Global, row: &Row) -> Result<bool, Memory> {
@@ -249,9 +316,14 @@ fn worked_tables(rt: HostRuntime) -> Result<(), Fail> {
     Ok(())
 }
 
-fn is_written_over(alloc: Global, setup: &Setup, row: &Row) -> Result<bool, Memory> {
+fn is_written_by(alloc: Global, setup: &Setup, rules: &Rules, row: &Row) -> Result<bool, Memory> {
     let cells = few_cells(alloc, row.cells)?;
-    writes(alloc, setup, row, &cells)
+    writes(alloc, setup, rules, row, &cells)
+}
+
+fn is_written_over(alloc: Global, setup: &Setup, row: &Row) -> Result<bool, Memory> {
+    let rules = rules_of(alloc, row)?;
+    is_written_by(alloc, setup, &rules, row)
 }
 
 fn is_written(alloc: Global, row: &Row) -> Result<bool, Memory> {
@@ -298,11 +370,7 @@ fn large_schema(alloc: Global) -> Result<Schema, Memory> {
 fn large_setup(alloc: Global) -> Result<Setup, Memory> {
     let schema = large_schema(alloc)?;
     let ptable = ptable(alloc, schema.keys())?;
-    Ok(Setup {
-        schema,
-        ptable,
-        threshold: 0,
-    })
+    Ok(Setup { schema, ptable })
 }
 
 // The cells of 10,000 places.
@@ -320,6 +388,7 @@ fn many_cells(alloc: Global) -> Result<Vec<Cell>, Memory>
 fn is_in_pieces(
     alloc: Global,
     setup: &Setup,
+    rules: &Rules,
     query: &Query,
     cells: &[Cell],
     text: &[u8],
@@ -328,18 +397,33 @@ fn is_in_pieces(
     requires few { All (λ cell. cell.count ≤ MOST_PERSONS) cells.now }
 {
     let mut sink = CountingSink::new(alloc, text.len())?;
-    let wrote = write_table(alloc, setup, query, 0, cells, &mut sink)?;
+    let wrote = write_table(alloc, setup, rules, query, 0, cells, &mut sink)?;
     let several = sink.writes() > 1 && sink.longest() <= 65_536;
     Ok(wrote == Wrote::All && sink.taken() == text && several)
 }
 
 // Whether the table's text is longer than 64 KiB, and written so.
+fn is_long_by(
+    alloc: Global,
+    setup: &Setup,
+    rules: &Rules,
+    query: &Query,
+    cells: &[Cell],
+) -> Result<bool, Memory>
+    requires names { All (IsName setup.now.schema) query.now.dimensions }
+    requires few { All (λ cell. cell.count ≤ MOST_PERSONS) cells.now }
+{
+    let text = table_text(alloc, setup, rules, query, 0, cells)?;
+    Ok(text.len() > 65_536 && is_in_pieces(alloc, setup, rules, query, cells, &text)?)
+}
+
+// And so by rules that show each count as the file says.
 fn is_long(alloc: Global, setup: &Setup, query: &Query, cells: &[Cell]) -> Result<bool, Memory>
     requires names { All (IsName setup.now.schema) query.now.dimensions }
     requires few { All (λ cell. cell.count ≤ MOST_PERSONS) cells.now }
 {
-    let text = table_text(alloc, setup, query, 0, cells)?;
-    Ok(text.len() > 65_536 && is_in_pieces(alloc, setup, query, cells, &text)?)
+    let rules = Rules::new(alloc, 0);
+    is_long_by(alloc, setup, &rules, query, cells)
 }
 
 // Whether that is so of cells of 10,000 places.

@@ -84,4 +84,4 @@ tables_name_their_list setup base chain query none =
     let release : ReleaseValue = release_after base chain in
     let number : release.number ≡ length chain = number_after base chain ∙ omega (arith, none) in
     subst (λ n. IsPrefix (line_text (codes "release " ++ decimal n)) (table_text setup release query)) number
-    (text_begins setup.schema (pvalues_of setup release) (threshold_of setup release) query release.number (cells_of setup.schema query release.records))
+    (text_begins setup.schema (pvalues_of setup release) (threshold_of release) query release.number (cells_of setup.schema query release.records))

@@ -28,7 +28,7 @@ cell_shown w =
 
 pub replies_show_their_worlds : RepliesShowTheirWorlds
 replies_show_their_worlds w =
-    ap (λ (cell : Cell). shown_text (shown (pvalues_of w.setup (release_of w)) (threshold_of w.setup (release_of w)) cell)) (cell_shown w)
+    ap (λ (cell : Cell). shown_text (shown (pvalues_of w.setup (release_of w)) (threshold_of (release_of w)) cell)) (cell_shown w)
 
 pub agreeing_replies_show_the_same : AgreeingRepliesShowTheSame
 agreeing_replies_show_the_same v w agree =

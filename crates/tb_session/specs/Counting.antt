@@ -1,5 +1,6 @@
 -- The cells of a query's table as the program counts them.
 use Rattle.std.specs.Prelude.{◌≡◌}
+use Rattle.std.specs.Arc.{arc_value}
 use Rattle.tb_model.specs.Places.{cells_of}
 use Rattle.tb_model.specs.Queries.{QueryValue}
 use Rattle.tb_model.specs.Releases.{ReleaseValue}
@@ -7,9 +8,10 @@ use Rattle.tb_model.specs.Schemas.{SchemaValue}
 use Rattle.tb_plan.specs.Plans.{PlanValue, plan_of}
 use Rattle.tb_session.specs.declared.count.Counted.{Counted}
 
--- they are counted over this release: those of the definitions, for any schema and query of which
--- this is the plan
+-- they are counted over this release, whose number and rules stand beside them: those of the
+-- definitions, for any schema and query of which this is the plan
 pub record IsCounted (plan : PlanValue) (release : ReleaseValue) (counted : Counted) : Type 0 where
   pub number : counted.number ≡ release.number
+  pub rules : arc_value counted.rules ≡ release.rules
   pub cells : (schema : SchemaValue) (query : QueryValue) → plan ≡ plan_of schema query
       → counted.cells.items ≡ cells_of schema query release.records

@@ -95,7 +95,7 @@ release_of w =
     (run_of (start (shape_of w.setup.schema) w.base w.capacity w.callers) w.events).desk.chain
     w.number
 
--- the world of the place at that release, which its records and the setup make
+-- the world of the place at that release, which its records, its rules and the setup make
 abbrev pub world_of : RunWorld → World
 world_of w = world_at w.setup (release_of w) w.query w.place
 
@@ -107,7 +107,7 @@ table_cells w = rolled_up w.setup.schema w.query (shape_of w.setup.schema) w.var
 abbrev pub reply_text : RunWorld → List ℕ
 reply_text w =
     shown_text
-    (shown (pvalues_of w.setup (release_of w)) (threshold_of w.setup (release_of w))
+    (shown (pvalues_of w.setup (release_of w)) (threshold_of (release_of w))
     (slice_index_or (table_cells w) w.at empty_cell))
 
 -- a reply's cells show the text of its world, so that of its place's own records

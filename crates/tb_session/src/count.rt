@@ -26,7 +26,7 @@ use std::alloc::Global;
 use std::sync::ledger::Ledger;
 use std::sync::{Arc, Wait};
 use std::thread::Threads;
-use tb_base::{Cell, Memory, Shape, Steps, VarSet};
+use tb_base::{Cell, Memory, Rules, Shape, Steps, VarSet};
 use tb_board::{Board, Named, Step};
 use tb_build::{Gate, build};
 use tb_core::{CubeFor, Offer, Taken, lead_on};
@@ -134,10 +134,12 @@ fn offer<B: Named>(
     }
 }
 
-// The cells of a table, and the number of the release over which they were counted.
+// The cells of a table, with the number of the release over which they were counted, and the rules
+// by which it is shown.
 #[derive(Drop)]
 struct Counted {
     number: u32,
+    rules: Arc<Rules>,
     cells: Vec<Cell>,
 }
 
@@ -162,6 +164,7 @@ fn count_by_cube<B: Named, R: Threads + Wait + Sync, G: Gate, L: Ledger>(
     ensures counted { IfOk result (IsCounted plan.now (release_seen pass.new)) }
 {
     let taken = board.take(rt, pass, Some(plan.vars()))?;
+    let rules = taken.release.shared_rules()?;
     let got = cube_of(rt, alloc, shape, plan.vars(), &taken, gate, steps)?;
     let cells = roll_up(alloc, got.cube(), plan, &taken.release)?;
     let number = taken.release.number();
@@ -169,7 +172,11 @@ fn count_by_cube<B: Named, R: Threads + Wait + Sync, G: Gate, L: Ledger>(
         CubeFor::Kept(_cube) => {}
         CubeFor::Made(cube) => offer(rt, alloc, board, pass, plan.vars(), number, cube),
     }
-    Ok(Counted { number, cells })
+    Ok(Counted {
+        number,
+        rules,
+        cells,
+    })
 }
 
 // The same where the cube would have too many cells, counted from the records.
@@ -188,9 +195,11 @@ fn count_by_records<B: Named, R: Wait, L: Ledger>(
     ensures counted { IfOk result (IsCounted plan.now (release_seen pass.new)) }
 {
     let taken = board.take(rt, pass, None)?;
+    let rules = taken.release.shared_rules()?;
     let cells = scan(alloc, plan, &taken.release, steps)?;
     Ok(Counted {
         number: taken.release.number(),
+        rules,
         cells,
     })
 }
@@ -263,5 +272,12 @@ pub(crate) fn print_table<'a, B: Named, R: Threads + Wait + Sync, G: Gate, L: Le
     let plan = plan_for(alloc, setup, query)?;
     let shape = shape_in(setup);
     let counted = count(rt, alloc, board, shape, &plan, pass, gate, steps)?;
-    PreparedTable::of(alloc, setup, query, counted.number, counted.cells)
+    PreparedTable::of(
+        alloc,
+        setup,
+        counted.rules,
+        query,
+        counted.number,
+        counted.cells,
+    )
 }

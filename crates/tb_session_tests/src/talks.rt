@@ -25,7 +25,7 @@ struct Talk {
 
 const TABLE: &[u8] = b"release 0\nSEX,count\n1,1\n2,2\n.\n";
 
-static TALKS: [Talk; 12] = [
+static TALKS: [Talk; 13] = [
     Talk {
         name: "bytes one at a time, and a last line without line feed",
         bytes: b"table SEX\ntable AREA",
@@ -115,6 +115,16 @@ static TALKS: [Talk; 12] = [
         bound: 100,
         end: SessionEnd::Ended,
         text: b"held 1\npublished 1\nrelease 1\nSEX,count\n1,1\n2,0\n.\n",
+    },
+    Talk {
+        name: "tables on both sides of a publication of a threshold alone",
+        bytes: b"table SEX\nthreshold 2\ntable SEX\npublish\ntable SEX\n",
+        most: 7,
+        fails: &[],
+        bound: 130,
+        end: SessionEnd::Ended,
+        text: b"release 0\nSEX,count\n1,1\n2,2\n.\nheld 1\nrelease 0\nSEX,count\n1,1\n2,2\n.\n\
+            published 1\nrelease 1\nSEX,count\n1,c\n2,2\n.\n",
     },
     Talk {
         name: "a publication whose reply is cut",

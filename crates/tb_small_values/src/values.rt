@@ -7,7 +7,7 @@ ghost use Rattle.tb_model.specs.Schemas.{shape_of};
 ghost use Rattle.tb_release.specs.Laws.{EditFits};
 
 use std::alloc::Global;
-use tb_base::{Keys, Memory, People};
+use tb_base::{Keys, Memory, People, Rules};
 use tb_ptable::PTable;
 use tb_records::read_people;
 use tb_release::{Edit, Edits, Release};
@@ -33,15 +33,11 @@ fn ptable(alloc: Global, keys: Keys) -> Result<PTable, Memory>
     }
 }
 
-/// The schema with the perturbation table, and the threshold 0.
+/// The schema with the perturbation table.
 pub fn setup(alloc: Global) -> Result<Setup, Memory> {
     let schema = schema(alloc)?;
     let ptable = ptable(alloc, schema.keys())?;
-    Ok(Setup {
-        schema,
-        ptable,
-        threshold: 0,
-    })
+    Ok(Setup { schema, ptable })
 }
 
 /// The four persons.
@@ -55,7 +51,7 @@ pub fn people(alloc: Global, schema: &Schema) -> Result<People, Memory>
     }
 }
 
-// Release 0 of some persons.
+// Release 0 of some persons, with the threshold 0.
 fn first(alloc: Global, schema: &Schema, people: People) -> Result<Release, Memory>
     requires fit { AllFit (shape_of schema.now) people }
     requires few { length people ≤ MOST_PERSONS }
@@ -63,10 +59,10 @@ fn first(alloc: Global, schema: &Schema, people: People) -> Result<Release, Memo
     ensures fit { IfOk result (λ release. AllFit (shape_of schema.now) release.records) }
 {
     let _ = schema;
-    Release::first(alloc, people)
+    Release::first(alloc, people, Rules::new(alloc, 0))
 }
 
-/// Release 0 of the four.
+/// Release 0 of the four, with the threshold 0.
 pub fn release(alloc: Global, schema: &Schema) -> Result<Release, Memory>
     ensures number { IfOk result (λ release. release.number ≡ 0) }
     ensures fit { IfOk result (λ release. AllFit (shape_of schema.now) release.records) }

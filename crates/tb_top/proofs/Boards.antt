@@ -3,7 +3,7 @@ use Rattle.std.proofs.Common.{◌≡◌, subst, ℕ, ◌≤◌, List, [], Option
 use Rattle.tb_base.specs.declared.status.Status.{Status}
 use Rattle.tb_board.specs.Custodians.{CustodianValue, OpeningValue, first_custodian}
 use Rattle.tb_io.proofs.FaultLemmas.{HasRisen-earlier}
-use Rattle.tb_model.specs.Releases.{ReleaseValue, first_release}
+use Rattle.tb_model.specs.Releases.{ReleaseValue}
 use Rattle.tb_model.specs.Setups.{SetupValue}
 use Rattle.tb_script.specs.Runs.{IsLaneReply}
 use Rattle.tb_script.specs.Scripts.{ScriptValue}
@@ -11,14 +11,15 @@ use Rattle.tb_session.specs.Outputs.{AreReplies, ReplyValue}
 use Rattle.tb_session.specs.Parties.{state_at}
 use Rattle.tb_top.specs.Asking.{Script}
 use Rattle.tb_top.specs.Endings.{IsEnded}
+use Rattle.tb_top.specs.Loading.{IsBase, census_over}
 use Rattle.tb_top.specs.Outputs.{AreAnswers}
 use Rattle.tb_top.specs.declared.endings.End.{End}
 
 -- replies from what the custodian of a new board had seen are answers to what was asked for
 pub answers-on-board : (setup : SetupValue) (opening : OpeningValue) (custodian : CustodianValue) (script : ScriptValue) (replies : List ReplyValue)
-    → custodian ≡ first_custodian opening → opening.start.base ≡ first_release setup opening.start.base.records
+    → custodian ≡ first_custodian opening → IsBase opening.start.base
     → AreReplies (IsLaneReply setup custodian.writer.start.base) (state_at custodian.writer []) script.lines replies
-    → AreAnswers (Script (record { setup = setup; records = opening.start.base.records }) script) replies
+    → AreAnswers (Script (census_over setup opening.start.base) script) replies
 answers-on-board setup opening custodian script replies made first are =
     let P : CustodianValue → Type 0 = λ c. AreReplies (IsLaneReply setup c.writer.start.base) (state_at c.writer []) script.lines replies in
     let Q : ReleaseValue → Type 0 = λ base. AreReplies (IsLaneReply setup base) (record { chain = []; held = [] }) script.lines replies in

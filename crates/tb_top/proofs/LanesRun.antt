@@ -8,7 +8,7 @@ use Rattle.tb_io.proofs.FaultLemmas.{HasRisen-earlier}
 use Rattle.tb_io.proofs.TakenLemmas.{Took-append, TookPart-append}
 use Rattle.tb_io.specs.Taken.{Took}
 use Rattle.tb_lanes.specs.Phases.{PhasesGo, Standing, at_first}
-use Rattle.tb_model.specs.Releases.{ReleaseValue, first_release}
+use Rattle.tb_model.specs.Releases.{ReleaseValue}
 use Rattle.tb_model.specs.Setups.{SetupValue}
 use Rattle.tb_script.specs.Scripts.{ScriptValue}
 use Rattle.tb_serve.specs.Serves.{output}
@@ -19,6 +19,7 @@ use Rattle.tb_top.specs.Calls.{Call}
 use Rattle.tb_top.specs.Commands.{command_of}
 use Rattle.tb_top.specs.Endings.{IsEnded, last_line}
 use Rattle.tb_top.specs.LaneOutputs.{AreLanesAnswered, IsLanesText, IsTextOfPhases}
+use Rattle.tb_top.specs.Loading.{IsBase, census_over}
 use Rattle.tb_top.specs.Promises.{IsWhole, Keeps}
 use Rattle.tb_top.specs.declared.command.Command.{Command}
 use Rattle.tb_top.specs.declared.endings.End.TheVariants as end
@@ -56,9 +57,9 @@ keeps_by_lanes call command census script s named told free fresh same (final, t
 
 -- phases from what its custodian had seen are those of the census
 pub phases-on-board : (setup : SetupValue) (opening : OpeningValue) (custodian : CustodianValue) (script : ScriptValue) (n : ℕ) (text : List ℕ)
-    (last : Standing) → custodian ≡ first_custodian opening → opening.start.base ≡ first_release setup opening.start.base.records
+    (last : Standing) → custodian ≡ first_custodian opening → IsBase opening.start.base
     → PhasesGo setup custodian.writer.start.base script n (at_first custodian.writer.list) text last
-    → IsTextOfPhases (record { setup = setup; records = opening.start.base.records }) script n text
+    → IsTextOfPhases (census_over setup opening.start.base) script n text
 phases-on-board setup opening custodian script n text last made first go =
     let P : CustodianValue → Type 0 = λ c. PhasesGo setup c.writer.start.base script n (at_first c.writer.list) text last in
     let Q : ReleaseValue → Type 0 = λ base. PhasesGo setup base script n (at_first []) text last in

@@ -12,12 +12,12 @@ use Rattle.tb_serve.specs.Ports.{PortValue}
 use Rattle.tb_serve.specs.Reports.{memory_line, net_line, report, some_failed}
 use Rattle.tb_serve.specs.Serves.{IsEnded, IsPortServed, Output, final_status, output}
 use Rattle.tb_serve.specs.Stages.{HasRisenSome, IsFresh, IsUntouched}
-use Rattle.tb_top.specs.Asking.{AskedValue, CensusValue, Serve, asked_of}
+use Rattle.tb_top.specs.Asking.{AskedValue, CensusValue, Serve, asked_of, base_of}
 use Rattle.tb_top.specs.Calls.{Call, HasTaken, NetFailed}
 use Rattle.tb_top.specs.Commands.{asks_to_serve, command_of}
 use Rattle.tb_top.specs.ServicePorts.{Service}
 use Rattle.tb_top.specs.Promises.{IsAskedOutput, IsDefined, IsTextOf, IsWhole, Keeps, defined_status}
-use Rattle.tb_top.specs.Services.{IsIdle, IsServiceAnswered, base_of}
+use Rattle.tb_top.specs.Services.{IsIdle, IsServiceAnswered}
 use Rattle.tb_top.specs.declared.command.Command.{Command}
 use Rattle.tb_top.proofs.PortLemmas.{each-idle, each-unserved, each-whole, idle-whole, risen-whole, take-fresh, unserved}
 use Rattle.tb_top.proofs.Telling.{always_told, where_told}

@@ -11,7 +11,7 @@ use Rattle.tb_top.specs.declared.command.Command.{Command}
 use Rattle.tb_top.specs.declared.command.Command.TheVariants as command
 use Rattle.tb_top.specs.declared.command.Inputs.{Inputs}
 use Rattle.tb_base.specs.declared.people.TheConstants.{MOST_PERSONS}
-use Rattle.tb_top.specs.declared.command.TheConstants.{MOST_THRESHOLD}
+use Rattle.tb_base.specs.declared.limits.TheConstants.{MOST_THRESHOLD}
 use Rattle.tb_top.specs.declared.service.TheConstants.{MOST_PORT, MOST_SESSIONS, MOST_WORKERS}
 use Rattle.tb_top.specs.Commands.{command_of, gen_named, gen_words, inputs_named, inputs_with, is_file_name, lanes_named, lanes_words, may_name_recodes, script_named, script_words, serve_named, serve_words, threshold_in, word_at}
 use Rattle.tb_top.specs.Numbers.{number_within}

@@ -3,6 +3,7 @@
 use Rattle.std.specs.Prelude.{◌==◌, ℕ, Bool, true, false, List, [], ◌∷◌, length, Option, Some, None, Result, Ok, Err, ok_or, nat_lt, if◌then◌else◌}
 use Rattle.tb_base.specs.declared.records.Record.{Record}
 use Rattle.tb_base.specs.declared.keys.Keys.{Keys}
+use Rattle.tb_model.specs.Releases.{ReleaseValue, first_release}
 use Rattle.tb_model.specs.Schemas.{SchemaValue}
 use Rattle.tb_model.specs.Setups.{SetupValue}
 use Rattle.tb_ptable.specs.Kinds.{fault_name as ptable_name}
@@ -107,10 +108,15 @@ script_in contents =
     bytes_in input.Script (contents input.Script) >>= (λ bytes.
     or_end end.BadLine (script_of bytes))
 
--- a census: the setup and the microdata's records
+-- a census: the setup, the threshold of release 0 and the microdata's records
 pub record CensusValue : Type 0 where
   pub setup : SetupValue
+  pub threshold : ℕ
   pub records : List Record
+
+-- release 0 of a census
+abbrev pub base_of : CensusValue → ReleaseValue
+base_of census = first_release census.threshold census.records
 
 -- what the files of inputs hold
 abbrev pub census_in : Inputs → Contents → Result CensusValue End
@@ -119,7 +125,8 @@ census_in inputs contents =
     perturbation_in schema.keys contents >>= (λ table.
     people_in schema contents >>= (λ records.
     Ok (record {
-      setup = record { schema = schema; lines = table.lines; threshold = inputs.threshold };
+      setup = record { schema = schema; lines = table.lines };
+      threshold = inputs.threshold;
       records = records;
     }))))
 

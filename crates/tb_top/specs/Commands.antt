@@ -4,7 +4,7 @@ use Rattle.std.specs.Option.{option_or}
 use Rattle.tb_top.specs.declared.command.Command.{Command}
 use Rattle.tb_top.specs.declared.command.Command.TheVariants as command
 use Rattle.tb_top.specs.declared.command.Inputs.{Inputs}
-use Rattle.tb_top.specs.declared.command.TheConstants.{MOST_THRESHOLD}
+use Rattle.tb_base.specs.declared.limits.TheConstants.{MOST_THRESHOLD}
 use Rattle.tb_top.specs.Numbers.{number_within}
 use Rattle.tb_top.specs.Populations.{population_named}
 use Rattle.tb_top.specs.ServicePorts.{service_named}

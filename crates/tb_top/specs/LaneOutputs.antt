@@ -5,9 +5,8 @@ use Rattle.tb_base.specs.declared.status.Status.TheVariants as status
 use Rattle.tb_lanes.specs.Phases.{PhasesGo, Standing, at_first}
 use Rattle.tb_script.specs.Scripts.{ScriptValue}
 use Rattle.tb_serve.specs.Serves.{IsEnded, output}
-use Rattle.tb_top.specs.Asking.{CensusValue}
+use Rattle.tb_top.specs.Asking.{CensusValue, base_of}
 use Rattle.tb_top.specs.Endings.{last_line}
-use Rattle.tb_top.specs.Services.{base_of}
 use Rattle.tb_top.specs.declared.endings.End.TheVariants as end
 
 -- a text is that of the first so many phases, from release 0 of the microdata on

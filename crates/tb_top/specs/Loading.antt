@@ -2,8 +2,9 @@
 use Rattle.std.specs.Prelude.{◌≡◌, ◌≢◌, ◌≤◌, ℕ, List, [], ◌∷◌, IfSome, Option, Result, Ok, Err, length}
 use Rattle.tb_base.specs.Records.{AllFit}
 use Rattle.tb_io.specs.Faults.{HasRisen}
-use Rattle.tb_model.specs.Releases.{first_release}
+use Rattle.tb_model.specs.Releases.{ReleaseValue, first_release}
 use Rattle.tb_model.specs.Schemas.{shape_of}
+use Rattle.tb_model.specs.Setups.{SetupValue}
 use Rattle.tb_top.specs.declared.endings.Input.{Input}
 use Rattle.tb_top.specs.declared.endings.End.{End}
 use Rattle.tb_top.specs.declared.endings.End.TheVariants as end
@@ -73,9 +74,14 @@ Makes view defined (Ok x) = defined ≡ Ok (view x)
 Makes view defined (Err e) =
     (e ≢ end.Usage) × ((file : Input) → e ≢ end.Unread file) × (e ≢ end.Memory → defined ≡ Err e)
 
+-- the census of a setup and its release 0
+abbrev pub census_over : SetupValue → ReleaseValue → CensusValue
+census_over setup base =
+    record { setup = setup; threshold = base.rules.threshold; records = base.records }
+
 -- a census and what is asked for over it, as the definitions see them
 abbrev pub census_value : Census → CensusValue
-census_value c = record { setup = c.setup; records = c.release.records }
+census_value c = census_over c.setup c.release
 
 abbrev pub asked_value : Asked → AskedValue
 asked_value (asked.Script census script) = Script (census_value census) script
@@ -83,11 +89,14 @@ asked_value (asked.Lanes census script) = Lanes (census_value census) script
 asked_value (asked.Serve census service) = Serve (census_value census) service
 asked_value (asked.Gen population census script) = Gen population (census_value census) script
 
+-- a release is release 0 of its records, with its threshold and no other rules
+abbrev pub IsBase : ReleaseValue → Type 0
+IsBase base = base ≡ first_release base.rules.threshold base.records
+
 -- a census begins at release 0 of its records, which fit its schema
 abbrev pub IsFirst : Census → Type 0
 IsFirst c =
-    (c.release ≡ first_release c.setup c.release.records)
-    × AllFit (shape_of c.setup.schema) c.release.records
+    IsBase c.release × AllFit (shape_of c.setup.schema) c.release.records
 
 -- so does what is asked for
 abbrev pub AskedIsFirst : Asked → Type 0

@@ -4,13 +4,12 @@ use Rattle.tb_base.specs.declared.status.Status.{Status}
 use Rattle.tb_base.specs.declared.status.Status.TheVariants as status
 use Rattle.tb_io.specs.Faults.{HasRisen}
 use Rattle.tb_io.specs.Taken.{Took, TookPart}
-use Rattle.tb_model.specs.Releases.{first_release}
 use Rattle.tb_script.specs.Runs.{IsLaneReply}
 use Rattle.tb_script.specs.Scripts.{ScriptValue}
 use Rattle.tb_serve.specs.Ports.{PortValue}
 use Rattle.tb_session.specs.Outputs.{AreReplies, ReplyValue, price_of, text_of}
 use Rattle.tb_top.specs.declared.endings.End.TheVariants as end
-use Rattle.tb_top.specs.Asking.{AskedValue, CensusValue, Gen, Lanes, Script, Serve}
+use Rattle.tb_top.specs.Asking.{AskedValue, CensusValue, Gen, Lanes, Script, Serve, base_of}
 use Rattle.tb_top.specs.Endings.{IsEnded, IsLineWritten, last_line}
 use Rattle.tb_top.specs.LaneOutputs.{AreLanesAnswered, IsTextOfPhases, IsTextToMemory}
 use Rattle.tb_top.specs.Populations.{Population}
@@ -20,7 +19,7 @@ use Rattle.tb_top.specs.Summaries.{summary_line}
 -- these are replies to the script's lines, one after another, from release 0 of the microdata on
 abbrev pub AreScriptReplies : CensusValue → ScriptValue → List ReplyValue → Type 0
 AreScriptReplies census script replies =
-    AreReplies (IsLaneReply census.setup (first_release census.setup census.records))
+    AreReplies (IsLaneReply census.setup (base_of census))
     (record { chain = []; held = [] }) script.lines replies
 
 -- the same of what is asked for, which may be a summary of them; lanes that are answered at the same

@@ -2,19 +2,14 @@
 use Rattle.std.specs.Prelude.{◌≡◌, ◌⊎◌, ◌+◌, ◌≤◌, ℕ, List, Option, None, false, length, take, drop}
 use Rattle.tb_base.specs.declared.status.Status.{Status}
 use Rattle.tb_base.specs.declared.status.Status.TheVariants as status
-use Rattle.tb_model.specs.Releases.{ReleaseValue, first_release}
 use Rattle.tb_release.specs.Batches.{BatchValue}
 use Rattle.tb_serve.specs.Each.{Each}
 use Rattle.tb_serve.specs.Ports.{PortValue}
 use Rattle.tb_serve.specs.Reports.{net_line, report}
 use Rattle.tb_serve.specs.Serves.{IsPortServed, Serves, final_status, output}
 use Rattle.tb_serve.specs.Stages.{HasRisenSome, IsUntouched}
-use Rattle.tb_top.specs.Asking.{CensusValue}
+use Rattle.tb_top.specs.Asking.{CensusValue, base_of}
 use Rattle.tb_top.specs.ServicePorts.{Service}
-
--- release 0 of a census
-abbrev pub base_of : CensusValue → ReleaseValue
-base_of census = first_release census.setup census.records
 
 -- the ports of a service: the custodian's, and one for each worker
 abbrev pub ports_of : Service → List PortValue → List PortValue

@@ -14,9 +14,7 @@ use crate::numbers::read_within;
 use crate::population::{Population, read_population};
 use crate::service::{Service, read_service};
 use std::marker::Model;
-
-/// The greatest threshold.
-pub const MOST_THRESHOLD: u32 = 1_000_000;
+use tb_base::MOST_THRESHOLD;
 
 /// The threshold over generated files.
 pub const GENERATED_THRESHOLD: u32 = 10;

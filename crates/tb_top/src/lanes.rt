@@ -1,10 +1,9 @@
 // The lanes of a script, answered at the same time over a census.
 
 ghost use Rattle.std.specs.Prelude.{◌≡◌};
-ghost use Rattle.tb_model.specs.Releases.{first_release};
 ghost use Rattle.tb_model.specs.Schemas.{shape_of};
 ghost use Rattle.tb_top.specs.LaneOutputs.{AreLanesAnswered};
-ghost use Rattle.tb_top.specs.Loading.{IsFirst, census_value};
+ghost use Rattle.tb_top.specs.Loading.{IsBase, IsFirst, census_over, census_value};
 
 use crate::endings::End;
 use crate::load::Census;
@@ -32,10 +31,8 @@ fn answer_on_board<B: Named + Send + Sync, R: Threads + Wait + Sync, O: Sink>(
 ) -> Status
     requires name { opening.name ≡ B.name }
     requires shape { opening.start.shape ≡ shape_of setup.now.schema }
-    requires first { opening.start.base
-        ≡ first_release setup.now opening.start.base.records }
-    ensures { AreLanesAnswered
-        (record { setup = setup.now; records = opening.start.base.records }) script.now result
+    requires first { IsBase opening.start.base }
+    ensures { AreLanesAnswered (census_over setup.now opening.start.base) script.now result
         (O.faults out.old) (O.faults out.new) (O.taken out.old) (O.taken out.new) }
 {
     let Ok(mut gates) = open_gates(alloc, script) else {

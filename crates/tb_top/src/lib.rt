@@ -32,7 +32,7 @@ mod service;
 mod summary;
 mod top;
 
-pub use command::{Command, FileName, GENERATED_THRESHOLD, Inputs, MOST_THRESHOLD, read_command};
+pub use command::{Command, FileName, GENERATED_THRESHOLD, Inputs, read_command};
 pub use endings::{End, Input};
 pub use load::{Asked, Census, MOST_BYTES, most_bytes_of};
 pub use population::Population;

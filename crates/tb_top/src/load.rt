@@ -4,7 +4,6 @@ ghost use Rattle.std.specs.Prelude.{◌≡◌, ◌≤◌, [], ◌∷◌, ◌++�
 ghost use Rattle.std.specs.Prelude.{IfOk, option_map};
 ghost use Rattle.tb_base.specs.declared.people.TheConstants.{MOST_PERSONS};
 ghost use Rattle.tb_base.specs.Records.{AllFit};
-ghost use Rattle.tb_model.specs.Releases.{first_release};
 ghost use Rattle.tb_model.specs.Schemas.{shape_of};
 ghost use Rattle.tb_top.specs.declared.command.Command.TheVariants as command;
 ghost use Rattle.tb_top.specs.declared.endings.Input.TheVariants as input;
@@ -22,7 +21,7 @@ use crate::generated::load_generated;
 use crate::population::Population;
 use crate::service::Service;
 use std::alloc::Global;
-use tb_base::{Keys, People};
+use tb_base::{Keys, People, Rules};
 use tb_io::{FileRead, Files};
 use tb_ptable::PTable;
 use tb_records::read_people;
@@ -200,13 +199,9 @@ pub(crate) fn load_census<F: Files>(
     let schema = load_schema(alloc, files, inputs)?;
     let ptable = load_ptable(alloc, files, &inputs.ptable, schema.keys())?;
     let people = load_people(alloc, files, &inputs.people, &schema)?;
-    let release = Release::first(alloc, people)?;
-    let threshold = inputs.threshold;
-    let setup = Setup {
-        schema,
-        ptable,
-        threshold,
-    };
+    let rules = Rules::new(alloc, inputs.threshold);
+    let release = Release::first(alloc, people, rules)?;
+    let setup = Setup { schema, ptable };
     Ok(Census { setup, release })
 }
 

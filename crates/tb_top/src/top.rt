@@ -2,13 +2,13 @@
 
 ghost use Rattle.std.specs.Prelude.{◌≡◌, ◌≤◌, ◌+◌, All, IfSome, None, map, string_bytes, vec_len};
 ghost use Rattle.tb_base.specs.declared.status.Status.TheVariants as status;
-ghost use Rattle.tb_model.specs.Releases.{first_release};
 ghost use Rattle.tb_model.specs.Schemas.{shape_of};
 ghost use Rattle.tb_serve.specs.Stages.{IsFresh};
 ghost use Rattle.tb_top.specs.declared.service.TheConstants.{MOST_WORKERS};
 ghost use Rattle.tb_top.specs.Asking.{Script as AskedScript};
 ghost use Rattle.tb_top.specs.declared.endings.End.TheVariants as end;
-ghost use Rattle.tb_top.specs.Loading.{AskedIsFirst, IsFirst, asked_value, census_value};
+ghost use Rattle.tb_top.specs.Loading.{AskedIsFirst, IsBase, IsFirst, asked_value};
+ghost use Rattle.tb_top.specs.Loading.{census_over, census_value};
 ghost use Rattle.tb_top.specs.Endings.{IsEnded, IsLineWritten};
 ghost use Rattle.tb_top.specs.Outputs.{IsAnswered, IsGenAnswered, IsScriptAnswered};
 ghost use Rattle.tb_top.specs.Services.{IsServiceAnswered};
@@ -59,10 +59,9 @@ fn answer_on_board<B: Named, R: Threads + Wait + Sync, O: Sink, L: Ledger>(
 ) -> Status
     requires name { opening.name ≡ B.name }
     requires shape { opening.start.shape ≡ shape_of setup.now.schema }
-    requires first { opening.start.base
-        ≡ first_release setup.now opening.start.base.records }
+    requires first { IsBase opening.start.base }
     ensures { IsScriptAnswered (AskedScript
-        (record { setup = setup.now; records = opening.start.base.records }) script.now) result
+        (census_over setup.now opening.start.base) script.now) result
         (O.faults out.old) (O.faults out.new) (O.taken out.old) (O.taken out.new)
         steps.old steps.new }
 {
@@ -213,8 +212,8 @@ fn answer<R: Threads + Wait + Sync, O: Sink, N: Listen + Send, L: Ledger>(
 /// refused.
 ///
 /// A printed table is the perturbed table counted from scratch over the release of its number, to
-/// which the custodian's lines before it led, and a query is refused for the first fault of its
-/// text, whatever cubes are kept. A line that finds no memory gets the reply `memory`, and the next
+/// which the custodian's lines before it led, by the perturbation table and threshold of that
+/// release, and a query is refused for the first fault of its text, whatever cubes are kept. A line that finds no memory gets the reply `memory`, and the next
 /// line is answered. The counter rises by how many records and changes are lent: for a table the
 /// release's records at most once, or, where a cube is kept, the changes that it is behind. It
 /// takes memory for the files, for what they say, for one table at a time, for at most 64 cubes or

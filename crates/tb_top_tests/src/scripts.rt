@@ -10,7 +10,7 @@ struct Script {
     replies: &'static [u8],
 }
 
-static SCRIPTS: [Script; 18] = [
+static SCRIPTS: [Script; 22] = [
     Script {
         name: "totals_are_cells_of_their_own",
         lines: b"a table SEX with totals\n",
@@ -69,6 +69,42 @@ static SCRIPTS: [Script; 18] = [
             custodian drop 4294967296\ncustodian publish\n",
         replies: b"refused edit 6 Missing\nrefused edit 4 UnknownCode\n\
             refused edit 2 BadNumber\nrefused batch 0 5 Nothing\n",
+    },
+    Script {
+        name: "rules_by_publication",
+        lines: b"a table SEX\ncustodian pvalue 3 64 5\ncustodian threshold 3\ncustodian publish\n\
+            a table SEX\n",
+        replies: b"release 0\nSEX,count\n1,1\n2,2\n.\nheld 1\nheld 2\npublished 1\n\
+            release 1\nSEX,count\n1,8\n2,c\n.\n",
+    },
+    Script {
+        name: "rules_by_publication",
+        lines: b"custodian pvalue 3 64 -4\ncustodian pvalue 0 0 0\ncustodian threshold 1000001\n\
+            custodian publish\na threshold 3\na pvalue 3 64 5\n",
+        replies: b"refused edit 2 BadNumber\nrefused edit 2 BadNumber\n\
+            refused edit 2 BadNumber\nrefused batch 0 5 Nothing\n\
+            refused 2 Syntax 1\nrefused 2 Syntax 1\n",
+    },
+    // The batch is refused for its second edit, so the first sets nothing.
+    Script {
+        name: "a_rule_edit_in_a_refused_batch",
+        lines: b"custodian threshold 3\ncustodian drop 999\ncustodian pvalue 3 64 5\n\
+            custodian publish\na table SEX\ncustodian publish\n",
+        replies: b"held 1\nheld 2\nheld 3\nrefused batch 2 2 NoSuchPerson\n\
+            release 0\nSEX,count\n1,1\n2,2\n.\nrefused batch 0 5 Nothing\n",
+    },
+    // The cube of release 0 serves the releases whose rules alone are others. At row 1 and cell key
+    // 7 the file lists 1, and at row 3 and cell key 127 (102, 103, 104) 3; what was set last stands.
+    Script {
+        name: "a_cube_over_other_rules",
+        lines: b"a table SEX with totals\ncustodian pvalue 1 7 0\ncustodian pvalue 1 7 -1\n\
+            custodian publish\na table SEX\ncustodian drop 101\ncustodian pvalue 1 7 0\n\
+            custodian threshold 1\ncustodian publish\na table SEX with totals\n\
+            custodian stats\n",
+        replies: b"release 0\nSEX,count\n1,1\n2,2\nTotal,6\n.\nheld 1\nheld 2\n\
+            published 1\nrelease 1\nSEX,count\n1,1\n2,0\n.\nheld 1\nheld 2\nheld 3\n\
+            published 2\nrelease 2\nSEX,count\n1,2\n2,1\nTotal,6\n.\n\
+            stats release 2 looks 3 hits 2 entries 1 capacity 64\n",
     },
     // Room for one cube: AREA takes the place of SEX; it is found at release 0, and at release 1,
     // one change behind; SEX is looked for and not found again.

@@ -24,7 +24,7 @@ offer-requires-clause-cube g c =
     let taken = c.in_ok-taken.taken in
     let shape : seen.start.shape ≡ c.args.shape.now = ap (λ (s : StartValue). s.shape) c.in_ok-taken.ensures.later.base ∙ c.requires.own.fits in
     let vars : c.vars-2.result.now ≡ c.vars-in-Made.result.now = c.vars-2.ensures.vars ∙ sym c.vars-in-Made.ensures.vars in
-    let number : c.number-number.result ≡ number_of taken = c.number-number.ensures ∙ ap (λ r. r.number) c.deref-2.ensures in
+    let number : c.number-number.result ≡ number_of taken = c.number-number.ensures ∙ ap (λ r. r.number) c.deref-3.ensures in
     let cube : unpacked c.in-Made.cube ≡ cube_over seen.start.shape c.vars-in-Made.result.now (release_in taken).records =
     sym (ap cube_got c.in-Made.is)
     ∙ c.in_ok-got.ensures.cube

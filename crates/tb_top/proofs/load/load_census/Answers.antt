@@ -1,12 +1,17 @@
-use Rattle.std.proofs.Common.{◌≡◌, ◌∙◌, ap, sym, refl, List, Ok, Err}
+use Rattle.std.proofs.Common.{◌≡◌, ◌∙◌, ap, subst, sym, refl, ℕ, List, Ok, Err}
 use Rattle.std.proofs.lemmas.Result.{err_from_is_err_and}
 use Rattle.tb_base.specs.declared.records.Record.{Record}
-use Rattle.tb_model.specs.Releases.{first_release}
-use Rattle.tb_model.specs.Setups.{SetupValue}
+use Rattle.tb_base.specs.Rules.{RulesValue, first_rules}
+use Rattle.tb_model.specs.Releases.{ReleaseValue, first_release}
 use Rattle.tb_top.specs.Asking.{people_in}
-use Rattle.tb_top.specs.Loading.{census_value}
+use Rattle.tb_top.specs.Loading.{IsBase, census_over, census_value}
 use Rattle.tb_top.proofs.LoadSteps.{Loads-ends, Loads-fails, Loads-memory, census-no-ptable, census-no-schema, census-steps, census_with}
 use Rattle.tb_top.proofs.load.load_census.Goals as goal
+
+-- release 0 by rules that are new
+made : (threshold : ℕ) (rules : RulesValue) (people : List Record) (release : ReleaseValue)
+    → rules ≡ first_rules threshold → release ≡ first_release rules.threshold people → release ≡ first_release threshold people
+made threshold rules people release new first = first ∙ ap (λ (r : RulesValue). first_release r.threshold people) new
 
 pub returns-in_err-schema-clause-loads : goal.returns-in_err-schema-clause-loads
 returns-in_err-schema-clause-loads g c =
@@ -46,21 +51,14 @@ returns-clause-loads g c =
     let inputs = c.args.inputs.now in
     let schema = c.in_ok-schema.schema in
     let table = c.in_ok-ptable.ptable in
-    let setup : SetupValue = record { schema = schema; lines = table.lines; threshold = inputs.threshold } in
-    let same : c.in_ok-release.release.records ≡ c.in_ok-people.people = ap (λ r. r.records) (c.in_ok-release.ensures setup) in
+    let first = made inputs.threshold c.new.result c.in_ok-people.people _ c.new.ensures c.in_ok-release.ensures in
     census-steps census_value inputs schema table _ refl refl refl refl refl refl c.in_ok-schema.ensures.loads (rw c.keys.ensures at c.in_ok-ptable.ensures.loads)
     (Loads-ends (λ people. people) census_value (people_in schema)
     (λ contents records. Ok (census_with inputs schema table records)) c.in_ok-people.people _
-    (λ contents. ap (λ (rs : List Record). Ok (census_with inputs schema table rs)) (sym same)) c.in_ok-people.ensures.loads)
+    (λ contents. ap (λ (r : ReleaseValue). Ok (census_over (record { schema = schema; lines = table.lines }) r)) (sym first)) c.in_ok-people.ensures.loads)
 
 pub returns-clause-first : goal.returns-clause-first
 returns-clause-first g c =
-    let setup : SetupValue = record {
-      schema = c.in_ok-schema.schema;
-      lines = c.in_ok-ptable.ptable.lines;
-      threshold =
-          c.args.inputs.now.threshold;
-    } in
-    let first = c.in_ok-release.ensures setup in
+    let first = made c.args.inputs.now.threshold c.new.result c.in_ok-people.people _ c.new.ensures c.in_ok-release.ensures in
     let same : c.in_ok-release.release.records ≡ c.in_ok-people.people = ap (λ r. r.records) first in
-    (first ∙ ap (λ (rs : List Record). first_release setup rs) (sym same), rw same c.in_ok-people.ensures.fit)
+    (subst IsBase (sym first) refl, rw same c.in_ok-people.ensures.fit)
