@@ -4,7 +4,7 @@ ghost use Rattle.std.specs.Prelude.{None};
 
 use std::io;
 use std::io::{Printer, Write};
-use tb_io::{Sink, Wrote};
+use tb_io::{Sink, Wrote, count_fault};
 
 /// The standard output, to which each piece goes at once. It takes no memory.
 #[derive(Drop)]
@@ -29,12 +29,7 @@ impl<'a, P: Print> Sink for Unbuffered<'a, P> {
     ghost taken = { λ _. None };
 
     fn write(&mut self, bytes: &[u8]) -> Wrote {
-        match self.out.write_all(bytes) {
-            Ok(()) => Wrote::All,
-            Err(_) => {
-                self.faults = self.faults.saturating_add(1);
-                Wrote::Failed
-            }
-        }
+        let outcome = self.out.write_all(bytes);
+        count_fault(outcome, &mut self.faults)
     }
 }

@@ -22,6 +22,14 @@ pub rest_of-feed : (xs ys : List ℕ) → has_line_feed xs ≡ false → rest_of
 rest_of-feed [] ys h = refl
 rest_of-feed (x ∷ xs) ys h = rw (feed-first x xs h) (rest_of-feed xs ys (feed-rest x xs h))
 
+-- a line feed between other bytes is among them
+pub has-feed : (xs ys : List ℕ) → has_line_feed (xs ++ 10 ∷ ys) ≡ true
+has-feed [] ys = refl
+has-feed (x ∷ xs) ys = elim (cases_Bool (is_line_feed x)) [
+  | inl t ↦ rw t refl
+  | inr f ↦ rw f (has-feed xs ys)
+]
+
 -- a line without a line feed
 pub line_of-all : (xs : List ℕ) → has_line_feed xs ≡ false → line_of xs ≡ xs
 line_of-all [] h = refl
@@ -44,3 +52,36 @@ no_feed (x ∷ xs) h = let here : is_line_feed x ≡ false = h 0 (omega arith) i
 pub feed_free : (xs ys : List ℕ) → has_line_feed xs ≡ false → has_line_feed ys ≡ false → has_line_feed (xs ++ ys) ≡ false
 feed_free [] ys h k = k
 feed_free (x ∷ xs) ys h k = rw (feed-first x xs h) (feed_free xs ys (feed-rest x xs h) k)
+
+-- a line feed stays among bytes where more come, the first line then stays, and what follows it grows
+more_feeds : (x : ℕ) (xs : List ℕ) → is_line_feed x ≡ false → has_line_feed (x ∷ xs) ≡ true → has_line_feed xs ≡ true
+more_feeds x xs f h = rw f at h
+
+pub has-feed-more : (xs ys : List ℕ) → has_line_feed xs ≡ true → has_line_feed (xs ++ ys) ≡ true
+has-feed-more [] ys h = absurd (cc)
+has-feed-more (x ∷ xs) ys h = elim (cases_Bool (is_line_feed x)) [
+  | inl t ↦ rw t refl
+  | inr f ↦ rw f (has-feed-more xs ys (more_feeds x xs f h))
+]
+
+pub line_of-more : (xs ys : List ℕ) → has_line_feed xs ≡ true → line_of (xs ++ ys) ≡ line_of xs
+line_of-more [] ys h = absurd (cc)
+line_of-more (x ∷ xs) ys h = elim (cases_Bool (is_line_feed x)) [
+  | inl t ↦ rw t refl
+  | inr f ↦ rw f (ap (λ zs. x ∷ zs) (line_of-more xs ys (more_feeds x xs f h)))
+]
+
+pub rest_of-more : (xs ys : List ℕ) → has_line_feed xs ≡ true → rest_of (xs ++ ys) ≡ rest_of xs ++ ys
+rest_of-more [] ys h = absurd (cc)
+rest_of-more (x ∷ xs) ys h = elim (cases_Bool (is_line_feed x)) [
+  | inl t ↦ rw t refl
+  | inr f ↦ rw f (rest_of-more xs ys (more_feeds x xs f h))
+]
+
+-- what follows the first line is no longer than all
+pub rest_of-short : (xs : List ℕ) → length (rest_of xs) ≤ length xs
+rest_of-short [] = omega arith
+rest_of-short (x ∷ xs) = elim (cases_Bool (is_line_feed x)) [
+  | inl t ↦ rw t (omega arith)
+  | inr f ↦ let short = rest_of-short xs in rw f (omega (arith, short))
+]

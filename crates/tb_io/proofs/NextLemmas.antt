@@ -1,16 +1,16 @@
 -- What comes next, from the bytes that were read ahead and those that the source has left.
-use Rattle.std.proofs.Common.{◌≡◌, ◌≢◌, ◌∙◌, sym, ap, subst, refl, ℕ, ◌+◌, ◌<◌, ◌≤◌, false, List, [], ◌∷◌, ◌++◌, length, take, drop, get_or, Option, None, Some, arith, append_assoc, append-nil, length-append, length-take-le}
+use Rattle.std.proofs.Common.{◌≡◌, ◌≢◌, ◌∙◌, sym, ap, subst, refl, ℕ, ◌+◌, ◌<◌, ◌≤◌, Bool, true, false, not, List, [], ◌∷◌, ◌++◌, length, take, drop, get_or, Option, None, Some, arith, append_assoc, append-nil, length-append, length-take-le}
 use Rattle.std.proofs.lemmas.List.{take-append-drop, drop_more, drop_all, take_all, nil_from_length}
 use Rattle.std.proofs.Math.Seq.{take-append_seam}
 use Rattle.tb_io.specs.Lines.{has_line_feed, line_of, rest_of}
-use Rattle.tb_io.specs.NextLines.{IsNext, IsNextOf, Takes}
+use Rattle.tb_io.specs.NextLines.{IsNext, IsNextOf, Takes, has_ended}
 use Rattle.tb_io.specs.Rooms.{Fills, IsFirstFeed}
 use Rattle.tb_io.specs.Sources.{Gave, IsAtEnd, stream_of}
 use Rattle.tb_io.specs.declared.room.TheConstants.{ROOM}
 use Rattle.tb_io.specs.declared.line_reader.NextLine.{NextLine}
 use Rattle.tb_io.specs.declared.line_reader.NextLine.TheVariants.{Line, End, TooLong, ReadFault}
 use Rattle.tb_io.specs.declared.read.Read.TheVariants as read
-use Rattle.tb_io.proofs.LineLemmas.{line_of-all, line_of-feed, line_of-longer, rest_of-all, rest_of-feed}
+use Rattle.tb_io.proofs.LineLemmas.{has-feed, line_of-all, line_of-feed, line_of-longer, rest_of-all, rest_of-feed}
 
 -- a list of some bytes isn't empty
 some_bytes : (xs ys : List ℕ) → 0 < length xs → (xs ++ ys) ≢ []
@@ -32,6 +32,11 @@ line_here ahead (Some left) i (lt, byte, none) few =
     let line : line_of (ahead ++ left) ≡ take i ahead = ap line_of cut ∙ line_of-feed (take i ahead) (drop (i + 1) ahead ++ left) none in
     let rest : rest_of (ahead ++ left) ≡ drop (i + 1) ahead ++ left = ap rest_of cut ∙ rest_of-feed (take i ahead) (drop (i + 1) ahead ++ left) none in
     (drop (i + 1) ahead ++ left, refl, (some_bytes ahead left (omega (arith, lt)), sym line, omega (arith, length-take-le i ahead (omega (arith, lt)), lt, few), sym rest))
+
+-- there is a line feed where there is a first
+feed_there : (ahead : List ℕ) (i : ℕ) → IsFirstFeed ahead (Some i) → has_line_feed ahead ≡ true
+feed_there ahead i (lt, byte, none) =
+    ap has_line_feed (sym (append-nil ahead) ∙ cut_at ahead [] i lt byte) ∙ has-feed (take i ahead) (drop (i + 1) ahead ++ [])
 
 -- a line that a line feed ends
 pub next-line : (ahead : List ℕ) (left stream : Option (List ℕ)) (i : ℕ) (line rest : List ℕ) → stream_of ahead left ≡ stream → IsFirstFeed ahead (Some i) → length ahead ≤ ROOM
@@ -88,11 +93,11 @@ pub record Gathered (before after : Option (List ℕ)) (old new : List ℕ) : Ty
   pub gave : Gave before after given
   pub whole : new ≡ old ++ given
 
-Gave-none : (left : Option (List ℕ)) → Gave left left []
+pub Gave-none : (left : Option (List ℕ)) → Gave left left []
 Gave-none None = refl
 Gave-none (Some left) = refl
 
-Gave-more : (a b c : Option (List ℕ)) (xs ys : List ℕ) → Gave a b xs → Gave b c ys → Gave a c (xs ++ ys)
+pub Gave-more : (a b c : Option (List ℕ)) (xs ys : List ℕ) → Gave a b xs → Gave b c ys → Gave a c (xs ++ ys)
 Gave-more None None c xs ys h k = k
 Gave-more None (Some b) c xs ys h k = absurd (cc)
 Gave-more (Some a) None c xs ys h k = absurd h
@@ -127,32 +132,47 @@ at-hand next ahead line rest (left, is_after, so) =
     some_same xs ys e = cc
 
 -- what was taken
-module _ (before after later : Option (List ℕ)) (old ahead line new : List ℕ) (so_far : Gathered before after old ahead) (stays : later ≡ after) (few : length ahead ≤ ROOM) where
-  takes : (next : NextLine) → IsNext next ahead line new → (next ≡ ReadFault → has_line_feed new ≡ false) → Takes next before later old line new
-  takes next so none = (
-    so_far.given,
-    subst (λ l. Gave before l so_far.given) (sym stays) so_far.gave,
-    omega (arith, ap length so_far.whole, length-append old so_far.given, few),
-    subst (λ bs. IsNext next bs line new) so_far.whole so,
-    none,
-  )
+module _ (before after later : Option (List ℕ)) (old ahead line new : List ℕ) (ended : Bool) (so_far : Gathered before after old ahead) (stays : later ≡ after) (few : length ahead ≤ ROOM) where
+  takes : (next : NextLine) → IsNext next ahead line new → (next ≡ ReadFault → has_line_feed new ≡ false) → ended ≡ has_ended next ahead → Takes next before later old line new ended
+  takes next so none is_end = record {
+    given = so_far.given;
+    gave = subst (λ l. Gave before l so_far.given) (sym stays) so_far.gave;
+    few = omega (arith, ap length so_far.whole, length-append old so_far.given, few);
+    is_next = subst (λ bs. IsNext next bs line new) so_far.whole so;
+    no_feed = none;
+    has_ended = is_end ∙ ap (has_ended next) so_far.whole;
+  }
 
-  pub takes-line : (i : ℕ) → IsFirstFeed ahead (Some i) → line ≡ take i ahead → new ≡ drop (i + 1) ahead → Takes Line before later old line new
-  takes-line i feed is_line is_new = takes Line (at-hand Line ahead line new (next-line ahead (Some []) (Some (ahead ++ [])) i line new refl feed few is_line is_new)) (λ e. absurd (cc))
+  pub takes-line : (i : ℕ) → IsFirstFeed ahead (Some i) → line ≡ take i ahead → new ≡ drop (i + 1) ahead → ended ≡ false → Takes Line before later old line new ended
+  takes-line i feed is_line is_new goes =
+      takes Line (at-hand Line ahead line new (next-line ahead (Some []) (Some (ahead ++ [])) i line new refl feed few is_line is_new)) (λ e. absurd (cc)) (goes ∙ ap not (sym (feed_there ahead i feed)))
 
-  pub takes-last : (known : ℕ) (here : List ℕ) → has_line_feed ahead ≡ false → known ≡ length ahead → known ≢ 0 → known ≢ ROOM → here ≡ ahead → line ≡ take known here → new ≡ drop (known + 0) here → Takes Line before later old line new
-  takes-last known here none is_known some not_full is_here is_line is_new =
+  pub takes-last : (known : ℕ) (here : List ℕ) → has_line_feed ahead ≡ false → known ≡ length ahead → known ≢ 0 → known ≢ ROOM → here ≡ ahead → line ≡ take known here → new ≡ drop (known + 0) here → ended ≡ true → Takes Line before later old line new ended
+  takes-last known here none is_known some not_full is_here is_line is_new is_end =
       takes Line (at-hand Line ahead line new (next-last ahead (Some []) (Some []) (Some (ahead ++ [])) known here line new refl none is_known some not_full (omega (arith, is_known, few)) (is_here, refl, refl) is_line is_new)) (λ e. absurd (cc))
+      (is_end ∙ ap not (sym none))
 
-  pub takes-end : length ahead ≡ 0 → new ≡ ahead → Takes End before later old line new
-  takes-end empty is_new = takes End (at-hand End ahead line new (next-end ahead (Some []) (Some []) (Some (ahead ++ [])) new line refl empty (is_new, refl, refl))) (λ e. absurd (cc))
+  pub takes-end : length ahead ≡ 0 → new ≡ ahead → ended ≡ true → Takes End before later old line new ended
+  takes-end empty is_new is_end = takes End (at-hand End ahead line new (next-end ahead (Some []) (Some []) (Some (ahead ++ [])) new line refl empty (is_new, refl, refl))) (λ e. absurd (cc)) is_end
 
-  pub takes-long : has_line_feed ahead ≡ false → length ahead ≡ ROOM → new ≡ ahead → Takes TooLong before later old line new
-  takes-long none full is_new =
-      takes TooLong (subst (λ r. IsNext TooLong ahead line r) (sym is_new) (at-hand TooLong ahead line ahead (next-long ahead line (Some []) (Some (ahead ++ [])) refl none full))) (λ e. absurd (cc))
+  pub takes-long : has_line_feed ahead ≡ false → length ahead ≡ ROOM → new ≡ ahead → ended ≡ false → Takes TooLong before later old line new ended
+  takes-long none full is_new goes =
+      takes TooLong (subst (λ r. IsNext TooLong ahead line r) (sym is_new) (at-hand TooLong ahead line ahead (next-long ahead line (Some []) (Some (ahead ++ [])) refl none full))) (λ e. absurd (cc)) goes
 
-  pub takes-fault : has_line_feed ahead ≡ false → new ≡ ahead → Takes ReadFault before later old line new
-  takes-fault none is_new = takes ReadFault is_new (λ e. ap has_line_feed is_new ∙ none)
+  pub takes-fault : has_line_feed ahead ≡ false → new ≡ ahead → ended ≡ false → Takes ReadFault before later old line new ended
+  takes-fault none is_new goes = takes ReadFault is_new (λ e. ap has_line_feed is_new ∙ none) goes
+
+-- nothing is left where a read said so, and no bytes were read ahead, or all are the line
+all_read : (rest : List ℕ) (before after : Option (List ℕ)) → rest ≡ [] → IsAtEnd before → after ≡ before → IsAtEnd (stream_of rest after)
+all_read rest None after nil at_end stays = subst (λ a. IsAtEnd (stream_of rest a)) (sym stays) tt
+all_read rest (Some left) after nil at_end stays = subst (λ a. IsAtEnd (stream_of rest a)) (sym stays) (ap (λ r. r ++ left) nil ∙ at_end)
+
+pub end-none : (ahead new : List ℕ) (before after : Option (List ℕ)) → length ahead ≡ 0 → Fills read.End before after ahead new → IsAtEnd (stream_of new after)
+end-none ahead new before after empty (is_new, at_end, stays) = all_read new before after (is_new ∙ nil_from_length ahead empty) at_end stays
+
+pub end-last : (ahead new rest : List ℕ) (before after : Option (List ℕ)) (known : ℕ) → known ≡ length ahead → Fills read.End before after ahead new → rest ≡ drop (known + 0) new → IsAtEnd (stream_of rest after)
+end-last ahead new rest before after known is_known (is_new, at_end, stays) is_rest =
+    all_read rest before after (is_rest ∙ ap (λ xs. drop (known + 0) xs) is_new ∙ drop_all (known + 0) ahead (omega (arith, is_known))) at_end stays
 
 -- the bytes that were known to be no line feeds, and how many they are
 pub known-more : (n : ℕ) (before after : Option (List ℕ)) (ahead new : List ℕ) (known : ℕ) → known ≡ length ahead → has_line_feed ahead ≡ false → Fills (read.Got n) before after ahead new

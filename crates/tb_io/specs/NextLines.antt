@@ -1,6 +1,6 @@
 -- What a call of `next_line` says of the bytes still to come.
-use Rattle.std.specs.Prelude.{◌≡◌, ◌≢◌, ℕ, ◌+◌, ◌<◌, ◌≤◌, false, List, [], ◌++◌, length}
-use Rattle.std.specs.Prelude.{Option, None, Some}
+use Rattle.std.specs.Prelude.{◌≡◌, ◌≢◌, ℕ, ◌+◌, ◌<◌, ◌≤◌, Bool, true, false, not, List, [], ◌++◌}
+use Rattle.std.specs.Prelude.{length, Option, None, Some}
 use Rattle.tb_io.specs.Lines.{has_line_feed, line_of, rest_of}
 use Rattle.tb_io.specs.Sources.{Gave}
 use Rattle.tb_io.specs.declared.limits.TheConstants.{MOST_LINE_BYTES}
@@ -24,10 +24,23 @@ IsNextOf next None line after = after ≡ None
 IsNextOf next (Some stream) line after =
     (left : List ℕ) × (after ≡ Some left) × IsNext next stream line left
 
+-- whether a reader has ended, by what a call returned of the bytes at hand: the end, or a line that
+-- no line feed ends
+abbrev pub has_ended : NextLine → List ℕ → Bool
+has_ended Line bytes = not (has_line_feed bytes)
+has_ended End bytes = true
+has_ended TooLong bytes = false
+has_ended ReadFault bytes = false
+
 -- the source gave some bytes, with those read ahead at the call no more than a longest line and
 -- its line feed, and what was returned is so of these bytes, whether or not the source tells what
--- it has left; where a fault came, no line feed is among them
-abbrev pub Takes : NextLine → Option (List ℕ) → Option (List ℕ) → List ℕ → List ℕ → List ℕ → Type 0
-Takes next before after old line new =
-    (given : List ℕ) × Gave before after given × (length old + length given ≤ MOST_LINE_BYTES + 1)
-    × IsNext next (old ++ given) line new × (next ≡ ReadFault → has_line_feed new ≡ false)
+-- it has left; where a fault came, no line feed is among them; and they tell whether the reader has
+-- ended
+pub record Takes (next : NextLine) (before after : Option (List ℕ)) (old line new : List ℕ)
+    (ended : Bool) : Type 0 where
+  pub given : List ℕ
+  pub gave : Gave before after given
+  pub few : length old + length given ≤ MOST_LINE_BYTES + 1
+  pub is_next : IsNext next (old ++ given) line new
+  pub no_feed : next ≡ ReadFault → has_line_feed new ≡ false
+  pub has_ended : ended ≡ has_ended next (old ++ given)

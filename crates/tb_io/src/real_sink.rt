@@ -2,7 +2,7 @@ ghost use Rattle.std.specs.Prelude.{◌≡◌, ◌≤◌, None, IfOk};
 ghost use Rattle.tb_io.specs.Faults.{HasRisen};
 ghost use Rattle.tb_io.specs.declared.answers.Wrote.TheVariants as wrote;
 
-use crate::answers::Wrote;
+use crate::answers::{Wrote, count_fault};
 use crate::sink::Sink;
 use std::alloc::Global;
 use std::io;
@@ -40,13 +40,8 @@ impl<'a, P: Print> RealSink<'a, P> {
         ensures count { self.old.faults ≤ self.new.faults }
         ensures failed { result ≡ wrote.Failed → HasRisen self.old.faults self.new.faults }
     {
-        match self.out.flush() {
-            Ok(()) => Wrote::All,
-            Err(_) => {
-                self.faults = self.faults.saturating_add(1);
-                Wrote::Failed
-            }
-        }
+        let outcome = self.out.flush();
+        count_fault(outcome, &mut self.faults)
     }
 }
 
@@ -57,12 +52,7 @@ impl<'a, P: Print> Sink for RealSink<'a, P> {
 
     /// Puts the piece into the buffer, and writes that out where it is full.
     fn write(&mut self, bytes: &[u8]) -> Wrote {
-        match self.out.write_all(bytes) {
-            Ok(()) => Wrote::All,
-            Err(_) => {
-                self.faults = self.faults.saturating_add(1);
-                Wrote::Failed
-            }
-        }
+        let outcome = self.out.write_all(bytes);
+        count_fault(outcome, &mut self.faults)
     }
 }

@@ -4,7 +4,7 @@
 ghost use Rattle.std.specs.Prelude.{◌≡◌, None, IfOk};
 ghost use Rattle.std.specs.Io.{ReadsAtMost};
 
-use crate::answers::Wrote;
+use crate::answers::{Wrote, count_fault};
 use crate::read::Read;
 use crate::sink::Sink;
 use crate::source::Source;
@@ -174,13 +174,8 @@ impl Sink for RealStreamSink {
 
     /// Waits for the peer where there is no room and it is behind.
     fn write(&mut self, bytes: &[u8]) -> Wrote {
-        match self.outbox.put(bytes) {
-            Ok(()) => Wrote::All,
-            Err(_) => {
-                self.faults = self.faults.saturating_add(1);
-                Wrote::Failed
-            }
-        }
+        let outcome = self.outbox.put(bytes);
+        count_fault(outcome, &mut self.faults)
     }
 }
 

@@ -1,26 +1,37 @@
--- Lines that were cut off a stream, one after another.
-use Rattle.std.proofs.Common.{◌≡◌, ◌≢◌, ◌∙◌, sym, ap, subst, refl, ℕ, suc, ◌<◌, true, false, List, [], ◌∷◌, ◌++◌, length, Option, None, Some, inl, inr, ◌⊎◌, arith, append_assoc, append-nil, length-append}
-use Rattle.std.proofs.lemmas.Bool.{cases_Bool, eqb-true, lt-ltb}
-use Rattle.std.proofs.lemmas.List.{length-replicate}
+-- Lines that were cut off a stream, one after another, and what a source gave until then.
+use Rattle.std.proofs.Common.{◌≡◌, ◌≢◌, ◌∙◌, sym, ap, subst, refl, ℕ, zero, suc, ◌+◌, ◌<◌, ◌≤◌, Bool, true, false, not, List, [], ◌∷◌, ◌++◌, length, Option, None, Some, inl, inr, arith, length-append}
+use Rattle.std.proofs.lemmas.Bool.{cases_Bool, lt-ltb}
+use Rattle.std.proofs.lemmas.List.{length-replicate, length_push}
 use Rattle.std.specs.Prelude.{replicate}
 use Rattle.tb_io.specs.declared.limits.TheConstants.{MOST_LINE_BYTES}
-use Rattle.tb_io.proofs.LineLemmas.{feed-first, feed-rest}
+use Rattle.tb_io.proofs.LineLemmas.{feed-first, feed-rest, has-feed-more, line_of-more, rest_of-more, rest_of-short}
+use Rattle.tb_io.proofs.NextLemmas.{Gave-more, Gave-none}
 use Rattle.tb_io.specs.Lines.{has_line_feed, is_line_feed, line_of, rest_of}
-use Rattle.tb_session.specs.Streams.{is_too_long, lines_of, whole_lines_of, with_first_byte, with_first_byte_if_any}
-use Rattle.tb_io.specs.NextLines.{IsNextOf}
-use Rattle.tb_session.specs.Sessions.{AreLinesGiven, AreLinesOf}
-use Rattle.tb_io.specs.Sources.{IsAtEnd, stream_of}
+use Rattle.tb_session.specs.Streams.{after_lines, is_too_long, lines_of, whole_lines_of, with_first_byte, with_first_byte_if_any}
+use Rattle.tb_io.specs.NextLines.{IsNextOf, Takes}
+use Rattle.tb_session.specs.Sessions.{AreLinesGiven, AreLinesOf, GaveAtMost}
+use Rattle.tb_io.specs.Sources.{Gave, IsAtEnd, stream_of}
+use Rattle.tb_io.specs.declared.line_reader.NextLine.{NextLine}
 use Rattle.tb_io.specs.declared.line_reader.NextLine.TheVariants.{Line, End, TooLong, ReadFault}
 
--- these lines are cut off the stream, one after another, and this is left
+-- these lines are cut off the stream, one after another, and this is left; a line comes only where
+-- the stream is so
+abbrev CutsWhere : (List ℕ → Type 0) → List ℕ → List (List ℕ) → List ℕ → Type 0
+CutsWhere Goes stream [] rest = rest ≡ stream
+CutsWhere Goes stream (line ∷ lines) rest = Goes stream × (line ≡ line_of stream) × CutsWhere Goes (rest_of stream) lines rest
+
+-- any lines, and whole ones
 abbrev pub Cuts : List ℕ → List (List ℕ) → List ℕ → Type 0
-Cuts stream [] rest = rest ≡ stream
-Cuts stream (line ∷ lines) rest = (stream ≢ []) × (line ≡ line_of stream) × Cuts (rest_of stream) lines rest
+Cuts stream lines rest = CutsWhere (λ s. s ≢ []) stream lines rest
+
+abbrev pub WholeCuts : List ℕ → List (List ℕ) → List ℕ → Type 0
+WholeCuts stream lines rest = CutsWhere (λ s. has_line_feed s ≡ true) stream lines rest
 
 -- one line more
-Cuts-more : (stream : List ℕ) (lines : List (List ℕ)) (rest line next : List ℕ) → Cuts stream lines rest → rest ≢ [] → line ≡ line_of rest → next ≡ rest_of rest → Cuts stream (lines ++ line ∷ []) next
-Cuts-more stream [] rest line next e some is_line is_next = (subst (λ s. s ≢ []) e some, is_line ∙ ap line_of e, is_next ∙ ap rest_of e)
-Cuts-more stream (l ∷ lines) rest line next (first, is_first, others) some is_line is_next = (first, is_first, Cuts-more (rest_of stream) lines rest line next others some is_line is_next)
+cuts_more : (Goes : List ℕ → Type 0) (stream : List ℕ) (lines : List (List ℕ)) (rest line next : List ℕ) → CutsWhere Goes stream lines rest → Goes rest → line ≡ line_of rest → next ≡ rest_of rest
+    → CutsWhere Goes stream (lines ++ line ∷ []) next
+cuts_more Goes stream [] rest line next e goes is_line is_next = (subst Goes e goes, is_line ∙ ap line_of e, is_next ∙ ap rest_of e)
+cuts_more Goes stream (l ∷ lines) rest line next (first, is_first, others) goes is_line is_next = (first, is_first, cuts_more Goes (rest_of stream) lines rest line next others goes is_line is_next)
 
 -- all lines of a stream are its first and those of what follows
 lines_of-step : (stream : List ℕ) → stream ≢ [] → lines_of stream ≡ line_of stream ∷ lines_of (rest_of stream)
@@ -42,86 +53,101 @@ Cuts-lines stream [] rest e = ap lines_of (sym e)
 Cuts-lines stream (line ∷ lines) rest (some, is_line, others) =
     lines_of-step stream some ∙ ap (λ l. l ∷ lines_of (rest_of stream)) (sym is_line) ∙ ap (λ ls. line ∷ ls) (Cuts-lines (rest_of stream) lines rest others)
 
--- a stream with a line feed is its first line, the line feed and what follows
-feed_or_none : (stream : List ℕ) → (stream ≡ line_of stream ++ 10 ∷ rest_of stream) ⊎ ((line_of stream ≡ stream) × (rest_of stream ≡ []))
-feed_or_none [] = inr (refl, refl)
-feed_or_none (b ∷ bytes) = elim (cases_Bool (is_line_feed b)) [
-  | inl t ↦ inl (feed_here b bytes t)
-  | inr f ↦ elim (feed_or_none bytes) [
-    | inl e ↦ inl (rw f (ap (λ bs. b ∷ bs) e))
-    | inr e ↦ inr (rw f (ap (λ bs. b ∷ bs) e.0, e.1))
-  ]
-] where
-  feed_here : (b : ℕ) (bytes : List ℕ) → is_line_feed b ≡ true → b ∷ bytes ≡ line_of (b ∷ bytes) ++ 10 ∷ rest_of (b ∷ bytes)
-  feed_here b bytes t = let e : b ≡ 10 = eqb-true b 10 t in rw t (ap (λ x. x ∷ bytes) e)
+-- whole lines that are cut off stay so where more bytes come
+whole_more : (bytes : List ℕ) (lines : List (List ℕ)) (rest more : List ℕ) → WholeCuts bytes lines rest → WholeCuts (bytes ++ more) lines (rest ++ more)
+whole_more bytes [] rest more e = ap (λ r. r ++ more) e
+whole_more bytes (line ∷ lines) rest more (feed, is_line, others) =
+    (has-feed-more bytes more feed, is_line ∙ sym (line_of-more bytes more feed), subst (λ bs. WholeCuts bs lines (rest ++ more)) (sym (rest_of-more bytes more feed)) (whole_more (rest_of bytes) lines rest more others))
 
--- lines of a text with a line that a line feed ends in front
-feed_free_line : (stream : List ℕ) → has_line_feed (line_of stream) ≡ false
-feed_free_line [] = refl
-feed_free_line (b ∷ bytes) = elim (cases_Bool (is_line_feed b)) [
+-- they are all whole lines, where no line feed follows
+whole_step : (bytes : List ℕ) → has_line_feed bytes ≡ true → whole_lines_of bytes ≡ line_of bytes ∷ whole_lines_of (rest_of bytes)
+whole_step [] h = absurd (cc)
+whole_step (b ∷ bytes) h = elim (cases_Bool (is_line_feed b)) [
   | inl t ↦ rw t refl
-  | inr f ↦ rw f (rw f (feed_free_line bytes))
+  | inr f ↦ rw f (ap (with_first_byte_if_any b) (whole_step bytes (let more = rw f at h in more)))
 ]
 
-whole-line : (line bytes : List ℕ) → has_line_feed line ≡ false → whole_lines_of (line ++ 10 ∷ bytes) ≡ line ∷ whole_lines_of bytes
-whole-line [] bytes h = refl
-whole-line (b ∷ line) bytes h =
-    let f = feed-first b line h in
-    rw f (ap (with_first_byte_if_any b) (whole-line line bytes (feed-rest b line h)))
+no_whole_line : (bytes : List ℕ) → has_line_feed bytes ≡ false → whole_lines_of bytes ≡ []
+no_whole_line [] h = refl
+no_whole_line (b ∷ bytes) h = rw (feed-first b bytes h) (ap (with_first_byte_if_any b) (no_whole_line bytes (feed-rest b bytes h)))
 
-any-line : (line bytes : List ℕ) → has_line_feed line ≡ false → lines_of (line ++ 10 ∷ bytes) ≡ line ∷ lines_of bytes
-any-line [] bytes h = refl
-any-line (b ∷ line) bytes h =
-    let f = feed-first b line h in
-    rw f (ap (with_first_byte b) (any-line line bytes (feed-rest b line h)))
+whole_lines : (bytes : List ℕ) (lines : List (List ℕ)) (rest : List ℕ) → WholeCuts bytes lines rest → has_line_feed rest ≡ false → lines ≡ whole_lines_of bytes
+whole_lines bytes [] rest e none = sym (no_whole_line bytes (ap has_line_feed (sym e) ∙ none))
+whole_lines bytes (line ∷ lines) rest (feed, is_line, others) none =
+    ap (λ l. l ∷ lines) is_line ∙ ap (λ ls. line_of bytes ∷ ls) (whole_lines (rest_of bytes) lines rest others none) ∙ sym (whole_step bytes feed)
 
-no-whole-line : (bytes : List ℕ) → has_line_feed bytes ≡ false → whole_lines_of bytes ≡ []
-no-whole-line [] h = refl
-no-whole-line (b ∷ bytes) h = rw (feed-first b bytes h) (ap (with_first_byte_if_any b) (no-whole-line bytes (feed-rest b bytes h)))
+-- and what is left follows as many lines
+whole_after : (bytes : List ℕ) (lines : List (List ℕ)) (rest : List ℕ) → WholeCuts bytes lines rest → after_lines (length lines) bytes ≡ rest
+whole_after bytes [] rest e = sym e
+whole_after bytes (line ∷ lines) rest (feed, is_line, others) = whole_after (rest_of bytes) lines rest others
 
--- the lines that were cut off are all that came whole, where no line feed is in what was read ahead
-abbrev AreGiven : List ℕ → List ℕ → List (List ℕ) → Type 0
-AreGiven stream left lines = (given : List ℕ) × (stream ≡ given ++ left) × ((lines ≡ whole_lines_of given) ⊎ ((left ≡ []) × (lines ≡ lines_of given)))
+after_more : (n : ℕ) (bytes : List ℕ) → after_lines n (rest_of bytes) ≡ rest_of (after_lines n bytes)
+after_more zero bytes = refl
+after_more (suc n) bytes = after_more n (rest_of bytes)
 
-no_bytes : (xs ys : List ℕ) → [] ≡ xs ++ ys → (xs ≡ []) × (ys ≡ [])
-no_bytes [] ys e = (refl, sym e)
-no_bytes (x ∷ xs) ys e = absurd (cc)
+-- what a source gave so far: the lines that were cut off, and then what was read ahead; each line
+-- was whole, or the reader has ended, and then nothing is left
+pub record IsGiven (left now : Option (List ℕ)) (lines : List (List ℕ)) (ahead : List ℕ) (ended : Bool) : Type 0 where
+  pub given : List ℕ
+  pub gave : Gave left now given
+  pub after : after_lines (length lines) given ≡ ahead
+  pub few : length ahead ≤ MOST_LINE_BYTES + 1
+  pub whole : ended ≡ false → WholeCuts given lines ahead
+  pub at_end : ended ≡ true → IsAtEnd (stream_of ahead now)
 
-given-more : (stream left line : List ℕ) (lines : List (List ℕ)) → stream ≢ [] → line ≡ line_of stream → AreGiven (rest_of stream) left lines → AreGiven stream left (line ∷ lines)
-given-more stream left line lines some is_line (given, whole, are) = elim (feed_or_none stream) [
-  | inl e ↦ (
-    line_of stream ++ 10 ∷ given,
-    e ∙ ap (λ bs. line_of stream ++ 10 ∷ bs) whole ∙ sym (append_assoc (line_of stream) (10 ∷ given) left),
-    by_feed stream left line lines is_line given are,
-  )
-  | inr e ↦ (
-    stream,
-    by_end stream left given (whole_is stream left given e whole).1,
-    inr ((whole_is stream left given e whole).1, last_line stream left line lines some is_line given e (whole_is stream left given e whole).0 are),
-  )
-] where
-  by_feed : (stream left line : List ℕ) (lines : List (List ℕ)) → line ≡ line_of stream → (given : List ℕ) → ((lines ≡ whole_lines_of given) ⊎ ((left ≡ []) × (lines ≡ lines_of given)))
-      → ((line ∷ lines ≡ whole_lines_of (line_of stream ++ 10 ∷ given)) ⊎ ((left ≡ []) × (line ∷ lines ≡ lines_of (line_of stream ++ 10 ∷ given))))
-  by_feed stream left line lines is_line given are = elim are [
-    | inl w ↦ inl (ap (λ l. l ∷ lines) is_line ∙ ap (λ ls. line_of stream ∷ ls) w ∙ sym (whole-line (line_of stream) given (feed_free_line stream)))
-    | inr w ↦ inr (w.0, ap (λ l. l ∷ lines) is_line ∙ ap (λ ls. line_of stream ∷ ls) w.1 ∙ sym (any-line (line_of stream) given (feed_free_line stream)))
-  ]
+-- nothing yet
+pub given-none : (left : Option (List ℕ)) (ahead : List ℕ) (ended : Bool) → ahead ≡ [] → ended ≡ false → IsGiven left left [] ahead ended
+given-none left ahead ended nil goes = record {
+  given = [];
+  gave = Gave-none left;
+  after = sym nil;
+  few = omega (arith, ap length nil);
+  whole = λ e. nil;
+  at_end = λ e. absurd (cc);
+}
 
-  whole_is : (stream left given : List ℕ) → (line_of stream ≡ stream) × (rest_of stream ≡ []) → rest_of stream ≡ given ++ left → (given ≡ []) × (left ≡ [])
-  whole_is stream left given e whole = no_bytes given left (sym e.1 ∙ whole)
+pub given-few : (left now : Option (List ℕ)) (lines : List (List ℕ)) (ahead : List ℕ) (ended : Bool) → IsGiven left now lines ahead ended → GaveAtMost left now (length lines)
+given-few left now lines ahead ended so_far = (so_far.given, so_far.gave, omega (arith, ap length so_far.after, so_far.few))
 
-  by_end : (stream left given : List ℕ) → left ≡ [] → stream ≡ stream ++ left
-  by_end stream left given e = sym (ap (λ bs. stream ++ bs) e ∙ append-nil stream)
+-- a call of a reader that hasn't ended
+module _ (left now then : Option (List ℕ)) (lines : List (List ℕ)) (ahead line new : List ℕ) (had ended : Bool) (so_far : IsGiven left now lines ahead had) (goes : had ≡ false) where
+  module _ (next : NextLine) (takes : Takes next now then ahead line new ended) where
+    more_gave : Gave left then (so_far.given ++ takes.given)
+    more_gave = Gave-more left now then so_far.given takes.given so_far.gave takes.gave
 
-  last_line : (stream left line : List ℕ) (lines : List (List ℕ)) → stream ≢ [] → line ≡ line_of stream → (given : List ℕ) → (line_of stream ≡ stream) × (rest_of stream ≡ []) → given ≡ []
-      → ((lines ≡ whole_lines_of given) ⊎ ((left ≡ []) × (lines ≡ lines_of given))) → line ∷ lines ≡ lines_of stream
-  last_line stream left line lines some is_line given e nil are =
-      let none : lines ≡ [] = elim are [ inl w ↦ w ∙ ap whole_lines_of nil | inr w ↦ w.1 ∙ ap lines_of nil ] in
-      ap (λ l. l ∷ lines) is_line ∙ ap (λ ls. line_of stream ∷ ls) none ∙ sym (lines_of-step stream some ∙ ap (λ bs. line_of stream ∷ lines_of bs) e.1)
+    more_cuts : WholeCuts (so_far.given ++ takes.given) lines (ahead ++ takes.given)
+    more_cuts = whole_more so_far.given lines ahead takes.given (so_far.whole goes)
 
-Cuts-given : (stream : List ℕ) (lines : List (List ℕ)) (rest ahead left : List ℕ) → Cuts stream lines rest → rest ≡ ahead ++ left → has_line_feed ahead ≡ false → AreGiven stream left lines
-Cuts-given stream [] rest ahead left e whole none = (ahead, sym e ∙ whole, inl (sym (no-whole-line ahead none)))
-Cuts-given stream (line ∷ lines) rest ahead left (some, is_line, others) whole none = given-more stream left line lines some is_line (Cuts-given (rest_of stream) lines rest ahead left others whole none)
+    more_after : after_lines (length lines) (so_far.given ++ takes.given) ≡ ahead ++ takes.given
+    more_after = whole_after (so_far.given ++ takes.given) lines (ahead ++ takes.given) more_cuts
+
+    -- whatever it returns
+    pub given-ends : GaveAtMost left then (length lines)
+    given-ends = (so_far.given ++ takes.given, more_gave, omega (arith, ap length more_after, length-append ahead takes.given, takes.few))
+
+  -- where it returns a line
+  pub given-more : Takes Line now then ahead line new ended → (ended ≡ true → IsAtEnd (stream_of new then)) → IsGiven left then (lines ++ line ∷ []) new ended
+  given-more takes at_end =
+      let (some, is_line, short, is_rest) = takes.is_next in
+      let many : length (lines ++ line ∷ []) ≡ suc (length lines) = omega (arith, length_push lines line) in
+      record {
+        given = so_far.given ++ takes.given;
+        gave = more_gave Line takes;
+        after = ap (λ n. after_lines n (so_far.given ++ takes.given)) many ∙ after_more (length lines) (so_far.given ++ takes.given) ∙ ap rest_of (more_after Line takes) ∙ sym is_rest;
+        few = omega (arith, ap length is_rest, rest_of-short (ahead ++ takes.given), length-append ahead takes.given, takes.few);
+        whole = λ still. cuts_more (λ s. has_line_feed s ≡ true) (so_far.given ++ takes.given) lines (ahead ++ takes.given) line new (more_cuts Line takes) (is_feed (has_line_feed (ahead ++ takes.given)) (sym takes.has_ended ∙ still)) is_line is_rest;
+        at_end = at_end;
+      }
+    where
+      is_feed : (feed : Bool) → not feed ≡ false → feed ≡ true
+      is_feed true h = refl
+      is_feed false h = absurd (cc)
+
+  -- where a fault came
+  pub given-broken : Takes ReadFault now then ahead line new ended → AreLinesGiven left then lines
+  given-broken takes =
+      let none : has_line_feed (ahead ++ takes.given) ≡ false = ap has_line_feed (sym takes.is_next) ∙ takes.no_feed refl in
+      (so_far.given ++ takes.given, more_gave ReadFault takes, whole_lines (so_far.given ++ takes.given) lines (ahead ++ takes.given) (more_cuts ReadFault takes) none)
 
 -- the same of a stream, where the source tells it
 abbrev pub CutsOf : Option (List ℕ) → List (List ℕ) → Option (List ℕ) → Type 0
@@ -140,7 +166,7 @@ CutsOf-more None now after lines line cuts next = tt
 CutsOf-more (Some stream) None after lines line (rest, is, cuts) next = absurd (cc)
 CutsOf-more (Some stream) (Some s) after lines line (rest, is, cuts) (left, is_after, (some, is_line, short, is_rest)) =
     let same : s ≡ rest = some_same s rest is in
-    (left, is_after, Cuts-more stream lines rest line left cuts (subst (λ xs. xs ≢ []) same some) (is_line ∙ ap line_of same) (is_rest ∙ ap rest_of same))
+    (left, is_after, cuts_more (λ s. s ≢ []) stream lines rest line left cuts (subst (λ xs. xs ≢ []) same some) (is_line ∙ ap line_of same) (is_rest ∙ ap rest_of same))
 
 -- the lines that were cut off and those of what is left are all lines of the source
 pub lines-whole : (left now : Option (List ℕ)) (lines more : List (List ℕ)) → CutsOf left lines now → AreLinesOf now more → AreLinesOf left (lines ++ more)
@@ -178,23 +204,22 @@ lines-long None after line next =
 lines-long (Some s) after line (left, is_after, (long, stays)) =
     (line_of s, lines_of (rest_of s), lt-ltb MOST_LINE_BYTES (length (line_of s)) long, sym (lines_of-step s (long-line s long)))
 
--- where a fault came, the lines that were cut off are those that came whole
-pub lines-given : (left now : Option (List ℕ)) (ahead line : List ℕ) (rest : Option (List ℕ)) (lines : List (List ℕ)) → CutsOf left lines now → IsNextOf ReadFault now line (stream_of ahead rest) → has_line_feed ahead ≡ false
-    → AreLinesGiven left rest lines
-lines-given None now ahead line rest lines cuts next none = tt
-lines-given (Some stream) None ahead line rest lines (r, is, cuts) next none = absurd (cc)
-lines-given (Some stream) (Some s) ahead line None lines (r, is, cuts) (left, is_after, stays) none = absurd (cc)
-lines-given (Some stream) (Some s) ahead line (Some rest) lines (r, is, cuts) (left, is_after, stays) none =
-    let whole : r ≡ ahead ++ rest = sym (some_same s r is) ∙ sym stays ∙ sym (some_same (ahead ++ rest) left is_after) in
-    Cuts-given stream lines r ahead rest cuts whole none
-
 -- at the end nothing is left
 pub left-nothing : (now : Option (List ℕ)) (ahead line : List ℕ) (rest : Option (List ℕ)) → IsNextOf End now line (stream_of ahead rest) → IsAtEnd rest
 left-nothing now ahead line None next = tt
 left-nothing None ahead line (Some rest) next = absurd (cc)
 left-nothing (Some s) ahead line (Some rest) (left, is_after, (nil, stays)) =
     let none : [] ≡ ahead ++ rest = sym nil ∙ sym stays ∙ sym (some_same (ahead ++ rest) left is_after) in
-    (no_bytes ahead rest none).1
+    no_rest ahead rest none
+  where
+    no_rest : (xs ys : List ℕ) → [] ≡ xs ++ ys → ys ≡ []
+    no_rest [] ys e = sym e
+    no_rest (x ∷ xs) ys e = absurd (cc)
+
+-- where nothing is left the next is the end, and all stays
+pub next-none : (ahead line : List ℕ) (now : Option (List ℕ)) → IsAtEnd (stream_of ahead now) → IsNextOf End (stream_of ahead now) line (stream_of ahead now)
+next-none ahead line None at_end = refl
+next-none ahead line (Some left) at_end = (ahead ++ left, refl, (at_end, refl))
 
 -- lines of which a beginning is cut off aren't that beginning
 pub lines-longer : (read more : List (List ℕ)) (line : List ℕ) → read ≡ read ++ line ∷ more → ⊥

@@ -32,14 +32,14 @@ lines_legal setup p (line ∷ lines) (reply ∷ replies) q (next, (goes, step), 
 module _ {S : Type 0} (One Other : S → List (List ℕ) → List ReplyValue → S → Type 0) (says : (p : S) (lines : List (List ℕ)) (replies : List ReplyValue) (q : S) → One p lines replies q → Other p lines replies q) where
   pub session_as : (end : SessionEnd) (left now : Option (List ℕ)) (first last : S) (before after : Option (List ℕ)) → IsSession One end left now first last before after → IsSession Other end left now first last before after
   session_as Ended left now first last before after h =
-      record { lines = h.lines; of_source = h.of_source; is_end = h.is_end; at_end = h.at_end; replies = h.replies; legal = says _ _ _ _ h.legal; took = h.took }
+      record { lines = h.lines; of_source = h.of_source; is_end = h.is_end; at_end = h.at_end; gave = h.gave; replies = h.replies; legal = says _ _ _ _ h.legal; took = h.took }
   session_as LineTooLong left now first last before after h =
-      record { lines = h.lines; of_source = h.of_source; is_end = h.is_end; at_end = h.at_end; replies = h.replies; legal = says _ _ _ _ h.legal; took = h.took }
+      record { lines = h.lines; of_source = h.of_source; is_end = h.is_end; at_end = h.at_end; gave = h.gave; replies = h.replies; legal = says _ _ _ _ h.legal; took = h.took }
   session_as TooManyLines left now first last before after h =
-      record { lines = h.lines; of_source = h.of_source; is_end = h.is_end; at_end = h.at_end; replies = h.replies; legal = says _ _ _ _ h.legal; took = h.took }
+      record { lines = h.lines; of_source = h.of_source; is_end = h.is_end; at_end = h.at_end; gave = h.gave; replies = h.replies; legal = says _ _ _ _ h.legal; took = h.took }
   session_as ReadFault left now first last before after h =
-      record { lines = h.lines; given = h.given; none_ends = h.none_ends; few = h.few; replies = h.replies; legal = says _ _ _ _ h.legal; took = h.took }
+      record { lines = h.lines; given = h.given; none_ends = h.none_ends; few = h.few; gave = h.gave; replies = h.replies; legal = says _ _ _ _ h.legal; took = h.took }
   session_as WriteFault left now first last before after (inl h) =
-      inl (record { lines = h.lines; of_source = h.of_source; count = h.count; among = h.among; replies = h.replies; cut = h.cut; legal = says _ _ _ _ h.legal; part = h.part; took = h.took })
+      inl (record { lines = h.lines; of_source = h.of_source; count = h.count; among = h.among; gave = h.gave; replies = h.replies; cut = h.cut; legal = says _ _ _ _ h.legal; part = h.part; took = h.took })
   session_as WriteFault left now first last before after (inr h) =
-      inr (record { lines = h.lines; of_source = h.of_source; is_end = h.is_end; replies = h.replies; legal = says _ _ _ _ h.legal; part = h.part; took = h.took })
+      inr (record { lines = h.lines; of_source = h.of_source; is_end = h.is_end; gave = h.gave; replies = h.replies; legal = says _ _ _ _ h.legal; part = h.part; took = h.took })

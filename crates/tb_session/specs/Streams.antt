@@ -1,9 +1,9 @@
 -- What the bytes of a stream say to a session: the lines, which of them are answered, and how the
 -- session ends.
-use Rattle.std.specs.Prelude.{ℕ, Bool, false, ◌||◌, if◌then◌else◌, List, [], ◌∷◌, length, take}
-use Rattle.std.specs.Prelude.{nat_le, nat_lt, bytes_eq, codes}
+use Rattle.std.specs.Prelude.{ℕ, zero, suc, Bool, false, ◌||◌, if◌then◌else◌, List, [], ◌∷◌}
+use Rattle.std.specs.Prelude.{length, take, nat_le, nat_lt, bytes_eq, codes}
 use Rattle.tb_base.specs.Words.{words_of}
-use Rattle.tb_io.specs.Lines.{is_line_feed, without_return}
+use Rattle.tb_io.specs.Lines.{is_line_feed, rest_of, without_return}
 use Rattle.tb_io.specs.declared.limits.TheConstants.{MOST_LINE_BYTES}
 use Rattle.tb_session.specs.declared.session_end.SessionEnd.{SessionEnd}
 use Rattle.tb_session.specs.declared.session_end.SessionEnd.TheVariants as session_end
@@ -32,6 +32,11 @@ whole_lines_of [] = []
 whole_lines_of (b ∷ bytes) =
     if is_line_feed b then [] ∷ whole_lines_of bytes
     else with_first_byte_if_any b (whole_lines_of bytes)
+
+-- what follows the first so many lines of some bytes
+abbrev pub after_lines : ℕ → List ℕ → List ℕ
+after_lines zero bytes = bytes
+after_lines (suc n) bytes = after_lines n (rest_of bytes)
 
 -- the words are just `quit`
 abbrev pub are_quit : List (List ℕ) → Bool

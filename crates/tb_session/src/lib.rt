@@ -18,9 +18,9 @@
 //! `RunSteps` (what an event may do), `TakeRuns` (a reply's cells), `ReplyTakes` (the take that it
 //! answers), `OwnCells` (a table from a cube over its plan's variables) and `RunLaws`. For
 //! scripts, `SomeReplies` and `Analysts` have what a run of lines needs. The loop of a session
-//! stands over anything that answers lines: `Cutting` has lines that are cut off a stream, `Ends`
-//! those that end a session, `SoFar` the lines so far and each way to end after them, and
-//! `LegalParties` leads from such a loop to a party's legal replies.
+//! stands over anything that answers lines: `Cutting` has lines that are cut off a stream and what
+//! its source gave, `Ends` those that end a session, `SoFar` the lines so far and each way to end
+//! after them, and `LegalParties` leads from such a loop to a party's legal replies.
 #![tactic(auto)]
 
 mod answerer;

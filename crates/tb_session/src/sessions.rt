@@ -83,8 +83,9 @@ impl<'a, B: Named, R: Threads + Wait + Sync, G: Gate> Answerer<Setting<'a, B, R>
 ///
 /// It ends where the source ended or a line is just `quit`; where a line has more than
 /// `MOST_LINE_BYTES` bytes before its line feed, which is written; after `MOST_LINES` lines, also
-/// those without a reply; and where a read or a write fails. It forgets what the line reader has
-/// read ahead, and takes no memory but for the replies.
+/// those without a reply; and where a read or a write fails. From the source it takes the lines
+/// that it answers, and at most `MOST_LINE_BYTES` + 1 bytes more. It forgets what the line reader
+/// has read ahead, and takes no memory but for the replies.
 pub fn session<B: Named, R: Threads + Wait + Sync, S: Source, K: Sink, G: Gate, L: Ledger>(
     setup: &Setup,
     board: &Board<B>,

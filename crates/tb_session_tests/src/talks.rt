@@ -6,7 +6,7 @@ use std::sync::Wait;
 use std::test::Fail;
 use std::thread::Threads;
 use tb_base::Memory;
-use tb_io::{MemSink, MemSource};
+use tb_io::{MOST_LINE_BYTES, MemSink, MemSource};
 use tb_session::SessionEnd;
 use tb_small_values::setup;
 use tb_text::Setup;
@@ -54,13 +54,22 @@ static TALKS: [Talk; 13] = [
         text: TABLE,
     },
     Talk {
-        name: "a read fails after the end",
+        name: "a read after the end, which would be the third and fail",
         bytes: b"table SEX",
         most: 10,
         fails: &[3],
         bound: 100,
-        end: SessionEnd::ReadFault,
+        end: SessionEnd::Ended,
         text: TABLE,
+    },
+    Talk {
+        name: "a read fails after a last line without line feed",
+        bytes: b"table SEX",
+        most: 10,
+        fails: &[2],
+        bound: 100,
+        end: SessionEnd::ReadFault,
+        text: b"",
     },
     Talk {
         name: "the first read fails",
@@ -201,6 +210,45 @@ fn wrong_talk_over_small<R: Threads + Wait + Sync>(
 #[test]
 fn bytes_one_at_a_time(rt: HostRuntime) -> Result<(), Fail> {
     assert_eq!(&rt; wrong_talk_over_small(&rt, rt.alloc())?, None);
+    Ok(())
+}
+
+// A line, `quit`, and bytes after it.
+const BEFORE: usize = 15;
+const ALL: usize = 10_000;
+
+// At most as many bytes more are taken as a line reader may have read ahead.
+const LEFT: usize = ALL - BEFORE - (MOST_LINE_BYTES + 1);
+
+fn more_after_quit(alloc: Global) -> Result<MemSource, Memory> {
+    let mut bytes = vec![in alloc; b'#'; ALL]?;
+    bytes[..BEFORE].copy_from_slice(b"table SEX\nquit\n");
+    MemSource::new(alloc, bytes.as_slice(), ALL, &[])
+}
+
+// Whether a session ends by `quit`, and that much is left.
+fn leaves_the_rest<R: Threads + Wait + Sync>(
+    rt: &R,
+    alloc: Global,
+    setup: &Setup,
+    source: &mut MemSource,
+) -> Result<bool, Memory> {
+    let so = ends_so(rt, alloc, setup, source, 100, SessionEnd::Ended, TABLE)?;
+    Ok(so && source.left().len() >= LEFT)
+}
+
+fn leaves_the_rest_over_small<R: Threads + Wait + Sync>(
+    rt: &R,
+    alloc: Global,
+) -> Result<bool, Memory> {
+    let setup = setup(alloc)?;
+    let mut source = more_after_quit(alloc)?;
+    leaves_the_rest(rt, alloc, &setup, &mut source)
+}
+
+#[test]
+fn little_is_read_after_quit(rt: HostRuntime) -> Result<(), Fail> {
+    assert!(rt; leaves_the_rest_over_small(&rt, rt.alloc())?);
     Ok(())
 }
 

@@ -27,6 +27,7 @@ module _ {S T : Type 0} (One : S → List (List ℕ) → List ReplyValue → S �
           of_source = h.of_source;
           is_end = h.is_end;
           at_end = h.at_end;
+          gave = h.gave;
           replies = h.replies;
           legal = says _ _
               h.legal;
@@ -38,6 +39,7 @@ module _ {S T : Type 0} (One : S → List (List ℕ) → List ReplyValue → S �
           of_source = h.of_source;
           is_end = h.is_end;
           at_end = h.at_end;
+          gave = h.gave;
           replies = h.replies;
           legal = says _ _
               h.legal;
@@ -49,6 +51,7 @@ module _ {S T : Type 0} (One : S → List (List ℕ) → List ReplyValue → S �
           of_source = h.of_source;
           is_end = h.is_end;
           at_end = h.at_end;
+          gave = h.gave;
           replies = h.replies;
           legal = says _ _
               h.legal;
@@ -60,6 +63,7 @@ module _ {S T : Type 0} (One : S → List (List ℕ) → List ReplyValue → S �
           given = h.given;
           none_ends = h.none_ends;
           few = h.few;
+          gave = h.gave;
           replies = h.replies;
           legal = says _ _ h.legal;
           took = h.took;
@@ -70,6 +74,7 @@ module _ {S T : Type 0} (One : S → List (List ℕ) → List ReplyValue → S �
           of_source = h.of_source;
           count = h.count;
           among = h.among;
+          gave = h.gave;
           replies = h.replies;
           cut = h.cut;
           legal
@@ -82,6 +87,7 @@ module _ {S T : Type 0} (One : S → List (List ℕ) → List ReplyValue → S �
           lines = h.lines;
           of_source = h.of_source;
           is_end = h.is_end;
+          gave = h.gave;
           replies = h.replies;
           legal = says _ _ h.legal;
           part =

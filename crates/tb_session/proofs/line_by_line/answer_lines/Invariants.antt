@@ -1,5 +1,4 @@
 use Rattle.std.proofs.Common.{◌≡◌, ◌≤◌, true}
-use Rattle.tb_io.specs.Sources.{stream_of}
 use Rattle.tb_session.proofs.SoFar.{IsSoFar}
 use Rattle.tb_session.proofs.line_by_line.answer_lines.Given as goal
 
@@ -10,6 +9,6 @@ invariant-lines g l = record {
   reads : g.S.Source.faults l.initial.source ≤ g.S.Source.faults l.source;
   writes : g.K.Sink.faults l.initial.sink ≤ g.K.Sink.faults l.sink;
   live : l.lines.live ≡ true;
-  so_far : IsSoFar (g.A.Answerer.Step l.setting) (g.S.Source.left l.initial.source) l.i (stream_of l.lines.ahead (g.S.Source.left l.source))
+  so_far : IsSoFar (g.A.Answerer.Step l.setting) (g.S.Source.left l.initial.source) l.i (g.S.Source.left l.source) l.lines.ahead l.lines.ended
       (g.A.Answerer.fresh (g.A.Answerer.state l.fn.party)) (g.A.Answerer.state l.party) (g.K.Sink.taken l.initial.sink) (g.K.Sink.taken l.sink);
 }
