@@ -25,7 +25,7 @@ struct Talk {
 
 const TABLE: &[u8] = b"release 0\nSEX,count\n1,1\n2,2\n.\n";
 
-static TALKS: [Talk; 13] = [
+static TALKS: [Talk; 14] = [
     Talk {
         name: "bytes one at a time, and a last line without line feed",
         bytes: b"table SEX\ntable AREA",
@@ -215,6 +215,7 @@ fn bytes_one_at_a_time(rt: HostRuntime) -> Result<(), Fail> {
 
 // A line, `quit`, and bytes after it.
 const BEFORE: usize = 15;
+
 const ALL: usize = 10_000;
 
 // At most as many bytes more are taken as a line reader may have read ahead.
