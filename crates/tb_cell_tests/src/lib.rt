@@ -1,6 +1,6 @@
-//! Tests of releases and cubes: batches of edits, pages and their stamps, columns, tallies, key
-//! sums, cubes, runs of events and the recency list, worked by hand over the small setup. Their
-//! calls have ample memory.
+//! Tests of releases and cubes: batches of edits, also of records and rules mixed, pages and their
+//! stamps, columns, tallies, key sums, cubes, runs of events and the recency list, worked by hand
+//! over the small setup. Their calls have ample memory.
 //!
 //! They call public functions alone. Tests stand in crates of their own since a crate that has
 //! tests is proved twice. Whole runs stand in `tablebuilder`.
@@ -16,6 +16,8 @@ mod event_runs;
 mod key_sums;
 #[cfg(test)]
 mod making;
+#[cfg(test)]
+mod mixed_batches;
 #[cfg(test)]
 mod packed_cubes;
 #[cfg(test)]
