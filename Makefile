@@ -71,7 +71,9 @@ growths: build
 bench: bench-tools build
 	mkdir -p bench/out
 	rustc -O --edition 2021 -o bench/out/baseline bench/baseline.rs
+	rustc -O --edition 2021 -o bench/out/copy bench/copy.rs
 	python3 bench/bench.py crates/tablebuilder/out/tablebuilder bench/out/baseline
+	python3 bench/rules.py crates/tablebuilder/out/tablebuilder bench/out/copy
 
 # Sessions over connections to this machine: rates beside a plain server and a script, and memory.
 bench-serve: bench-tools build

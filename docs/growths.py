@@ -17,6 +17,7 @@ import os
 import subprocess
 import sys
 import tempfile
+import typing
 
 # What refuses one allocation: that of the number in REFUSED, from 1, none for 0. Each call of malloc
 # and realloc is one; they are counted in the file COUNTED.
@@ -145,6 +146,19 @@ custodian add 102 100 SEX=1 AGE=16-64 AREA=E1
 custodian publish
 a table AREA by SEX with totals
 """),
+    "records and rules in one batch": ("script", """
+a table SEX
+custodian pvalue 3 64 5
+custodian drop 104
+custodian threshold 1
+custodian pvalue 3 64 4
+custodian publish
+a table SEX
+custodian threshold 8
+custodian publish
+a table SEX
+custodian stats
+"""),
     "a batch beside a table": ("lanes", """
 custodian drop 104
 custodian publish
@@ -172,8 +186,17 @@ def rows_of(path):
         return list(csv.DictReader(file))
 
 
+class Release(typing.NamedTuple):
+    """The persons of a release, the pvalues that were set, and its threshold."""
+
+    people: tuple
+    pvalues: dict
+    threshold: int
+
+
 class Model:
-    """What the definitions say of tables of this folder, where all is small and the threshold 0."""
+    """What the definitions say of tables of this folder, where all is small and the threshold of
+    the first release is 0."""
 
     def __init__(self, folder):
         self.codes = collections.defaultdict(list)
@@ -181,19 +204,21 @@ class Model:
             self.codes[row["variable"]].append(row["code"])
         self.pvalues = {(int(row["pcv"]), int(row["ckey"])): int(row["pvalue"])
                         for row in rows_of(f"{folder}/ptable.csv")}
-        self.first = tuple(tuple(sorted(row.items())) for row in rows_of(f"{folder}/people.csv"))
+        people = tuple(tuple(sorted(row.items())) for row in rows_of(f"{folder}/people.csv"))
+        self.first = Release(people, {}, 0)
 
-    def shown(self, records):
+    def shown(self, records, release):
         count, key = len(records), sum(int(one["record_key"]) for one in records) % 256
-        return str(count + self.pvalues.get((count, key), 0))
+        value = count + (self.pvalues | release.pvalues).get((count, key), 0)
+        return "c" if value < release.threshold else str(value)
 
-    def table(self, number, people, query):
+    def table(self, number, release, query):
         """The reply to `table NAME [by NAME] [with totals]` at a release."""
         words = query.split()
         totals = words[-2:] == ["with", "totals"]
         names = [word for word in words[1:-2 if totals else None] if word != "by"]
         entries = [self.codes[name] + [TOTAL] * totals for name in names]
-        records = [dict(one) for one in people]
+        records = [dict(one) for one in release.people]
         lines = [f"release {number}", ",".join([*names, "count"])]
         cells = [()]
         for entry in entries:
@@ -201,7 +226,7 @@ class Model:
         for cell in cells:
             inside = [one for one in records
                       if all(code in (TOTAL, one[name]) for name, code in zip(names, cell))]
-            lines.append(",".join([*cell, self.shown(inside)]))
+            lines.append(",".join([*cell, self.shown(inside, release)]))
         return "".join(line + "\n" for line in [*lines, "."])
 
 
@@ -210,10 +235,20 @@ def keys_of(people):
     return {dict(one)["person"]: dict(one)["record_key"] for one in people}
 
 
-def edited(people, keys, edit):
-    """The records after an edit that is none of the refused ones, where persons of earlier releases
-    and edits have these keys; a new person's key is put there."""
-    word, person, *rest = edit.split()
+def edited(release, keys, edit):
+    """A release after an edit; None where it can't be made. Persons of earlier releases and edits
+    have these keys; a new person's key is put there."""
+    word, *rest = edit.split()
+    if word == "pvalue":
+        row, key, pvalue = map(int, rest)
+        return release._replace(pvalues=release.pvalues | {(row, key): pvalue})
+    if word == "threshold":
+        return release._replace(threshold=int(rest[0]))
+    people = edited_people(release.people, keys, word, *rest)
+    return None if people is None else release._replace(people=people)
+
+
+def edited_people(people, keys, word, person, *rest):
     old = next((dict(one) for one in people if dict(one)["person"] == person), None)
     others = [one for one in people if dict(one)["person"] != person]
     if word == "drop":
@@ -245,14 +280,15 @@ class Custodian:
 
     def __init__(self, model, chain):
         self.model, self.chain, self.held = model, list(chain), []
-        self.keys = {person: key for people in chain for person, key in keys_of(people).items()}
+        self.keys = {person: key for release in chain
+                     for person, key in keys_of(release.people).items()}
 
     def allows(self, line, reply):
         if reply == MEMORY:
             return True
-        people, keys = self.chain[-1], dict(self.keys)
+        release, keys = self.chain[-1], dict(self.keys)
         if line.startswith("table "):
-            return reply == self.model.table(len(self.chain) - 1, people, line)
+            return reply == self.model.table(len(self.chain) - 1, release, line)
         if line.startswith("stats"):
             return reply.startswith(f"stats release {len(self.chain) - 1} looks ")
         if line.startswith("cache "):
@@ -266,11 +302,11 @@ class Custodian:
             return reply == "refused batch 0 5 Nothing\n"
         held, self.held = self.held, []
         for place, edit in enumerate(held, 1):
-            people = edited(people, keys, edit)
-            if people is None:
+            release = edited(release, keys, edit)
+            if release is None:
                 # (perhaps an edit before it found no memory, so this one doesn't follow)
                 return reply.startswith(f"refused batch {place} ")
-        self.chain.append(people)
+        self.chain.append(release)
         self.keys = keys
         return reply == f"published {len(self.chain) - 1}\n"
 

@@ -1,4 +1,4 @@
-"""Asks a TableBuilder server for tables of perturbed counts, and revises its microdata.
+"""Asks a TableBuilder server for tables of perturbed counts, and revises what it counts.
 
 An analyst:
 
@@ -261,7 +261,7 @@ class Session:
     def add(self, person: int, record_key: int, /, **codes: str) -> int:
         """Holds an edit that adds a person, with a code of every variable.
 
-        Returns how many edits are held now. So do `amend` and `drop`.
+        Returns how many edits are held now. So do the other methods that hold an edit.
         """
         return self._held(" ".join(["add", str(person), str(record_key), *_settings(codes)]))
 
@@ -272,6 +272,17 @@ class Session:
     def drop(self, person: int, /) -> int:
         """Holds an edit by which a person leaves."""
         return self._held(f"drop {person}")
+
+    def set_pvalue(self, row: int, cell_key: int, pvalue: int, /) -> int:
+        """Holds an edit that sets the pvalue at a row and a cell key of the perturbation table.
+
+        It goes before the pvalue of the server's file from the release on that `publish` makes.
+        """
+        return self._held(f"pvalue {row} {cell_key} {pvalue}")
+
+    def set_threshold(self, threshold: int, /) -> int:
+        """Holds an edit that sets the threshold, below which a perturbed count is hidden."""
+        return self._held(f"threshold {threshold}")
 
     def publish(self) -> int:
         """Makes the held edits the next release, all or none, and returns its number.

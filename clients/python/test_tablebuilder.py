@@ -137,6 +137,9 @@ class Refusals(unittest.TestCase):
                 (lambda: session.amend(101, AGE2="old"), 3, "UnknownName"),
                 (lambda: session.drop(4294967296), 2, "BadNumber"),
                 (lambda: session.amend(101), 1, "Syntax"),
+                (lambda: session.set_pvalue(3, 64, -4), 2, "BadNumber"),
+                (lambda: session.set_pvalue(3, 256, 0), 2, "BadNumber"),
+                (lambda: session.set_threshold(1000001), 2, "BadNumber"),
             ]:
                 self.assertRefused(call, *fault)
 
@@ -179,6 +182,21 @@ class Custodians(unittest.TestCase):
             with self.assertRaises(Refused) as caught:
                 session.publish()
             self.assertEqual((caught.exception.word, caught.exception.edit), ("KeyChanged", 1))
+
+    def test_the_rules_of_a_release(self):
+        """SEX 1 has three persons and the cell key 64, whose pvalue in the file is -2."""
+        with custodian() as session, analyst() as other:
+            release = session.stats().release
+            self.assertEqual([session.set_pvalue(3, 64, 5), session.set_threshold(3)], [1, 2])
+            self.assertEqual(other.table("SEX").counts, [1, 2])
+            self.assertEqual(session.publish(), release + 1)
+            table = other.table("SEX")
+            self.assertEqual((table.release, table.counts), (release + 1, [8, None]))
+            # As the other tests have them.
+            session.set_pvalue(3, 64, -2)
+            session.set_threshold(0)
+            session.publish()
+            self.assertEqual(other.table("SEX").counts, [1, 2])
 
     def test_kept_cubes(self):
         with custodian("NEW") as session, analyst("NEW") as other:

@@ -1,4 +1,4 @@
-# Asks a TableBuilder server for tables of perturbed counts, and revises its microdata.
+# Asks a TableBuilder server for tables of perturbed counts, and revises what it counts.
 #
 # An analyst:
 #
@@ -95,7 +95,7 @@ tb_table <- function(session, query, where = NULL, totals = FALSE, labels = FALS
 
 #' Hold an edit that adds a person, with a code of every variable, as `SEX = "1"`.
 #'
-#' @return How many edits are held now; so for tb_amend and tb_drop.
+#' @return How many edits are held now; so for the other calls that hold an edit.
 tb_add <- function(session, person, record_key, ...) {
   tb_hold(session, c("add", tb_digits(person), tb_digits(record_key), tb_settings(...)))
 }
@@ -108,6 +108,18 @@ tb_amend <- function(session, person, ...) {
 #' Hold an edit by which a person leaves.
 tb_drop <- function(session, person) {
   tb_hold(session, c("drop", tb_digits(person)))
+}
+
+#' Hold an edit that sets the pvalue at a row and a cell key of the perturbation table.
+#'
+#' It goes before the pvalue of the server's file from the release on that tb_publish makes.
+tb_set_pvalue <- function(session, row, cell_key, pvalue) {
+  tb_hold(session, c("pvalue", tb_digits(row), tb_digits(cell_key), tb_digits(pvalue)))
+}
+
+#' Hold an edit that sets the threshold, below which a perturbed count is hidden.
+tb_set_threshold <- function(session, threshold) {
+  tb_hold(session, c("threshold", tb_digits(threshold)))
 }
 
 #' Make the held edits the next release, all or none.

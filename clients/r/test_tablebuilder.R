@@ -120,6 +120,9 @@ tests <- list(
     expect_refused(tb_amend(session, 101, AGE2 = "old"), 3, "UnknownName")
     expect_refused(tb_drop(session, 4294967296), 2, "BadNumber")
     expect_refused(tb_amend(session, 101), 1, "Syntax")
+    expect_refused(tb_set_pvalue(session, 3, 64, -4), 2, "BadNumber")
+    expect_refused(tb_set_pvalue(session, 3, 256, 0), 2, "BadNumber")
+    expect_refused(tb_set_threshold(session, 1000001), 2, "BadNumber")
     # As R prints numbers this is 1e+05.
     expect(tb_drop(session, 100000), 1)
     tb_close(session)
@@ -161,6 +164,24 @@ tests <- list(
     expect(table, table_of(release + 1, SEX = c("1", "2"), count = 1:2))
     tb_add(session, 200, 10, SEX = "1", AGE = "65+", AREA = "E1")
     expect_refused(tb_publish(session), 3, "KeyChanged", edit = 1)
+    tb_close(session)
+    tb_close(other)
+  },
+  # SEX 1 has three persons and the cell key 64, whose pvalue in the file is -2.
+  the_rules_of_a_release = function() {
+    session <- custodian()
+    other <- analyst()
+    release <- tb_stats(session)[["release"]]
+    expect(c(tb_set_pvalue(session, 3, 64, 5), tb_set_threshold(session, 3)), c(1, 2))
+    expect(tb_table(other, "SEX")$count, c(1L, 2L))
+    expect(tb_publish(session), release + 1)
+    table <- tb_table(other, "SEX")
+    expect(table, table_of(release + 1, SEX = c("1", "2"), count = c(8L, NA)))
+    # As the other tests have them.
+    tb_set_pvalue(session, 3, 64, -2)
+    tb_set_threshold(session, 0)
+    tb_publish(session)
+    expect(tb_table(other, "SEX")$count, c(1L, 2L))
     tb_close(session)
     tb_close(other)
   },
