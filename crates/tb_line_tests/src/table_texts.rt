@@ -289,8 +289,10 @@ fn is_right(
 ) -> Result<bool, Memory>
     requires { All (λ cell. cell.count ≤ MOST_PERSONS) cells.now }
 {
-    Ok(prints(alloc, setup, rules, row, cells)?
-        && is_cut_anywhere(alloc, setup, rules, row, cells)?)
+    Ok(
+        prints(alloc, setup, rules, row, cells)?
+            && is_cut_anywhere(alloc, setup, rules, row, cells)?,
+    )
 }
 
 fn is_so_by(alloc: Global, setup: &Setup, rules: &Rules, row: &Row) -> Result<bool, Memory> {
