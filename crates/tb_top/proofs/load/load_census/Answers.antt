@@ -51,7 +51,7 @@ returns-clause-loads g c =
     let inputs = c.args.inputs.now in
     let schema = c.in_ok-schema.schema in
     let table = c.in_ok-ptable.ptable in
-    let first = made inputs.threshold c.new.result c.in_ok-people.people _ c.new.ensures c.in_ok-release.ensures in
+    let first = made inputs.threshold c.new-rules.result c.in_ok-people.people _ c.new-rules.ensures c.in_ok-release.ensures in
     census-steps census_value inputs schema table _ refl refl refl refl refl refl c.in_ok-schema.ensures.loads (rw c.keys.ensures at c.in_ok-ptable.ensures.loads)
     (Loads-ends (λ people. people) census_value (people_in schema)
     (λ contents records. Ok (census_with inputs schema table records)) c.in_ok-people.people _
@@ -59,6 +59,6 @@ returns-clause-loads g c =
 
 pub returns-clause-first : goal.returns-clause-first
 returns-clause-first g c =
-    let first = made c.args.inputs.now.threshold c.new.result c.in_ok-people.people _ c.new.ensures c.in_ok-release.ensures in
+    let first = made c.args.inputs.now.threshold c.new-rules.result c.in_ok-people.people _ c.new-rules.ensures c.in_ok-release.ensures in
     let same : c.in_ok-release.release.records ≡ c.in_ok-people.people = ap (λ r. r.records) first in
     (subst IsBase (sym first) refl, rw same c.in_ok-people.ensures.fit)
