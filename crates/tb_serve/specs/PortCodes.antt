@@ -1,4 +1,4 @@
--- How edits, parties and ports are coded, for a type whose value is a port.
+-- How parties and ports are coded, for a type whose value is a port.
 use Rattle.std.specs.Prelude.{◌≡◌, ◌⊎◌, ℕ, Bool, List, Option, refl}
 use Rattle.std.specs.Coded.{Coded, code_by, coded×, coded⊎, coded_ℕ, coded_bool, coded_list}
 use Rattle.std.specs.Coded.{coded_option}
@@ -6,39 +6,11 @@ use mathlib.Core.Logic.{inl, inr}
 use Rattle.tb_board.specs.Custodians.{CustodianValue, custodian_code}
 use Rattle.tb_board.specs.Holders.{HolderValue, holder_value_code}
 use Rattle.tb_io.specs.Listeners.{ListenerValue, listener_code}
+use Rattle.tb_release.specs.EditCodes.{edit_code}
 use Rattle.tb_release.specs.declared.edits.Edit.{Edit}
-use Rattle.tb_release.specs.declared.edits.Edit.TheVariants as edit
 use Rattle.tb_serve.specs.Ports.{PortValue}
 use Rattle.tb_session.specs.declared.party.Party.{Party}
 use Rattle.tb_session.specs.declared.party.Party.TheVariants as party
-
--- what an edit is made of
-abbrev EditParts : Type 0
-EditParts = (ℕ × (ℕ × List ℕ)) ⊎ (ℕ ⊎ (ℕ × List (ℕ × ℕ)))
-
--- an edit's parts, and the edit of some parts
-abbrev parts_of_edit : Edit → EditParts
-parts_of_edit (edit.Add person key codes) = inl (person, (key, codes))
-parts_of_edit (edit.Drop person) = inr (inl person)
-parts_of_edit (edit.Amend person sets) = inr (inr (person, sets))
-
-abbrev edit_of : EditParts → Edit
-edit_of (inl (person, (key, codes))) = edit.Add person key codes
-edit_of (inr (inl person)) = edit.Drop person
-edit_of (inr (inr (person, sets))) = edit.Amend person sets
-
--- the edit of its parts is the edit itself
-pub edit_back : (e : Edit) → edit_of (parts_of_edit e) ≡ e
-edit_back (edit.Add person key codes) = refl
-edit_back (edit.Drop person) = refl
-edit_back (edit.Amend person sets) = refl
-
-abbrev pub edit_code : Coded Edit
-edit_code =
-    code_by EditParts
-    (coded⊎ (coded× coded_ℕ (coded× coded_ℕ (coded_list coded_ℕ)))
-    (coded⊎ coded_ℕ (coded× coded_ℕ (coded_list (coded× coded_ℕ coded_ℕ)))))
-    parts_of_edit edit_of edit_back
 
 -- what a party is made of
 abbrev PartyParts : Type 0
