@@ -1,17 +1,11 @@
-use Rattle.std.proofs.Common.{◌≡◌, [], sym, ap, refl, subst}
-use Rattle.tb_base.specs.declared.keys.Keys.TheVariants.{K256}
+use Rattle.std.proofs.Common.{◌≡◌, sym, ap, refl, subst}
 use Rattle.tb_base.specs.Records.{AllFit}
 use Rattle.tb_model.specs.Releases.{ReleaseValue}
 use Rattle.tb_model.specs.Schemas.{shape_of}
-use Rattle.tb_model.specs.Setups.{SetupValue}
 use Rattle.tb_cell_tests.proofs.cubes.first.Goals as goal
-
--- a release 0 is the same over any setup
-any_setup : SetupValue
-any_setup = record { schema = record { keys = K256; variables = []; recodes = [] }; lines = []; threshold = 0 }
 
 pub returns : goal.returns
 returns c =
     let fit : AllFit (shape_of c.args.schema.now) c.args.people =
     subst (AllFit (shape_of c.args.schema.now)) c.all.ensures.all (subst (λ shape. AllFit shape c.all.result.now) c.shape.ensures (c.if-not-records_fit.ensures.0 refl)) in
-    subst (AllFit (shape_of c.args.schema.now)) (sym (ap (λ (r : ReleaseValue). r.records) (c.in_ok-release.ensures any_setup))) fit
+    subst (AllFit (shape_of c.args.schema.now)) (sym (ap (λ (r : ReleaseValue). r.records) c.in_ok-release.ensures)) fit
