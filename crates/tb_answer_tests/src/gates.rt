@@ -10,9 +10,10 @@ use std::alloc::Global;
 use std::marker::Brand;
 use std::sync::Wait;
 use std::sync::atomic::{AtomicBool, Ordering};
+use std::sync::ledger::Ledger;
 use std::test::Fail;
 use std::thread::{Threads, join};
-use tb_base::Memory;
+use tb_base::{Memory, Steps};
 use tb_board::{Board, Named, Opening};
 use tb_build::{Gate, Open};
 use tb_io::MemSink;
@@ -47,7 +48,9 @@ struct Flagged<'a> {
 }
 
 impl Gate for Flagged<'_> {
-    fn reach(&mut self) {
+    ghost HasReached = { λ _ _ _. Unit {0} };
+
+    fn reach<L: Ledger>(&mut self, _steps: &Steps<L>) {
         self.times = self.times.saturating_add(1);
         self.flags.there.store(true, Ordering::SeqCst);
         if !waits_for(&self.flags.open) {

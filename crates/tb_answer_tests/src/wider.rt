@@ -9,9 +9,10 @@ use super::making::{analyst, opening};
 use std::alloc::Global;
 use std::marker::Brand;
 use std::sync::Wait;
+use std::sync::ledger::Ledger;
 use std::test::Fail;
 use std::thread::Threads;
-use tb_base::Memory;
+use tb_base::{Memory, Steps};
 use tb_board::{Board, Named, Opening};
 use tb_build::Gate;
 use tb_io::MemSink;
@@ -26,7 +27,9 @@ struct Counted {
 }
 
 impl Gate for Counted {
-    fn reach(&mut self) {
+    ghost HasReached = { λ _ _ _. Unit {0} };
+
+    fn reach<L: Ledger>(&mut self, _steps: &Steps<L>) {
         self.times = self.times.saturating_add(1);
     }
 }

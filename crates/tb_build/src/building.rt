@@ -48,9 +48,11 @@ pub fn build<G: Gate, L: Ledger>(
     requires fit { AllFit shape.now release.now.records }
     ensures price { steps.new ≤ steps.old + length release.now.records }
     ensures cost { OnOk result (steps.new ≡ steps.old + length release.now.records) }
+    // Nothing was lent yet when the gate was reached.
+    ensures gate { G.HasReached gate.old gate.new steps.old }
     ensures cube { IfOk result (λ cube. cube ≡ cube_over shape.now vars.now release.now.records) }
 {
-    gate.reach();
+    gate.reach(steps);
     let parts = parts_for(rt, release.len(), cells_over(shape, vars, 0));
     build_in_parts(rt, alloc, shape, release, vars, parts, steps)
 }

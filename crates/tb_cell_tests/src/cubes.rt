@@ -28,7 +28,9 @@ struct Counted {
 }
 
 impl Gate for Counted {
-    fn reach(&mut self) {
+    ghost HasReached = { λ _ _ _. Unit {0} };
+
+    fn reach<L: Ledger>(&mut self, _steps: &Steps<L>) {
         self.times = self.times.saturating_add(1);
     }
 }

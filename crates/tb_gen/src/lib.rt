@@ -22,3 +22,4 @@ mod script;
 mod variables;
 
 pub use files::{GenFiles, files_of};
+pub use variables::Variable;

@@ -19,9 +19,9 @@ const TENURES: u32 = 5;
 /// How many categories the variables have together.
 pub(crate) const CATEGORIES: u32 = AREAS + AGES + SEXES + TENURES;
 
-/// A variable, in the order of the classification.
+/// A variable of the generated files, in the order of the classification.
 #[derive(Clone, Copy)]
-pub(crate) enum Variable {
+pub enum Variable {
     Area,
     Age,
     Sex,

@@ -67,6 +67,11 @@ abbrev pub telling_none : ℕ → Option ℕ → Bool → ListenerValue
 telling_none faults port is_out =
     record { faults = faults; port = port; is_out = is_out; to_come = None; came_back = None }
 
+-- where a listener tells its sessions, its count of faults stayed: a call that didn't fail raises it
+-- of others alone, which may try again
+abbrev pub IsCalm : ListenerValue → ListenerValue → Type 0
+IsCalm before after = IsSome after.to_come → after.faults ≡ before.faults
+
 -- it may be bound: it isn't yet, and no session is out
 pub record CanBind (listener : ListenerValue) : Type 0 where
   pub unbound : listener.port ≡ None
@@ -92,12 +97,14 @@ HasFailed before after = IsSameBut before after × HasRisen before.faults after.
 -- what a bind did: the listener is bound to this port, or it is as before and the count of faults
 -- rose
 abbrev pub HasBound : ListenerValue → ListenerValue → ℕ → Bound → Type 0
-HasBound before after port bound.Ready = IsSameBut (record before { port = Some port }) after
+HasBound before after port bound.Ready =
+    IsSameBut (record before { port = Some port }) after × IsCalm before after
 HasBound before after port bound.Failed = HasFailed before after
 
 -- a session was accepted: it was the first to come, and is out
 pub record Gives (before after : ListenerValue) (session : Connection) : Type 0 where
   pub count : before.faults ≤ after.faults
+  pub calm : IsCalm before after
   pub port : after.port ≡ before.port
   pub out : after.is_out ≡ true
   pub to_come : before.to_come ≡ option_map (λ rest. session ∷ rest) after.to_come
@@ -107,7 +114,8 @@ pub record Gives (before after : ListenerValue) (session : Connection) : Type 0 
 abbrev pub HasAccepted : {R W : Type 0} → (R → W → Connection) → ListenerValue → ListenerValue
     → Accepted R W → Type 0
 HasAccepted see before after (accepted.Session r w) = Gives before after (see r w)
-HasAccepted see before after accepted.End = IsAtEnd before.to_come × IsSameBut before after
+HasAccepted see before after accepted.End =
+    IsAtEnd before.to_come × IsSameBut before after × IsCalm before after
 HasAccepted see before after accepted.Failed = HasFailed before after
 
 -- a listener after a session came back

@@ -62,8 +62,8 @@ impl<'a, R: Net<Listener = TcpListener, Stream = TcpStream> + Eprint> RealListen
         }
     }
 
-    // Counts a fault.
-    fn count_fault(&mut self)
+    // Counts a failed call.
+    fn count_failure(&mut self)
         ensures { HasFailed self.old self.new }
     {
         self.faults = self.faults.saturating_add(1);
@@ -75,6 +75,7 @@ impl<'a, R: Net<Listener = TcpListener, Stream = TcpStream> + Eprint> RealListen
         ensures ok { IfOk result (λ ends. Gives self.old self.new
             (connection None None ends.0.faults ends.1.faults)) }
         ensures err { OnErr result (HasFailed self.old self.new) }
+        ensures untold { self.new.to_come ≡ None }
     {
         let Some(bound) = &self.bound else {
             unreachable!()
@@ -87,7 +88,7 @@ impl<'a, R: Net<Listener = TcpListener, Stream = TcpStream> + Eprint> RealListen
             }
             Err(e) => {
                 let _ = eprintln!(self.rt; "accept on 127.0.0.1:{port} failed: {e}");
-                self.count_fault();
+                self.count_failure();
                 Err(e)
             }
         }
@@ -135,7 +136,7 @@ impl<'a, R: Net<Listener = TcpListener, Stream = TcpStream> + Eprint> Listen for
             }
             Err(e) => {
                 let _ = eprintln!(self.rt; "cannot listen on 127.0.0.1:{port}: {e}");
-                self.count_fault();
+                self.count_failure();
                 Bound::Failed
             }
         }

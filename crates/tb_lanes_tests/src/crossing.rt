@@ -8,9 +8,10 @@ use std::alloc::Global;
 use std::marker::Brand;
 use std::sync::Wait;
 use std::sync::atomic::{AtomicBool, Ordering};
+use std::sync::ledger::Ledger;
 use std::test::Fail;
 use std::thread::Threads;
-use tb_base::Memory;
+use tb_base::{Memory, Steps};
 use tb_build::Gate;
 use tb_io::SureSink;
 use tb_script::{RunEnd, Script};
@@ -27,7 +28,9 @@ struct Crossed<'a> {
 }
 
 impl Gate for Crossed<'_> {
-    fn reach(&mut self) {
+    ghost HasReached = { λ _ _ _. Unit {0} };
+
+    fn reach<L: Ledger>(&mut self, _steps: &Steps<L>) {
         self.own.store(true, Ordering::SeqCst);
         for _ in 0..1_000_000_000u32 {
             if self.other.load(Ordering::SeqCst) {

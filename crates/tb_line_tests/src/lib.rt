@@ -10,6 +10,10 @@ mod counting;
 #[cfg(test)]
 mod edit_lines;
 #[cfg(test)]
+mod edit_refusals;
+#[cfg(test)]
+mod long_tables;
+#[cfg(test)]
 mod making;
 #[cfg(test)]
 mod plans;

@@ -9,7 +9,7 @@ use Rattle.tb_io.proofs.FaultLemmas.{HasRisen-earlier}
 use Rattle.tb_model.specs.Releases.{ReleaseValue}
 use Rattle.tb_model.specs.Schemas.{shape_of}
 use Rattle.tb_model.specs.Setups.{SetupValue}
-use Rattle.tb_io.specs.Listeners.{CanBind, Connection, IsSameBut, ListenerValue}
+use Rattle.tb_io.specs.Listeners.{CanBind, Connection, IsCalm, IsSameBut, ListenerValue}
 use Rattle.tb_release.specs.Batches.{BatchValue}
 use Rattle.tb_serve.specs.Ports.{PortValue}
 use Rattle.tb_serve.specs.Serves.{EndsAt, HasServed, IsPortServed, role_at}
@@ -21,6 +21,7 @@ use Rattle.tb_session.specs.declared.party.Party.TheVariants as party
 use Rattle.tb_session.specs.declared.party.Role.{Role}
 use Rattle.tb_session.specs.declared.party.Role.TheVariants as role
 use Rattle.tb_session.proofs.Analysts.{party_front}
+use Rattle.tb_worker.proofs.Working.{calm_more}
 use Rattle.tb_worker.specs.Visits.{AreVisits, Visit}
 use Rattle.tb_worker.specs.Work.{HasGiven, HasWorked, went_of}
 
@@ -41,6 +42,7 @@ gets_ready first i o p q fresh lines bound =
         lines = ap (λ (x : PortValue). x.has_lines) bound.rest ∙ ap (λ (x : PortValue). x.has_lines) lines;
       };
       bound = subst (λ (l : ListenerValue). IsSameBut (record l { port = Some (first + i) }) q.listener) there bound.bound;
+      calm = subst (λ (l : ListenerValue). IsCalm l q.listener) there bound.calm;
       rest = bound.rest ∙ ap (λ (x : PortValue). record x { listener = q.listener }) lines;
     }
 
@@ -206,6 +208,7 @@ port_served setup base first most chain i o p t ready x left = record {
       enough = x.enough.enough;
       risen = λ yes. HasRisen-earlier o.listener.faults p.listener.faults t.listener.faults ready.bound.count
           (x.enough.risen yes) x.given.count;
+      calm = λ no. calm_more o.listener p.listener t.listener x.visits ready.calm x.given (x.enough.calm no);
     };
     seen = x.seen;
     lead = x.lead;

@@ -5,7 +5,7 @@ use Rattle.tb_board.specs.Custodians.{CustodianValue}
 use Rattle.tb_board.specs.Holders.{HolderValue}
 use Rattle.tb_front.specs.Holders.{Name}
 use Rattle.tb_io.specs.Faults.{HasRisen}
-use Rattle.tb_io.specs.Listeners.{CanAccept, CanBind, IsSameBut}
+use Rattle.tb_io.specs.Listeners.{CanAccept, CanBind, IsCalm, IsSameBut}
 use Rattle.tb_serve.specs.Each.{Each}
 use Rattle.tb_serve.specs.Ports.{PortValue, fresh_port}
 use Rattle.tb_serve.specs.declared.readiness.Readiness.{Readiness}
@@ -37,6 +37,7 @@ IsSameButLines before after = after ≡ record before { has_lines = after.has_li
 pub record IsBoundAt (first i : ℕ) (before after : PortValue) : Type 0 where
   pub rest : after ≡ record before { listener = after.listener }
   pub bound : IsSameBut (record before.listener { port = Some (first + i) }) after.listener
+  pub calm : IsCalm before.listener after.listener
 
 -- nothing was accepted at port i: at most its listener was bound, and its count of faults rose
 pub record IsUntouched (first i : ℕ) (before after : PortValue) : Type 0 where
@@ -64,6 +65,7 @@ pub record IsReady (port : PortValue) : Type 0 where
 pub record GetsReady (first i : ℕ) (before after : PortValue) : Type 0 where
   pub can : IsReady after
   pub bound : IsSameBut (record before.listener { port = Some (first + i) }) after.listener
+  pub calm : IsCalm before.listener after.listener
   pub rest : after ≡ record before { listener = after.listener; has_lines = true }
 
 -- all ports got ready; or memory was refused; or a bind failed, for which a count rose

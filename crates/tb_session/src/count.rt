@@ -1,12 +1,12 @@
 // A query's table over the release that a pass takes.
 
-ghost use Rattle.std.specs.Prelude.{◌≡◌, ◌≢◌, ◌+◌, ◌≤◌, IfOk, List, None, length};
+ghost use Rattle.std.specs.Prelude.{◌≡◌, ◌≢◌, ◌+◌, ◌≤◌, IfOk, OnOk, List, None, length};
 ghost use Rattle.tb_base.specs.Records.{AllFit};
 ghost use Rattle.tb_base.specs.declared.var_set.TheConstants.{VARIABLES_IN_PLACE};
 ghost use Rattle.tb_board.specs.Holders.{release_seen, IsChainSeen};
 ghost use Rattle.tb_core.specs.Desks.{HasCube};
 ghost use Rattle.tb_core.specs.Got.{cube_got};
-ghost use Rattle.tb_core.specs.Takes.{cube_price, release_in, IsTaken};
+ghost use Rattle.tb_core.specs.Takes.{cost_of, cube_price, release_in, IsTaken};
 ghost use Rattle.tb_cube.specs.Cubes.{cube_over, unpacked};
 ghost use Rattle.tb_core.specs.Desks.{IsCubeAt};
 ghost use Rattle.tb_front.specs.Holders.{IsLater};
@@ -62,6 +62,7 @@ fn scan<L: Ledger>(
 ) -> Result<Vec<Cell>, Memory>
     requires fit { AllFit plan.now.shape release.now.records }
     ensures price { steps.new ≤ steps.old + length release.now.records }
+    ensures cost { OnOk result (steps.new ≡ steps.old + length release.now.records) }
     ensures cells { (schema : SchemaValue) (query : QueryValue) → plan.now ≡ plan_of schema query
         → IfOk result (λ cells. cells.items ≡ cells_of schema query release.now.records) }
 {
@@ -76,7 +77,8 @@ fn scan<L: Ledger>(
 }
 
 // The cube over some variables of the release that was taken: what is made of the one that was
-// found, or one that is built.
+// found, for which the changes that it is behind are lent, or one that is built, for which the
+// records are.
 fn cube_of<R: Threads + Sync, G: Gate, L: Ledger>(
     rt: &R,
     alloc: Global,
@@ -90,6 +92,7 @@ fn cube_of<R: Threads + Sync, G: Gate, L: Ledger>(
     requires taken { (base : ReleaseValue) × (chain : List BatchValue)
         × IsTaken shape.now base chain vars.now taken.now }
     ensures price { steps.new ≤ steps.old + cube_price (release_in taken.now) }
+    ensures cost { OnOk result (steps.new ≡ steps.old + cost_of taken.now) }
     ensures cube { IfOk result (λ got. cube_got got
         ≡ cube_over shape.now vars.now (release_in taken.now).records) }
 {

@@ -9,7 +9,7 @@ use Rattle.tb_top.specs.declared.endings.End.{End}
 use Rattle.tb_top.specs.declared.endings.End.TheVariants as end
 use Rattle.tb_top.specs.Asking.{AskedValue, Contents, asked_over, is_service}
 use Rattle.tb_top.specs.Calls.{Call}
-use Rattle.tb_top.specs.Commands.{NamedFile, asks_to_serve, command_files, command_of}
+use Rattle.tb_top.specs.Commands.{NamedFile, asks_to_generate, asks_to_serve, command_files, command_of}
 use Rattle.tb_top.specs.Loading.{Loads, Reading}
 use Rattle.tb_top.specs.Promises.{Keeps}
 use Rattle.tb_top.proofs.Finishing.{IsAnsweredBy, IsToldBy, keeps_by_load, keeps_by_task, keeps_by_usage, reading_of}
@@ -76,12 +76,13 @@ pub keeps_unasked : {A : Type 0} (view : A → AskedValue) (call : Call) (after 
     → (command_of call.words ≡ None → failed A e ≡ Err end.Usage)
     → ((command : Command) → command_of call.words ≡ Some command
     → Loads (reading_of call after) 0 (command_files command) view (asked_over command) (Err e))
+    → (asks_to_generate (command_of call.words) ≡ true → e ≡ end.Memory)
     → call.steps_after ≡ call.steps → All IsFresh call.ports → call.ports_after ≡ call.ports → IsToldBy call e s → Keeps call s
-keeps_unasked view call after e s usage loads free fresh same told = go (command_of call.words) refl
+keeps_unasked view call after e s usage loads accepted free fresh same told = go (command_of call.words) refl
   where
     go : (o : Option Command) → command_of call.words ≡ o → Keeps call s
     go None none =
         let is = usage none in
         let ended : e ≡ end.Usage = cc in
         keeps_by_usage call s none free fresh same (subst (λ x. IsToldBy call x s) ended told)
-    go (Some command) named = keeps_by_load view call after command e s named (loads command named) free fresh same told
+    go (Some command) named = keeps_by_load view call after command e s named (loads command named) accepted free fresh same told

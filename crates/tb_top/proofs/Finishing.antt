@@ -1,5 +1,5 @@
 -- What a call keeps, from how the run ended and what was taken of its text.
-use Rattle.std.proofs.Common.{◌≡◌, ◌≢◌, ◌⊎◌, ◌∙◌, sym, ap, subst, refl, ℕ, ◌+◌, ◌≤◌, List, All, ◌++◌, take, drop, Option, Some, None, Ok, Err, inl, inr}
+use Rattle.std.proofs.Common.{◌≡◌, ◌≢◌, ◌⊎◌, ◌∙◌, sym, ap, subst, refl, ℕ, ◌+◌, ◌<◌, ◌≤◌, List, All, ◌++◌, length, take, drop, Option, Some, None, Ok, Err, inl, inr, true, true≢false}
 use Rattle.std.specs.Prelude.{IfSome}
 use Rattle.std.proofs.lemmas.List.{take-append-drop}
 use Rattle.tb_base.specs.declared.status.Status.{Status}
@@ -13,13 +13,14 @@ use Rattle.tb_top.specs.declared.command.Command.TheVariants as command
 use Rattle.tb_top.specs.declared.command.Inputs.{Inputs}
 use Rattle.tb_top.specs.Asking.{AskedValue, CensusValue, Gen, Lanes, Script, Serve, asked_of, asked_over, contents_at, is_service}
 use Rattle.tb_top.specs.Calls.{Call, HasTaken, IsReadTo, NetFailed, ReadFailed, WriteFailed}
-use Rattle.tb_top.specs.Commands.{asks_to_serve, command_of, command_files, input_files, named}
+use Rattle.tb_top.specs.Commands.{asks_to_generate, asks_to_serve, command_of, command_files, input_files, named}
 use Rattle.tb_top.specs.Endings.{IsEnded, IsLineWritten, last_line, status_of}
 use Rattle.tb_top.specs.Loading.{Hold, Loads, Reading}
 use Rattle.tb_top.specs.Populations.{Population}
 use Rattle.tb_top.specs.Promises.{EndsBy, IsCaused, IsDefined, IsLastLine, IsPriced, IsTextOf, IsWhole, Keeps, defined_status}
 use Rattle.tb_top.specs.Outputs.{AreScriptReplies, IsAnswered, IsBegun, IsGenAnswered, IsOutput, IsScriptAnswered}
 use Rattle.tb_top.specs.Summaries.{summary_line}
+use Rattle.tb_top.specs.Summing.{most_counted}
 use Rattle.tb_top.proofs.PortLemmas.{all-unserved, same-idle}
 use Rattle.tb_top.proofs.LanesRun.{keeps_by_lanes}
 use Rattle.tb_top.proofs.Serving.{keeps_by_service}
@@ -149,7 +150,8 @@ status-read end.Memory h = cc
 module _ (call : Call) (e : End) (s : Status) (usage : e ≡ end.Usage → command_of call.words ≡ None)
     (words : command_of call.words ≡ None → e ≡ end.Usage)
     (rose : (file : Input) → e ≡ end.Unread file → ReadFailed call) (ends : IfSome call.content (λ at. e ≢ end.Memory → EndsBy call at e))
-    (priced : IfSome call.content (λ at. (call.steps_after ≡ call.steps) ⊎ IsPriced call at)) (fresh : All IsFresh call.ports)
+    (accepted : asks_to_generate (command_of call.words) ≡ true → e ≡ end.Memory)
+    (priced : IfSome call.content (λ at. (call.steps_after ≡ call.steps) ⊎ IsPriced call at s)) (fresh : All IsFresh call.ports)
     (same : call.ports_after ≡ call.ports) where
   usage_told : IsToldBy call e s → s ≡ status.Usage → (command_of call.words ≡ None) × HasTaken call (last_line end.Usage)
   usage_told (inl (is, took)) h = let u = status-usage e (sym is ∙ h) in (usage u, subst (λ x. HasTaken call (last_line x)) u took)
@@ -171,6 +173,10 @@ module _ (call : Call) (e : End) (s : Status) (usage : e ≡ end.Usage → comma
   net_told (inl (is, took)) h = let (net, write, done) = not_of_ends e in absurd (net (sym is ∙ h))
   net_told (inr (is, failed, part)) h = cc
 
+  generated_told : IsToldBy call e s → asks_to_generate (command_of call.words) ≡ true → (s ≡ status.Done) ⊎ ((s ≡ status.WriteFault) ⊎ (s ≡ status.Memory))
+  generated_told (inl (is, took)) h = inr (inr (is ∙ ap status_of (accepted h)))
+  generated_told (inr (is, failed, part)) h = inr (inl is)
+
   -- a run that ends before its task keeps all
   pub keeps_by_end : IsToldBy call e s → Keeps call s
   keeps_by_end told = record {
@@ -182,13 +188,14 @@ module _ (call : Call) (e : End) (s : Status) (usage : e ≡ end.Usage → comma
     net_fault = net_told told;
     exact = where_told _ _ call.content (λ at by. exact_by_end call at same e s by rose told) ends;
     price = priced;
+    generated = generated_told told;
     idle = same-idle call.ports call.ports_after same fresh;
     others = λ h. same;
   }
 
 -- no line was answered
-unpriced : (call : Call) → call.steps_after ≡ call.steps → IfSome call.content (λ at. (call.steps_after ≡ call.steps) ⊎ IsPriced call at)
-unpriced call free = always_told _ call.content (λ at. inl free)
+unpriced : (call : Call) (s : Status) → call.steps_after ≡ call.steps → IfSome call.content (λ at. (call.steps_after ≡ call.steps) ⊎ IsPriced call at s)
+unpriced call s free = always_told _ call.content (λ at. inl free)
 
 -- how a script was answered, and the status
 abbrev pub IsScriptAnsweredBy : Call → CensusValue → ScriptValue → Status → Type 0
@@ -212,8 +219,9 @@ keeps_by_script call command census script s named told fresh same (inl (is, (re
       price = where_told _ _ call.content (λ at h. inr (
         Script census script,
         h,
-        (replies, answers, TookPart-all call.taken call.taken_after (text_of replies) took, cost),
+        (replies, answers, (λ m. cc, TookPart-all call.taken call.taken_after (text_of replies) took), cost),
       )) told;
+      generated = λ h. inl is;
       idle = same-idle call.ports call.ports_after same fresh;
       others = λ h. same;
     }
@@ -231,13 +239,14 @@ keeps_by_script call command census script s named told fresh same (inr (inl (is
       write_fault = λ h. failed;
       net_fault = λ h. cc;
       exact = where_told _ _ call.content (λ at h. inr (inr (inr (inl (is, failed))))) told;
-      price = where_told _ _ call.content (λ at h. inr (Script census script, h, (replies, answers, part, cost))) told;
+      price = where_told _ _ call.content (λ at h. inr (Script census script, h, (replies, answers, (λ m. cc, part), cost))) told;
+      generated = λ h. inr (inl is);
       idle = same-idle call.ports call.ports_after same fresh;
       others = λ h. same;
     }
 keeps_by_script call command census script s named told fresh same (inr (inr (free, ended))) =
     keeps_by_end call end.Memory s (λ h. cc) (λ h. cc) (λ file h. cc) (always_told _ call.content (λ at ne. absurd (ne refl)))
-    (unpriced call free) fresh same ended
+    (λ h. refl) (unpriced call s free) fresh same ended
 
 -- how a generated population was answered, and the status
 abbrev pub IsGenAnsweredBy : Call → Population → CensusValue → ScriptValue → Status → Type 0
@@ -253,8 +262,8 @@ module _ (call : Call) (command : Command) (population : Population) (census : C
   line = summary_line population (text_of replies)
 
   -- the counter rose by no more than the replies' price
-  priced_by : IsBegun (Gen population census script) replies call.taken call.taken_after
-      → IfSome call.content (λ at. (call.steps_after ≡ call.steps) ⊎ IsPriced call at)
+  priced_by : IsBegun (Gen population census script) s replies call.taken call.taken_after
+      → IfSome call.content (λ at. (call.steps_after ≡ call.steps) ⊎ IsPriced call at s)
   priced_by begun = where_told _ _ call.content (λ at h. inr (Gen population census script, h, (replies, answers, begun, cost))) told
 
   whole_line : (at : List ℕ → Option (List ℕ)) → asked_of at call.words ≡ Ok (Gen population census script) → IsWhole call at status.Done line
@@ -269,7 +278,8 @@ module _ (call : Call) (command : Command) (population : Population) (census : C
     write_fault = λ h. cc;
     net_fault = λ h. cc;
     exact = where_told _ _ call.content (λ at h. inl (is ∙ sym (ap defined_status h))) told;
-    price = priced_by (inl (TookPart-all call.taken call.taken_after line took));
+    price = priced_by (inl (λ m. cc, TookPart-all call.taken call.taken_after line took));
+    generated = λ h. inl is;
     idle = same-idle call.ports call.ports_after same fresh;
     others = λ h. same;
   }
@@ -283,20 +293,22 @@ module _ (call : Call) (command : Command) (population : Population) (census : C
     write_fault = λ h. failed;
     net_fault = λ h. cc;
     exact = where_told _ _ call.content (λ at h. inr (inr (inr (inl (is, failed))))) told;
-    price = priced_by (inl part);
+    price = priced_by (inl (λ m. cc, part));
+    generated = λ h. inr (inl is);
     idle = same-idle call.ports call.ports_after same fresh;
     others = λ h. same;
   }
 
-  -- the text of the replies was lost
-  begun_lost : IsToldBy call end.Memory s → IsBegun (Gen population census script) replies call.taken call.taken_after
-  begun_lost (inl (is, took)) = inr (TookPart-all call.taken call.taken_after (last_line end.Memory) took)
-  begun_lost (inr (is, failed, part)) = inr part
+  -- the text of the replies has more bytes than are counted
+  begun_long : most_counted < length (text_of replies) → IsToldBy call end.Memory s
+      → IsBegun (Gen population census script) s replies call.taken call.taken_after
+  begun_long long (inl (is, took)) = inr (long, TookPart-all call.taken call.taken_after (last_line end.Memory) took)
+  begun_long long (inr (is, failed, part)) = inr (long, part)
 
-  keeps_by_lost : IsToldBy call end.Memory s → Keeps call s
-  keeps_by_lost ended =
+  keeps_by_long : most_counted < length (text_of replies) → IsToldBy call end.Memory s → Keeps call s
+  keeps_by_long long ended =
       keeps_by_end call end.Memory s (λ h. cc) (λ h. cc) (λ file h. cc) (always_told _ call.content (λ at ne. absurd (ne refl)))
-      (priced_by (begun_lost ended)) fresh same ended
+      (λ h. refl) (priced_by (begun_long long ended)) fresh same ended
 
 -- a run that comes to a generated population keeps all
 keeps_by_gen : (call : Call) (command : Command) (population : Population) (census : CensusValue) (script : ScriptValue) (s : Status)
@@ -304,11 +316,11 @@ keeps_by_gen : (call : Call) (command : Command) (population : Population) (cens
     → All IsFresh call.ports → call.ports_after ≡ call.ports → IsGenAnsweredBy call population census script s → Keeps call s
 keeps_by_gen call command population census script s named told fresh same (inl (replies, answers, cost, inl written)) =
     keeps_by_line call command population census script s named told fresh same replies answers cost written
-keeps_by_gen call command population census script s named told fresh same (inl (replies, answers, cost, inr ended)) =
-    keeps_by_lost call command population census script s named told fresh same replies answers cost ended
+keeps_by_gen call command population census script s named told fresh same (inl (replies, answers, cost, inr (long, ended))) =
+    keeps_by_long call command population census script s named told fresh same replies answers cost long ended
 keeps_by_gen call command population census script s named told fresh same (inr (free, ended)) =
     keeps_by_end call end.Memory s (λ h. cc) (λ h. cc) (λ file h. cc) (always_told _ call.content (λ at ne. absurd (ne refl)))
-    (unpriced call free) fresh same ended
+    (λ h. refl) (unpriced call s free) fresh same ended
 
 -- how what is asked for was answered, and the status
 abbrev pub IsAnsweredBy : Call → AskedValue → Status → Type 0
@@ -379,9 +391,10 @@ holds at (command.Gen population) = tt
 -- how loading ended the run
 pub keeps_by_load : {A : Type 0} (view : A → AskedValue) (call : Call) (after : Option (List ℕ → Option (List ℕ))) (command : Command)
     (e : End) (s : Status) → command_of call.words ≡ Some command
-    → Loads (reading_of call after) 0 (command_files command) view (asked_over command) (Err e) → call.steps_after ≡ call.steps
+    → Loads (reading_of call after) 0 (command_files command) view (asked_over command) (Err e)
+    → (asks_to_generate (command_of call.words) ≡ true → e ≡ end.Memory) → call.steps_after ≡ call.steps
     → All IsFresh call.ports → call.ports_after ≡ call.ports → IsToldBy call e s → Keeps call s
-keeps_by_load view call after command e s named loads free fresh same told =
+keeps_by_load view call after command e s named loads accepted free fresh same told =
     let rose = λ (file : Input) (h : e ≡ end.Unread file). loads.risen file (ap (λ (x : End). Err x) h) in
     let last = λ (file : Input) (h : e ≡ end.Unread file). loads.last file (ap (λ (x : End). Err x) h) in
     keeps_by_end call e s
@@ -392,14 +405,15 @@ keeps_by_load view call after command e s named loads free fresh same told =
       caused call command e named rose last,
       same,
     )) loads.gives)
-    (unpriced call free) fresh same told
+    accepted (unpriced call s free) fresh same told
 
 -- other arguments end the run at once
 pub keeps_by_usage : (call : Call) (s : Status) → command_of call.words ≡ None → call.steps_after ≡ call.steps → All IsFresh call.ports
     → call.ports_after ≡ call.ports → IsToldBy call end.Usage s → Keeps call s
 keeps_by_usage call s none free fresh same told =
     keeps_by_end call end.Usage s (λ h. none) (λ h. refl) (λ file h. cc)
-    (always_told _ call.content (λ at ne. (rw none refl, tt, same))) (unpriced call free) fresh same told
+    (always_told _ call.content (λ at ne. (rw none refl, tt, same)))
+    (λ h. absurd (true≢false (sym h ∙ ap asks_to_generate none))) (unpriced call s free) fresh same told
 
 -- files that were all read lead to the task
 pub keeps_by_task : {A : Type 0} (view : A → AskedValue) (call : Call) (after : Option (List ℕ → Option (List ℕ))) (command : Command)

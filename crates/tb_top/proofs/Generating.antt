@@ -1,7 +1,16 @@
 -- What a generated population asks for, by steps over its files in memory.
 use Rattle.std.proofs.Common.{◌≡◌, ◌≢◌, ◌∙◌, ap, sym, subst, refl, ℕ, List, [], Option, Some, None, Result, Ok, Err, false, true≢false, arith}
-use Rattle.std.specs.Prelude.{IfSome, bytes_eq, codes, unwrap_or}
+use Rattle.std.specs.Prelude.{◌≤◌, IfErr, IfSome, bytes_eq, codes, length, unwrap_or}
+use Rattle.std.proofs.lemmas.Bool.{le-ltb}
+use Rattle.tb_script.specs.Scripts.{ScriptValue, script_lines, script_value}
 use Rattle.std.proofs.lemmas.Slice.Eq.{bytes_eq-Decides}
+use Rattle.tb_gen_laws.proofs.Computed.{classes-short, recodes-short, schema-is, schema-said, whole_schema}
+use Rattle.tb_gen_laws.proofs.Microdata.{people-accepted, people-short}
+use Rattle.tb_gen_laws.proofs.Perturbations.{table-accepted, table-short}
+use Rattle.tb_gen_laws.proofs.ScriptRounds.{script-is}
+use Rattle.tb_gen_laws.proofs.ScriptTexts.{text-accepted}
+use Rattle.tb_gen_laws.specs.People.{generated_records}
+use Rattle.tb_gen_laws.specs.Perturbations.{generated_table}
 use Rattle.tb_gen.specs.Generated.{generated_classes, generated_people, generated_ptable, generated_recodes, generated_script}
 use Rattle.tb_io.specs.Faults.{HasRisen}
 use Rattle.tb_io.specs.HeldFiles.{HasHeld, HeldFiles, bytes_or_none}
@@ -12,12 +21,12 @@ use Rattle.tb_top.specs.declared.endings.Input.{Input}
 use Rattle.tb_top.specs.declared.endings.Input.TheVariants as input
 use Rattle.tb_top.specs.declared.endings.End.{End}
 use Rattle.tb_top.specs.declared.endings.End.TheVariants as end
-use Rattle.tb_top.specs.Asking.{Contents, Gen, script_over}
+use Rattle.tb_top.specs.Asking.{AskedValue, Contents, Gen, bytes_in, generated_asked, most_bytes, people_in, perturbation_in, schema_in, script_in, script_over}
 use Rattle.tb_top.specs.Commands.{NamedFile, command_files}
 use Rattle.tb_top.specs.Endings.{input_name}
 use Rattle.tb_top.specs.GeneratedFiles.{HoldGenerated, generated_contents, generated_inputs}
 use Rattle.tb_top.specs.Loading.{Hold, Loads, Makes, Reading, asked_value}
-use Rattle.tb_top.specs.Populations.{Population}
+use Rattle.tb_top.specs.Populations.{HasPersons, Population}
 use Rattle.tb_top.proofs.LoadSteps.{contents_same}
 use Rattle.tb_top.proofs.Telling.{always_told}
 
@@ -116,3 +125,61 @@ loads-as p inputs inputs' name name' result {saw} one two h =
     let P : Inputs → Type 0 = λ i. Loads saw 0 (command_files (command.Script i name)) asked_value (script_over (Gen p) i) result in
     let Q : List ℕ → Type 0 = λ n. Loads saw 0 (command_files (command.Script inputs' n)) asked_value (script_over (Gen p) inputs') result in
     subst Q two (subst P one h)
+
+-- ---- the files are accepted
+
+-- an end that can't be another than memory's
+memory-alone : (e : End) → (e ≢ end.Memory → ⊥) → e ≡ end.Memory
+memory-alone end.Memory no = refl
+memory-alone end.Usage no = absurd (no (λ h. cc))
+memory-alone (end.TooLong file) no = absurd (no (λ h. cc))
+memory-alone (end.Unread file) no = absurd (no (λ h. cc))
+memory-alone (end.Refused file name at) no = absurd (no (λ h. cc))
+memory-alone (end.BadLine at) no = absurd (no (λ h. cc))
+
+-- a file that isn't too long
+short-bytes : (file : Input) (bytes : List ℕ) → length bytes ≤ most_bytes file → bytes_in file (Some bytes) ≡ Ok bytes
+short-bytes file bytes short = rw (le-ltb (most_bytes file) (length bytes) short) refl
+
+module _ (p : Population) (has : HasPersons p) where
+  abbrev contents : Contents
+  contents = generated_contents p
+
+  abbrev script : ScriptValue
+  script = script_value (script_lines (generated_script p.persons p.start))
+
+  schema-there : schema_in generated_inputs.recodes contents ≡ Ok whole_schema
+  schema-there =
+      rw (
+        short-bytes input.Classes generated_classes (omega (arith, classes-short)),
+        short-bytes input.Recodes generated_recodes (omega (arith, recodes-short)),
+        schema-said,
+      ) refl
+
+  table-there : perturbation_in whole_schema.keys contents ≡ Ok (generated_table p.start)
+  table-there = rw (short-bytes input.Ptable (generated_ptable p.start) (table-short p.start), table-accepted p.start) refl
+
+  people-there : people_in whole_schema contents ≡ Ok (generated_records p.persons p.start)
+  people-there =
+      rw (
+        short-bytes input.People (generated_people p.persons p.start) (people-short p.persons p.start has.few),
+        people-accepted p.persons p.start has.few whole_schema schema-is,
+      ) refl
+
+  script-there : script_in contents ≡ Ok script
+  script-there =
+      let text = script-is p.persons (omega (arith, has.some)) has.few p.start in
+      rw (
+        short-bytes input.Script (generated_script p.persons p.start) (omega (arith, text.short)),
+        text-accepted (generated_script p.persons p.start) 17746 text,
+      ) refl
+
+  asked-there : (asked : AskedValue) × (generated_asked p ≡ Ok asked)
+  asked-there = (_, rw (schema-there, table-there, people-there, script-there) refl)
+
+  -- so a run over them ends before its task only where memory runs out
+  pub accepted-made : {A : Type 0} (view : A → AskedValue) (result : Result A End) → Makes view (generated_asked p) result
+      → IfErr result (λ e. e ≡ end.Memory)
+  accepted-made view (Ok x) made = tt
+  accepted-made view (Err e) made = memory-alone e (λ other.
+      let bad : Ok asked-there.0 ≡ Err e = sym asked-there.1 ∙ made.2 other in cc)

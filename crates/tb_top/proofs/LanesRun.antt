@@ -51,7 +51,7 @@ pub keeps_by_lanes : (call : Call) (command : Command) (census : CensusValue) (s
 keeps_by_lanes call command census script s named told free fresh same (final, text, is, ended) =
     keeps_by_final call command (Lanes census script) s final text named told free (lanes_final census script final text is)
     (λ net. absurd (never_net census script final text is net)) (same-idle call.ports call.ports_after same fresh) (λ h. same)
-    (λ at asked. lanes_whole call at census script final text asked same is) ended
+    (λ h net. never_net census script final text is net) (λ at asked. lanes_whole call at census script final text asked same is) ended
 
 -- ---- over a new board
 

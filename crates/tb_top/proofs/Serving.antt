@@ -14,11 +14,12 @@ use Rattle.tb_serve.specs.Serves.{IsEnded, IsPortServed, Output, final_status, o
 use Rattle.tb_serve.specs.Stages.{HasRisenSome, IsFresh, IsUntouched}
 use Rattle.tb_top.specs.Asking.{AskedValue, CensusValue, Serve, asked_of, base_of}
 use Rattle.tb_top.specs.Calls.{Call, HasTaken, NetFailed}
-use Rattle.tb_top.specs.Commands.{asks_to_serve, command_of}
+use Rattle.tb_top.specs.Commands.{asks_to_generate, asks_to_serve, command_of}
 use Rattle.tb_top.specs.ServicePorts.{Service}
 use Rattle.tb_top.specs.Promises.{IsAskedOutput, IsDefined, IsTextOf, IsWhole, Keeps, defined_status}
 use Rattle.tb_top.specs.Services.{IsIdle, IsServiceAnswered}
 use Rattle.tb_top.specs.declared.command.Command.{Command}
+use Rattle.tb_top.specs.declared.command.Command.TheVariants as command
 use Rattle.tb_top.proofs.PortLemmas.{each-idle, each-unserved, each-whole, idle-whole, risen-whole, take-fresh, unserved}
 use Rattle.tb_top.proofs.Telling.{always_told, where_told}
 
@@ -45,6 +46,7 @@ module _ (call : Call) (command : Command) (task : AskedValue) (s final : Status
     (told : IfSome call.content (λ at. asked_of at call.words ≡ Ok task)) (free : call.steps_after ≡ call.steps)
     (is_final : IsFinal final) (failed : final ≡ status.NetFault → NetFailed call) (idle : All IsIdle call.ports_after)
     (others : asks_to_serve (Some command) ≡ false → call.ports_after ≡ call.ports)
+    (no_net : asks_to_generate (Some command) ≡ true → final ≢ status.NetFault)
     (whole : (at : List ℕ → Option (List ℕ)) → asked_of at call.words ≡ Ok task → IsWhole call at final text) where
   text_told : (at : List ℕ → Option (List ℕ)) → asked_of at call.words ≡ Ok task
       → IsEnded text final (output_of call) s → (bytes : List ℕ) × IsTextOf call at s bytes × HasTaken call bytes
@@ -84,6 +86,26 @@ module _ (call : Call) (command : Command) (task : AskedValue) (s final : Status
   net_told (inl (is, took)) h = failed (sym is ∙ h)
   net_told (inr (is, part, rose)) h = cc
 
+  -- where a generated population is asked for it isn't NetFault
+  final_told : (f : Status) → IsFinal f → f ≢ status.NetFault → (f ≡ status.Done) ⊎ ((f ≡ status.WriteFault) ⊎ (f ≡ status.Memory))
+  final_told status.Done is net = inl refl
+  final_told status.Memory is net = inr (inr refl)
+  final_told status.NetFault is net = absurd (net refl)
+  final_told status.Usage is net = absurd is
+  final_told status.Schema is net = absurd is
+  final_told status.Perturbation is net = absurd is
+  final_told status.Microdata is net = absurd is
+  final_told status.Script is net = absurd is
+  final_told status.ReadFault is net = absurd is
+  final_told status.WriteFault is net = absurd is
+
+  generated_told : IsEnded text final (output_of call) s → asks_to_generate (Some command) ≡ true
+      → (s ≡ status.Done) ⊎ ((s ≡ status.WriteFault) ⊎ (s ≡ status.Memory))
+  generated_told (inl (is, took)) h =
+      let P : Status → Type 0 = λ x. (x ≡ status.Done) ⊎ ((x ≡ status.WriteFault) ⊎ (x ≡ status.Memory)) in
+      subst P (sym is) (final_told final is_final (no_net h))
+  generated_told (inr (is, part, rose)) h = inr (inl is)
+
   pub keeps_by_final : IsEnded text final (output_of call) s → Keeps call s
   keeps_by_final ended = record {
     text = where_told _ _ call.content (λ at asked. text_told at asked ended) told;
@@ -94,6 +116,7 @@ module _ (call : Call) (command : Command) (task : AskedValue) (s final : Status
     net_fault = net_told ended;
     exact = where_told _ _ call.content (λ at asked. exact_told at ended asked) told;
     price = always_told _ call.content (λ at. inl free);
+    generated = λ h. generated_told ended (ap asks_to_generate (sym named) ∙ h);
     idle = idle;
     others = λ h. others (ap asks_to_serve (sym named) ∙ h);
   }
@@ -149,6 +172,13 @@ failed-risen call census service chain ports ports' each some =
     let inside : i < length ports = omega (arith, below, each.same_length) in
     (i, inside, λ d. (each.at i d inside).sessions.enough.risen (failed_at ports' i x d below (sym at) failed))
 
+-- a command that asks for sessions asks for no generated population
+serves-alone : (c : Command) → asks_to_serve (Some c) ≡ true → asks_to_generate (Some c) ≡ true → ⊥
+serves-alone (command.Script inputs script) serves generates = cc
+serves-alone (command.Lanes inputs script) serves generates = cc
+serves-alone (command.Serve inputs service) serves generates = cc
+serves-alone (command.Gen population) serves generates = cc
+
 -- the ports of a service that was answered, and the others
 module _ (call : Call) (command : Command) (census : CensusValue) (service : Service) (s : Status)
     (named : command_of call.words ≡ Some command) (serves : asks_to_serve (Some command) ≡ true)
@@ -165,6 +195,10 @@ module _ (call : Call) (command : Command) (census : CensusValue) (service : Ser
   no_others : asks_to_serve (Some command) ≡ false → call.ports_after ≡ call.ports
   no_others h = cc
 
+  -- and no generated population is
+  not_generated : (final : Status) → asks_to_generate (Some command) ≡ true → final ≢ status.NetFault
+  not_generated final h = absurd (serves-alone command serves h)
+
   -- nothing was accepted
   by_untouched : (text : List ℕ) (final : Status) → IsFinal final → Each (IsUntouched service.port) (take n call.ports) (take n call.ports_after)
       → (final ≡ status.NetFault → NetFailed call)
@@ -172,7 +206,8 @@ module _ (call : Call) (command : Command) (census : CensusValue) (service : Ser
       → IsEnded text final (output_of call) s → Keeps call s
   by_untouched text final is each net whole ended =
       let idle = idle-whole n call.ports call.ports_after long each.same_length rest fresh (each-idle service.port _ _ each ours) in
-      keeps_by_final call command (Serve census service) s final text named told free is net idle no_others whole ended
+      keeps_by_final call command (Serve census service) s final text named told free is net idle no_others
+      (not_generated final) whole ended
 
   by_memory : Each (IsUntouched service.port) (take n call.ports) (take n call.ports_after)
       → IsEnded memory_line status.Memory (output_of call) s → Keeps call s
@@ -200,7 +235,8 @@ module _ (call : Call) (command : Command) (census : CensusValue) (service : Ser
       keeps_by_final call command (Serve census service) s (final_status ports) text named told free
       (final_is (final_status ports) (done_or_net ports ending))
       (λ h. risen-whole n call.ports call.ports_after long each.same_length rest
-      (failed-risen call census service chain _ _ each (some_by ports ending h))) idle no_others whole ended
+      (failed-risen call census service chain _ _ each (some_by ports ending h))) idle no_others
+      (not_generated (final_status ports)) whole ended
 
 -- a run that served sessions keeps all
 pub keeps_by_service : (call : Call) (command : Command) (census : CensusValue) (service : Service) (s : Status)

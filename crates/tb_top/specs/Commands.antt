@@ -152,3 +152,11 @@ asks_to_serve (Some (command.Script inputs script)) = false
 asks_to_serve (Some (command.Lanes inputs script)) = false
 asks_to_serve (Some (command.Gen population)) = false
 asks_to_serve None = false
+
+-- whether a generated population is asked for
+abbrev pub asks_to_generate : Option Command → Bool
+asks_to_generate (Some (command.Gen population)) = true
+asks_to_generate (Some (command.Script inputs script)) = false
+asks_to_generate (Some (command.Lanes inputs script)) = false
+asks_to_generate (Some (command.Serve inputs service)) = false
+asks_to_generate None = false

@@ -51,8 +51,8 @@ last_line (end.Refused file name at) = refusal_line file name at
 last_line (end.BadLine at) = codes "fault script " ++ decimal at ++ codes "\n"
 last_line end.Memory = codes "fault memory\n"
 
--- a run that ended with a status wrote this line: it was taken, with the line's own status, or, where
--- a write failed, a beginning of it
+-- a run that ended with a status wrote this line: it was taken, with the line's own status, or,
+-- where a write failed, a beginning of it
 abbrev pub IsLineWritten : Status → List ℕ → Status → (faults faults' : ℕ)
     → (taken taken' : Option (List ℕ)) → Type 0
 IsLineWritten own line s faults faults' taken taken' =

@@ -2,6 +2,7 @@ pub mod Numbers
 pub mod ServicePorts
 pub mod Populations
 pub mod Summaries
+pub mod Summing
 pub mod Commands
 pub mod Endings
 pub mod GeneratedFiles

@@ -1,5 +1,5 @@
 -- The outputs of what is asked for.
-use Rattle.std.specs.Prelude.{◌≡◌, ◌⊎◌, ◌+◌, ◌≤◌, ℕ, List, [], Option}
+use Rattle.std.specs.Prelude.{◌≡◌, ◌≢◌, ◌⊎◌, ◌+◌, ◌<◌, ◌≤◌, ℕ, List, [], Option, length}
 use Rattle.tb_base.specs.declared.status.Status.{Status}
 use Rattle.tb_base.specs.declared.status.Status.TheVariants as status
 use Rattle.tb_io.specs.Faults.{HasRisen}
@@ -15,6 +15,7 @@ use Rattle.tb_top.specs.LaneOutputs.{AreLanesAnswered, IsTextOfPhases, IsTextToM
 use Rattle.tb_top.specs.Populations.{Population}
 use Rattle.tb_top.specs.Services.{IsServiceAnswered, IsServiceOutput}
 use Rattle.tb_top.specs.Summaries.{summary_line}
+use Rattle.tb_top.specs.Summing.{most_counted}
 
 -- these are replies to the script's lines, one after another, from release 0 of the microdata on
 abbrev pub AreScriptReplies : CensusValue → ScriptValue → List ReplyValue → Type 0
@@ -22,16 +23,16 @@ AreScriptReplies census script replies =
     AreReplies (IsLaneReply census.setup (base_of census))
     (record { chain = []; held = [] }) script.lines replies
 
--- the same of what is asked for, which may be a summary of them; lanes that are answered at the same
--- time and sessions get their replies elsewhere
+-- the same of what is asked for, which may be a summary of them; lanes that are answered at the
+-- same time and sessions get their replies elsewhere
 abbrev pub AreAnswers : AskedValue → List ReplyValue → Type 0
 AreAnswers (Script census script) replies = AreScriptReplies census script replies
 AreAnswers (Lanes census script) replies = ⊥
 AreAnswers (Serve census service) replies = ⊥
 AreAnswers (Gen population census script) replies = AreScriptReplies census script replies
 
--- a text is the output of a run with this status over these ports: that of such replies, that of all
--- phases, what a service writes, or the line that sums up such replies
+-- a text is the output of a run with this status over these ports: that of such replies, that of
+-- all phases, what a service writes, or the line that sums up such replies
 abbrev pub IsOutput : AskedValue → (ports ports' : List PortValue) → Status → List ℕ → Type 0
 IsOutput (Script census script) ports ports' s text =
     (s ≡ status.Done)
@@ -46,15 +47,18 @@ IsOutput (Gen population census script) ports ports' s text =
     × ((replies : List ReplyValue) × AreAnswers (Gen population census script) replies
     × (text ≡ summary_line population (text_of replies)))
 
--- the sink took a beginning of what is written of these replies: of their text, or of the line that
--- sums it up; or, where that text was lost for want of memory, of the line that says so
-abbrev pub IsBegun : AskedValue → List ReplyValue → (taken taken' : Option (List ℕ)) → Type 0
-IsBegun (Script census script) replies taken taken' = TookPart taken taken' (text_of replies)
-IsBegun (Lanes census script) replies taken taken' = ⊥
-IsBegun (Serve census service) replies taken taken' = ⊥
-IsBegun (Gen population census script) replies taken taken' =
-    TookPart taken taken' (summary_line population (text_of replies))
-    ⊎ TookPart taken taken' (last_line end.Memory)
+-- the sink took a beginning of what is written of these replies, and the run ended with a status
+-- that isn't want of memory: a beginning of their text, or of the line that sums it up; or, where
+-- that text has more bytes than are counted, of the line that says that memory ran out
+abbrev pub IsBegun : AskedValue → Status → List ReplyValue → (taken taken' : Option (List ℕ))
+    → Type 0
+IsBegun (Script census script) s replies taken taken' =
+    (s ≢ status.Memory) × TookPart taken taken' (text_of replies)
+IsBegun (Lanes census script) s replies taken taken' = ⊥
+IsBegun (Serve census service) s replies taken taken' = ⊥
+IsBegun (Gen population census script) s replies taken taken' =
+    ((s ≢ status.Memory) × TookPart taken taken' (summary_line population (text_of replies)))
+    ⊎ ((most_counted < length (text_of replies)) × TookPart taken taken' (last_line end.Memory))
 
 -- a text is what is asked for as far as it came, and then the line that tells that memory ran out
 abbrev pub IsOutputToMemory : AskedValue → List ℕ → Type 0
@@ -76,17 +80,22 @@ IsScriptAnswered asked s faults faults' taken taken' steps steps' =
     × TookPart taken taken' (text_of replies) × (steps' ≤ steps + price_of replies)))
     ⊎ ((steps' ≡ steps) × IsEnded end.Memory s faults faults' taken taken'))
 
--- A generated population was answered: the line that sums up the replies was written, or, where
--- their text was lost for want of memory, the line that says so, and the counter of steps rose by no
--- more than their price. Or memory ran out before the first line.
+-- A text was summed up: the line that does so was written, or, where the text has more bytes than
+-- are counted, the line that says that memory ran out.
+abbrev pub IsSummedUp : Population → (text : List ℕ) → Status → (faults faults' : ℕ)
+    → (taken taken' : Option (List ℕ)) → Type 0
+IsSummedUp population text s faults faults' taken taken' =
+    IsLineWritten status.Done (summary_line population text) s faults faults' taken taken'
+    ⊎ ((most_counted < length text) × IsEnded end.Memory s faults faults' taken taken')
+
+-- A generated population was answered: the text of replies was summed up, and the counter of steps
+-- rose by no more than their price. Or memory ran out before the first line.
 abbrev pub IsGenAnswered : Population → CensusValue → ScriptValue → Status → (faults faults' : ℕ)
     → (taken taken' : Option (List ℕ)) → (steps steps' : ℕ) → Type 0
 IsGenAnswered population census script s faults faults' taken taken' steps steps' =
     ((replies : List ReplyValue) × AreAnswers (Gen population census script) replies
     × (steps' ≤ steps + price_of replies)
-    × (IsLineWritten status.Done (summary_line population (text_of replies)) s
-    faults faults' taken taken'
-    ⊎ IsEnded end.Memory s faults faults' taken taken'))
+    × IsSummedUp population (text_of replies) s faults faults' taken taken')
     ⊎ ((steps' ≡ steps) × IsEnded end.Memory s faults faults' taken taken')
 
 -- What is asked for was answered, over these ports. A script touches none, and what lanes at the

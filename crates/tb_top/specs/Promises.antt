@@ -1,5 +1,5 @@
 -- What each status of the top call tells.
-use Rattle.std.specs.Prelude.{◌≡◌, ◌⊎◌, ◌+◌, ◌≤◌, ℕ, List, ◌++◌, All, false, Option, None, Some, Result, Ok, Err, IfSome}
+use Rattle.std.specs.Prelude.{◌≡◌, ◌⊎◌, ◌+◌, ◌≤◌, ℕ, List, ◌++◌, All, false, true, Option, None, Some, Result, Ok, Err, IfSome}
 use Rattle.tb_base.specs.declared.status.Status.{Status}
 use Rattle.tb_base.specs.declared.status.Status.TheVariants as status
 use Rattle.tb_session.specs.Outputs.{ReplyValue, price_of}
@@ -8,7 +8,7 @@ use Rattle.tb_top.specs.declared.endings.End.{End}
 use Rattle.tb_top.specs.declared.endings.End.TheVariants as end
 use Rattle.tb_top.specs.Asking.{AskedValue, asked_by, asked_of, contents_at, contents_for}
 use Rattle.tb_top.specs.Calls.{Call, HasTaken, IsReadTo, NetFailed, ReadFailed, WriteFailed}
-use Rattle.tb_top.specs.Commands.{asks_to_serve, command_of, command_files}
+use Rattle.tb_top.specs.Commands.{asks_to_generate, asks_to_serve, command_of, command_files}
 use Rattle.tb_top.specs.declared.command.Command.{Command}
 use Rattle.tb_top.specs.Endings.{last_line, status_of}
 use Rattle.tb_top.specs.Outputs.{AreAnswers, IsBegun, IsOutput, IsOutputToMemory}
@@ -34,7 +34,8 @@ IsCaused call end.Memory = Unit {0}
 -- couldn't be read, where each earlier file is there, not too long and accepted; no port changed
 abbrev pub EndsBy : Call → (List ℕ → Option (List ℕ)) → End → Type 0
 EndsBy call at e =
-    (asked_by (λ command. contents_for e (contents_at at (command_files command))) call.words ≡ Err e)
+    (asked_by (λ command. contents_for e (contents_at at (command_files command))) call.words
+    ≡ Err e)
     × IsCaused call e × (call.ports_after ≡ call.ports)
 
 -- a text is the last line of a run that ends so with this status, and nothing else
@@ -54,8 +55,8 @@ IsMemoryText call at text =
     ⊎ ((asked : AskedValue) × (asked_of at call.words ≡ Ok asked) × IsOutputToMemory asked text)
 
 -- a text is what a run with this status writes where no write fails: with Done and NetFault an
--- output, with another status its last line; with Memory no session came or went, and only the texts
--- of phases that had ended stand before the last line
+-- output, with another status its last line; with Memory no session came or went, and only the
+-- texts of phases that had ended stand before the last line
 abbrev pub IsWhole : Call → (List ℕ → Option (List ℕ)) → Status → List ℕ → Type 0
 IsWhole call at status.Done text = IsAskedOutput call at status.Done text
 IsWhole call at status.Usage text = IsLastLine call at status.Usage text
@@ -95,12 +96,12 @@ IsDefined call at s =
     ⊎ ((s ≡ status.NetFault) × NetFailed call))))
 
 -- the counter rose by no more than the price of some replies to a script, of which a beginning of
--- what is written was taken
-abbrev pub IsPriced : Call → (List ℕ → Option (List ℕ)) → Type 0
-IsPriced call at =
+-- what is written with this status was taken
+abbrev pub IsPriced : Call → (List ℕ → Option (List ℕ)) → Status → Type 0
+IsPriced call at s =
     (asked : AskedValue) × (asked_of at call.words ≡ Ok asked)
     × ((replies : List ReplyValue) × AreAnswers asked replies
-    × IsBegun asked replies call.taken call.taken_after
+    × IsBegun asked s replies call.taken call.taken_after
     × (call.steps_after ≤ call.steps + price_of replies))
 
 -- what a call keeps, whatever its status
@@ -117,9 +118,13 @@ pub record Keeps (call : Call) (s : Status) : Type 0 where
   pub net_fault : s ≡ status.NetFault → NetFailed call
   -- No status comes but the defined one, Memory, or a fault whose count rose.
   pub exact : IfSome call.content (λ at. IsDefined call at s)
-  -- The counter rises by no more than the replies' price, and not at all where no line is answered.
+  -- The counter rises by no more than the replies' price, and not at all where no line is answered,
+  -- as with Memory.
   pub price : IfSome call.content (λ at.
-      (call.steps_after ≡ call.steps) ⊎ IsPriced call at)
+      (call.steps_after ≡ call.steps) ⊎ IsPriced call at s)
+  -- The generated files are in their grammars: a run over them ends by none of them.
+  pub generated : asks_to_generate (command_of call.words) ≡ true
+      → (s ≡ status.Done) ⊎ ((s ≡ status.WriteFault) ⊎ (s ≡ status.Memory))
   -- At the return no one is served at a port, and where no sessions are asked for none changed.
   pub idle : All IsIdle call.ports_after
   pub others : asks_to_serve (command_of call.words) ≡ false → call.ports_after ≡ call.ports

@@ -16,8 +16,8 @@ abbrev pub ports_of : Service → List PortValue → List PortValue
 ports_of service ports = take (service.workers + 1) ports
 
 -- what became of each port of a service is told of each; no other port changed
-abbrev pub EachPort : Service → (ℕ → PortValue → PortValue → Type 0) → (before after : List PortValue)
-    → Type 0
+abbrev pub EachPort : Service → (ℕ → PortValue → PortValue → Type 0)
+    → (before after : List PortValue) → Type 0
 EachPort service R before after =
     Each R (ports_of service before) (ports_of service after)
     × (drop (service.workers + 1) after ≡ drop (service.workers + 1) before)

@@ -1,10 +1,11 @@
 // What the arguments and the files ask for.
 
-ghost use Rattle.std.specs.Prelude.{◌≡◌, IfOk, None, Some, Err, map, string_bytes};
+ghost use Rattle.std.specs.Prelude.{◌≡◌, IfErr, IfOk, None, Some, Err, map, string_bytes, true};
 ghost use Rattle.tb_top.specs.declared.command.Command.{Command as CommandValue};
 ghost use Rattle.tb_top.specs.declared.endings.End.TheVariants as end;
 ghost use Rattle.tb_top.specs.Asking.{asked_over, is_service};
-ghost use Rattle.tb_top.specs.Commands.{asks_to_serve, command_files, command_of};
+ghost use Rattle.tb_top.specs.Commands.{asks_to_generate, asks_to_serve, command_files};
+ghost use Rattle.tb_top.specs.Commands.{command_of};
 ghost use Rattle.tb_top.specs.Loading.{AskedIsFirst, Loads, asked_value, reading};
 
 use crate::command::read_command;
@@ -21,6 +22,8 @@ pub fn ask<F: Files>(alloc: Global, words: &[String], files: &mut F) -> Result<A
     ensures first { IfOk result AskedIsFirst }
     ensures kind { IfOk result (λ asked. is_service (asked_value asked)
         ≡ asks_to_serve (command_of (map string_bytes words.now))) }
+    ensures generated { asks_to_generate (command_of (map string_bytes words.now)) ≡ true
+        → IfErr result (λ e. e ≡ end.Memory) }
     ensures usage { command_of (map string_bytes words.now) ≡ None → result ≡ Err end.Usage }
     ensures loads { (command : CommandValue)
         → command_of (map string_bytes words.now) ≡ Some command

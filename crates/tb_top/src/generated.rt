@@ -1,12 +1,14 @@
 // What a run over a generated population is asked for: what `script` would be asked for over the
 // generated files, which stand in memory and are read like any others.
 
-ghost use Rattle.std.specs.Prelude.{◌≡◌, IfOk, false};
+ghost use Rattle.std.specs.Prelude.{◌≡◌, IfErr, IfOk, false};
 ghost use Rattle.tb_top.specs.declared.command.Command.TheVariants as command;
+ghost use Rattle.tb_top.specs.declared.endings.End.TheVariants as end;
 ghost use Rattle.tb_top.specs.Asking.{Gen, generated_asked, is_service, script_over};
 ghost use Rattle.tb_top.specs.Commands.{command_files};
 ghost use Rattle.tb_top.specs.GeneratedFiles.{HoldGenerated};
 ghost use Rattle.tb_top.specs.Loading.{AskedIsFirst, Loads, Makes, asked_value, reading};
+ghost use Rattle.tb_top.specs.Populations.{HasPersons};
 
 use crate::command::{FileName, Inputs, generated_inputs};
 use crate::endings::{End, Input};
@@ -19,7 +21,8 @@ use tb_io::{Files, SureFiles};
 
 // The generated files in memory, each under the name that it has in a last line.
 fn hold_generated(alloc: Global, population: &Population) -> Result<SureFiles, Memory>
-    ensures { IfOk result (λ files. HoldGenerated population.now files) }
+    ensures held { IfOk result (λ files. HoldGenerated population.now files) }
+    ensures some { HasPersons population.now }
 {
     let generated = files_of(alloc, population.persons(), population.start())?;
     let mut files = SureFiles::new(alloc);
@@ -58,12 +61,13 @@ fn load_from<F: Files>(
     })
 }
 
-/// What is asked for over the generated files of a population. It takes memory for the files, for
-/// each while it is read, and for what it says.
+/// What is asked for over the generated files of a population, which are accepted. It takes memory
+/// for the files, for each while it is read, and for what it says.
 pub fn load_generated(alloc: Global, population: &Population) -> Result<Asked, End>
     ensures first { IfOk result AskedIsFirst }
     ensures kind { IfOk result (λ asked. is_service (asked_value asked) ≡ false) }
     ensures makes { Makes asked_value (generated_asked population.now) result }
+    ensures accepted { IfErr result (λ e. e ≡ end.Memory) }
 {
     let mut files = hold_generated(alloc, population)?;
     let inputs = generated_inputs();

@@ -30,6 +30,9 @@ mod numbers;
 mod population;
 mod service;
 mod summary;
+mod summing;
+mod sums;
+mod told_text;
 mod top;
 
 pub use command::{Command, FileName, GENERATED_THRESHOLD, Inputs, read_command};

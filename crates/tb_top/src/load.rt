@@ -1,17 +1,18 @@
 // The files of a run, read in their order.
 
 ghost use Rattle.std.specs.Prelude.{◌≡◌, ◌≤◌, [], ◌∷◌, ◌++◌, Option, Some, true, false, length};
-ghost use Rattle.std.specs.Prelude.{IfOk, option_map};
+ghost use Rattle.std.specs.Prelude.{IfErr, IfOk, option_map};
 ghost use Rattle.tb_base.specs.declared.people.TheConstants.{MOST_PERSONS};
 ghost use Rattle.tb_base.specs.Records.{AllFit};
 ghost use Rattle.tb_model.specs.Schemas.{shape_of};
 ghost use Rattle.tb_top.specs.declared.command.Command.TheVariants as command;
+ghost use Rattle.tb_top.specs.declared.endings.End.TheVariants as end;
 ghost use Rattle.tb_top.specs.declared.endings.Input.TheVariants as input;
 ghost use Rattle.tb_top.specs.Asking.{asked_over, bytes_in, census_in, input_place, is_service};
 ghost use Rattle.tb_top.specs.Asking.{most_bytes, people_in, perturbation_in, recodes_in};
 ghost use Rattle.tb_top.specs.Asking.{schema_in, script_in};
-ghost use Rattle.tb_top.specs.Commands.{asks_to_serve, class_files, command_files, input_files};
-ghost use Rattle.tb_top.specs.Commands.{named, recodes_files};
+ghost use Rattle.tb_top.specs.Commands.{asks_to_generate, asks_to_serve, class_files};
+ghost use Rattle.tb_top.specs.Commands.{command_files, input_files, named, recodes_files};
 ghost use Rattle.tb_top.specs.Loading.{AskedIsFirst, IsFirst, Loads, asked_value, census_value};
 ghost use Rattle.tb_top.specs.Loading.{reading};
 
@@ -296,6 +297,8 @@ pub fn load<F: Files>(alloc: Global, files: &mut F, command: &Command<'_>) -> Re
     ensures first { IfOk result AskedIsFirst }
     ensures kind { IfOk result (λ asked. is_service (asked_value asked)
         ≡ asks_to_serve (Some command.now)) }
+    ensures generated { asks_to_generate (Some command.now) ≡ true
+        → IfErr result (λ e. e ≡ end.Memory) }
     ensures loads { Loads
         (reading F.content F.faults F.readings files.old files.new)
         0

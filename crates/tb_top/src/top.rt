@@ -1,6 +1,6 @@
 // The top call.
 
-ghost use Rattle.std.specs.Prelude.{◌≡◌, ◌≤◌, ◌+◌, All, IfSome, None, map, string_bytes, vec_len};
+ghost use Rattle.std.specs.Prelude.{◌≡◌, ◌≤◌, ◌+◌, ℕ, List, All, map, string_bytes, vec_len};
 ghost use Rattle.tb_base.specs.declared.status.Status.TheVariants as status;
 ghost use Rattle.tb_model.specs.Schemas.{shape_of};
 ghost use Rattle.tb_serve.specs.Stages.{IsFresh};
@@ -9,11 +9,11 @@ ghost use Rattle.tb_top.specs.Asking.{Script as AskedScript};
 ghost use Rattle.tb_top.specs.declared.endings.End.TheVariants as end;
 ghost use Rattle.tb_top.specs.Loading.{AskedIsFirst, IsBase, IsFirst, asked_value};
 ghost use Rattle.tb_top.specs.Loading.{census_over, census_value};
-ghost use Rattle.tb_top.specs.Endings.{IsEnded, IsLineWritten};
-ghost use Rattle.tb_top.specs.Outputs.{IsAnswered, IsGenAnswered, IsScriptAnswered};
+ghost use Rattle.tb_top.specs.Endings.{IsEnded};
+ghost use Rattle.tb_top.specs.Outputs.{IsAnswered, IsGenAnswered, IsScriptAnswered, IsSummedUp};
 ghost use Rattle.tb_top.specs.Services.{IsServiceAnswered};
 ghost use Rattle.tb_top.specs.Promises.{Keeps};
-ghost use Rattle.tb_top.specs.Summaries.{summary_line};
+ghost use Rattle.tb_top.specs.Summing.{AreSums};
 
 use crate::asking::ask;
 use crate::endings::End;
@@ -22,6 +22,8 @@ use crate::load::{Asked, Census};
 use crate::population::Population;
 use crate::service::Service;
 use crate::summary::write_summary;
+use crate::summing::SummingSink;
+use crate::sums::Sums;
 use std::alloc::Global;
 use std::marker::Brand;
 use std::sync::Wait;
@@ -29,7 +31,7 @@ use std::sync::ledger::Ledger;
 use std::thread::Threads;
 use tb_base::{Memory, Status, Steps};
 use tb_board::{Board, Named, Opening};
-use tb_io::{Files, Listen, Sink, SureSink, Wrote};
+use tb_io::{Files, Listen, Sink, Wrote};
 use tb_script::{RunEnd, Script, run_script};
 use tb_serve::{Port, serve};
 use tb_session::FIRST_CAPACITY;
@@ -96,26 +98,23 @@ fn answer_script<R: Threads + Wait + Sync, O: Sink, L: Ledger>(
     }
 }
 
-// Writes what the replies come to that a sink took, or, where it lost their text, that memory ran
-// out.
-fn end_summed<O: Sink>(population: &Population, replies: &SureSink, out: &mut O) -> Status
-    ensures told { IfSome replies.now (λ text. IsLineWritten status.Done
-        (summary_line population.now text) result (O.faults out.old) (O.faults out.new)
-        (O.taken out.old) (O.taken out.new)) }
-    ensures lost { replies.now ≡ None → IsEnded end.Memory result
+// Writes what a text of replies comes to, of which these are the sums, or, where it has more bytes
+// than are counted, that memory ran out.
+fn end_summed<O: Sink>(population: &Population, sums: Option<Sums>, out: &mut O) -> Status
+    ensures { (text : List ℕ) → AreSums sums text → IsSummedUp population.now text result
         (O.faults out.old) (O.faults out.new) (O.taken out.old) (O.taken out.new) }
 {
-    match replies.text() {
-        Ok(text) => match write_summary(population, text, out) {
+    match sums {
+        Some(sums) => match write_summary(population, &sums, out) {
             Wrote::All => Status::Done,
             Wrote::Failed => Status::WriteFault,
         },
-        Err(Memory) => end_by(&End::Memory, out),
+        None => end_by(&End::Memory, out),
     }
 }
 
-// Answers the lines of the script of a generated population into a sink of its own, and writes what
-// the replies come to.
+// Answers the lines of the script of a generated population into a sink that sums up the replies,
+// and writes what they come to.
 fn sum_up<R: Threads + Wait + Sync, O: Sink, L: Ledger>(
     rt: &R,
     alloc: Global,
@@ -130,9 +129,9 @@ fn sum_up<R: Threads + Wait + Sync, O: Sink, L: Ledger>(
         (O.faults out.old) (O.faults out.new) (O.taken out.old) (O.taken out.new)
         steps.old steps.new }
 {
-    let mut replies = SureSink::new(alloc);
+    let mut replies = SummingSink::new();
     match answer_script(rt, alloc, census, script, &mut replies, steps) {
-        Status::Done => end_summed(population, &replies, out),
+        Status::Done => end_summed(population, replies.sums(), out),
         _ => end_by(&End::Memory, out),
     }
 }
@@ -213,12 +212,13 @@ fn answer<R: Threads + Wait + Sync, O: Sink, N: Listen + Send, L: Ledger>(
 ///
 /// A printed table is the perturbed table counted from scratch over the release of its number, to
 /// which the custodian's lines before it led, by the perturbation table and threshold of that
-/// release, and a query is refused for the first fault of its text, whatever cubes are kept. A line that finds no memory gets the reply `memory`, and the next
-/// line is answered. The counter rises by how many records and changes are lent: for a table the
-/// release's records at most once, or, where a cube is kept, the changes that it is behind. It
-/// takes memory for the files, for what they say, for one table at a time, for at most 64 cubes or
-/// as many as `cache K` says, for the edits that are held, for the next release while it is made,
-/// and with `gen` for the replies.
+/// release, and a query is refused for the first fault of its text, whatever cubes are kept. A line
+/// that finds no memory gets the reply `memory`, and the next line is answered. The counter rises
+/// by how many records and changes are lent: for a table the release's records at most once, or,
+/// where a cube is kept, the changes that it is behind; where memory ran out before the first line
+/// it doesn't. It takes memory for the files, for what they say, for one table at a time, for at
+/// most 64 cubes or as many as `cache K` says, for the edits that are held, and for the next
+/// release while it is made.
 pub fn tablebuilder<F: Files, O: Sink, N: Listen + Send, L: Ledger>(
     rt: &(impl Threads + Wait + Sync),
     alloc: Global,

@@ -94,7 +94,8 @@ static SCRIPTS: [Script; 22] = [
             release 0\nSEX,count\n1,1\n2,2\n.\nrefused batch 0 5 Nothing\n",
     },
     // The cube of release 0 serves the releases whose rules alone are others. At row 1 and cell key
-    // 7 the file lists 1, and at row 3 and cell key 127 (102, 103, 104) 3; what was set last stands.
+    // 7 the file lists 1, and at row 3 and cell key 127 (102, 103, 104) 3; what was set last
+    // stands.
     Script {
         name: "a_cube_over_other_rules",
         lines: b"a table SEX with totals\ncustodian pvalue 1 7 0\ncustodian pvalue 1 7 -1\n\

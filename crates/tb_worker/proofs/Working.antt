@@ -1,6 +1,6 @@
 -- Sessions that are served one after another, and where a worker stops.
 use Rattle.std.proofs.Common.{◌≡◌, ◌∙◌, sym, ap, refl, subst, ℕ, ◌≤◌, true, false, List, [], ◌∷◌, ◌++◌, length, append_assoc, append-nil, arith, inl, inr}
-use Rattle.std.specs.Prelude.{Option, Some, None, option_map}
+use Rattle.std.specs.Prelude.{Option, Some, None, IsSome, option_map}
 use Rattle.std.proofs.lemmas.List.{map-append}
 use Rattle.tb_board.specs.Starts.{StartValue}
 use Rattle.tb_front.specs.Holders.{Name}
@@ -8,7 +8,7 @@ use Rattle.tb_io.proofs.FaultLemmas.{HasRisen-earlier}
 use Rattle.tb_model.specs.Releases.{ReleaseValue}
 use Rattle.tb_model.specs.Schemas.{shape_of}
 use Rattle.tb_model.specs.Setups.{SetupValue}
-use Rattle.tb_io.specs.Listeners.{CanAccept, Connection, Gives, IsSameBut, ListenerValue, given_back}
+use Rattle.tb_io.specs.Listeners.{CanAccept, Connection, Gives, IsCalm, IsSameBut, ListenerValue, given_back}
 use Rattle.tb_io.specs.Sources.{IsAtEnd}
 use Rattle.tb_release.specs.Batches.{BatchValue}
 use Rattle.tb_worker.specs.Visits.{AreVisits, IsVisit, Visit}
@@ -69,6 +69,22 @@ given_none a b can same = record {
   came_back = same.came_back ∙ map_nothing a.came_back;
 }
 
+-- ---- whose count of faults stayed, where it tells its sessions
+some_before : (o : Option (List Connection)) (xs : List Connection) → IsSome o → IsSome (option_map (λ rest. xs ++ rest) o)
+some_before None xs some = cc
+some_before (Some ys) xs some = refl
+
+pub calm_more : (a b c : ListenerValue) (ws : List Visit) → IsCalm a b → HasGiven b c ws → IsCalm b c → IsCalm a c
+calm_more a b c ws one given more = λ some.
+    more some ∙ one (subst IsSome (sym given.to_come) (some_before c.to_come (came_of ws) some))
+
+calm_one : (before mid after : ListenerValue) (v : Visit) → Gives before mid v.came → after ≡ given_back mid v.went → IsCalm before after
+calm_one before mid after v gives back =
+    let calm : IsCalm before (given_back mid v.went) = gives.calm in subst (λ (l : ListenerValue). IsCalm before l) (sym back) calm
+
+pub calm_still : (l : ListenerValue) → IsCalm l l
+calm_still l = λ some. refl
+
 -- it may accept again
 pub can_again : (a b : ListenerValue) (vs : List Visit) → CanAccept a → b.port ≡ a.port → HasGiven a b vs → CanAccept b
 can_again a b vs can port given =
@@ -103,6 +119,7 @@ module _ (name : Name) (setup : SetupValue) where
       goes_on = goes;
       lead = ((seen_by to).list, visit, refl);
     },
+    calm_one before mid after v gives back,
   )
 
   -- nothing was served, and nothing changed but the count of faults
@@ -117,10 +134,11 @@ module _ (name : Name) (setup : SetupValue) where
         = refl;
   }
 
-  pub none_came : (a b : ListenerValue) (p : Party) → CanAccept a → IsAtEnd a.to_come → IsSameBut a b
+  pub none_came : (a b : ListenerValue) (p : Party) → CanAccept a → IsAtEnd a.to_come → IsSameBut a b → IsCalm a b
       → IsPartyOf name (shape_of setup.schema) p → HasStepped name setup a b p p next.NoneCame
-  none_came a b p can at_end same own = (
+  none_came a b p can at_end same calm own = (
     none_served a b p can same own,
+    calm,
     subst (λ (o : Option (List Connection)). IsAtEnd o)
         (sym same.to_come) at_end,
   )
@@ -147,8 +165,8 @@ module _ (name : Name) (setup : SetupValue) where
 
   -- a worker stops where it served all that it was to
   pub worked_all : (most : ℕ) (a b : ListenerValue) (p q : Party) (vs : List Visit) → AreServed name setup a b p q vs
-      → length vs ≡ most → HasWorked name setup most a b p q most false
-  worked_all most a b p q vs x n = record {
+      → length vs ≡ most → IsCalm a b → HasWorked name setup most a b p q most false
+  worked_all most a b p q vs x n calm = record {
     visits = vs;
     visited = x;
     counted = sym n;
@@ -157,18 +175,24 @@ module _ (name : Name) (setup : SetupValue) where
       enough =
           inl refl;
       risen = λ h. absurd (cc (h));
+      calm = λ _. calm;
     };
   }
 
   -- where none is left to come
   pub worked_out : (most served : ℕ) (a b c : ListenerValue) (p q r : Party) (vs : List Visit) → AreServed name setup a b p q vs
-      → length vs ≡ served → served ≤ most
+      → length vs ≡ served → IsCalm a b → served ≤ most
       → HasStepped name setup b c q r next.NoneCame → HasWorked name setup most a c p r served false
-  worked_out most served a b c p q r vs x n le step = record {
+  worked_out most served a b c p q r vs x n calm le step = record {
     visits = vs;
     visited = none_more a b c p q r vs x step.0;
     counted = sym n;
-    enough = record { within = le; enough = inr (inl step.1); risen = λ h. absurd (cc (h)) };
+    enough = record {
+      within = le;
+      enough = inr (inl step.2);
+      risen = λ h. absurd (cc (h));
+      calm = λ _. calm_more a b c [] calm step.0.given step.1;
+    };
   }
 
   -- and where the accept failed
@@ -184,5 +208,6 @@ module _ (name : Name) (setup : SetupValue) where
       enough = inr (inr refl);
       risen = λ _. HasRisen-earlier a.faults b.faults c.faults x.given.count step.1
           step.0.given.count;
+      calm = λ h. absurd (cc (h));
     };
   }

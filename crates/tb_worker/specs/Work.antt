@@ -5,7 +5,7 @@ use Rattle.tb_front.specs.Holders.{Name}
 use Rattle.tb_io.specs.Faults.{HasRisen}
 use Rattle.tb_model.specs.Schemas.{shape_of}
 use Rattle.tb_model.specs.Setups.{SetupValue}
-use Rattle.tb_io.specs.Listeners.{Connection, ListenerValue}
+use Rattle.tb_io.specs.Listeners.{Connection, IsCalm, ListenerValue}
 use Rattle.tb_io.specs.Sources.{IsAtEnd}
 use Rattle.tb_session.specs.Parties.{GoesOn, IsPartyOf, role_of, seen_by}
 use Rattle.tb_session.specs.declared.party.Party.{Party}
@@ -43,18 +43,21 @@ abbrev pub HasStepped : Name → SetupValue → ListenerValue → ListenerValue 
     → Type 0
 HasStepped name setup before after from to next.Served =
     (visit : Visit) × AreServed name setup before after from to (visit ∷ [])
+    × IsCalm before after
 HasStepped name setup before after from to next.NoneCame =
-    AreServed name setup before after from to [] × IsAtEnd after.to_come
+    AreServed name setup before after from to [] × IsCalm before after × IsAtEnd after.to_come
 HasStepped name setup before after from to next.Failed =
     AreServed name setup before after from to [] × HasRisen before.faults after.faults
 
 -- so many sessions were to be served, and as many were, unless none was left to come or the accept
--- failed; it failed only where the listener's count of faults rose
+-- failed; it failed only where the listener's count of faults rose, and of a listener that tells
+-- its sessions the count rose only where it failed
 pub record IsEnough (most : ℕ) (before after : ListenerValue) (served : ℕ) (failed : Bool)
     : Type 0 where
   pub within : served ≤ most
   pub enough : (served ≡ most) ⊎ (IsAtEnd after.to_come ⊎ (failed ≡ true))
   pub risen : failed ≡ true → HasRisen before.faults after.faults
+  pub calm : failed ≡ false → IsCalm before after
 
 -- a worker served some sessions, and enough of them
 pub record HasWorked (name : Name) (setup : SetupValue) (most : ℕ) (before after : ListenerValue)

@@ -9,7 +9,7 @@ pub loop-i-preserved : goal.loop-i-preserved
 loop-i-preserved g c =
     half_more (IsBoundAt c.args.first) c.args.ports.now c.loop-i.ports c.loop-i.i c.index-ports-i.result c.bind.new.self (omega
     (arith, c.loop-i.auto.ports)) c.loop-i.invariant
-    (record { rest = c.in-Ready.ensures.rest; bound = c.in-Ready.ensures.bound })
+    (record { rest = c.in-Ready.ensures.rest; bound = c.in-Ready.ensures.bound.0; calm = c.in-Ready.ensures.bound.1 })
 
 pub returns-in-Failed-clause-failed : goal.returns-in-Failed-clause-failed
 returns-in-Failed-clause-failed g c = λ is.

@@ -3,8 +3,8 @@ use Rattle.tb_gen.specs.Generated.{generated_people, generated_ptable, generated
 use Rattle.tb_top.proofs.Generating.{held-as, hold-all}
 use Rattle.tb_top.proofs.generated.hold_generated.Goals as goal
 
-pub returns : goal.returns
-returns c =
+pub returns-clause-held : goal.returns-clause-held
+returns-clause-held c =
     let made = c.in_ok-generated.ensures in
     hold-all _ _ _ _ _ _ c.args.population.now
     (held-as _ _ _ _ _ _ c.name.ensures (c.deref.ensures.value ∙ made.classes) c.in_ok-hold.ensures.ok)

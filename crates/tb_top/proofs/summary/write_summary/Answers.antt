@@ -5,10 +5,10 @@ use Rattle.tb_top.proofs.summary.write_summary.Goals as goal
 
 pub returns : goal.returns
 returns g c = record {
-  written = written_as c.write_all.result _ _ _ _ _ _
+  written = λ text (feeds, bytes, sum). written_as c.write_all.result _ _ _ _ _ _
       (summary-parts _ _ _ _ _ _ _ _ _ _ (c.as_bytes-persons.ensures.value ∙ c.format.ensures.text ∙ ap decimal c.persons.ensures.persons)
       (c.as_bytes-start.ensures.value ∙ c.format-2.ensures.text ∙ ap decimal c.start.ensures)
-      (c.as_bytes-feeds.ensures.value ∙ c.format-3.ensures.text ∙ ap decimal c.sums_of-sums.ensures.feeds)
-      (c.as_bytes-bytes.ensures.value ∙ c.format-4.ensures.text)
-      (c.as_bytes-byte_sum.ensures.value ∙ c.format-5.ensures.text ∙ ap decimal c.sums_of-sums.ensures.bytes)) c.write_all.ensures.written;
+      (c.as_bytes-feeds.ensures.value ∙ c.format-3.ensures.text ∙ ap decimal feeds)
+      (c.as_bytes-bytes.ensures.value ∙ c.format-4.ensures.text ∙ ap decimal bytes)
+      (c.as_bytes-byte_sum.ensures.value ∙ c.format-5.ensures.text ∙ ap decimal sum)) c.write_all.ensures.written;
 }

@@ -9,4 +9,4 @@ returns-in-Ok g c = keeps_asked asked_value _ (g.F.Files.content c.ask.new.files
 
 pub returns-in-Err : goal.returns-in-Err
 returns-in-Err g c = keeps_unasked asked_value _ (g.F.Files.content c.ask.new.files) c.in-Err.end _ c.in-Err.ensures.usage
-    c.in-Err.ensures.loads refl c.requires.fresh refl c.end_by.ensures.ended
+    c.in-Err.ensures.loads c.in-Err.ensures.generated refl c.requires.fresh refl c.end_by.ensures.ended

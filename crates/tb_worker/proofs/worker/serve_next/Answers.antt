@@ -14,7 +14,7 @@ returns-in-Session g c =
 pub returns-in-End : goal.returns-in-End
 returns-in-End g c =
     none_came g.B.Named.name c.args.setup.now (g.N.Listen.seen c.args.listener.now)
-    (g.N.Listen.seen c.accept.new.self) c.args.party.now c.requires.can c.in-End.ensures.0 c.in-End.ensures.1 c.requires.own
+    (g.N.Listen.seen c.accept.new.self) c.args.party.now c.requires.can c.in-End.ensures.0 c.in-End.ensures.1 c.in-End.ensures.2 c.requires.own
 
 pub returns-in-Failed : goal.returns-in-Failed
 returns-in-Failed g c = (

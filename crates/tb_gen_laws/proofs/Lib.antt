@@ -1,0 +1,9 @@
+pub mod Records
+pub mod Digits
+pub mod Codes
+pub mod Lengths
+pub mod Microdata
+pub mod Perturbations
+pub mod Computed
+pub mod ScriptRounds
+pub mod ScriptTexts

@@ -1,0 +1,4 @@
+pub mod Ranges
+pub mod Classification
+pub mod People
+pub mod Perturbations
