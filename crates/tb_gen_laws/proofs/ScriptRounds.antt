@@ -1,6 +1,6 @@
 -- The rounds of the generated script.
 use Rattle.std.proofs.Common.{◌≡◌, ◌∙◌, refl, ℕ, ◌+◌, ◌*◌, ◌%◌, ◌^◌, ◌<◌, ◌≤◌, false, List, [], ◌∷◌, ◌++◌, length, arith, length-append, ne_eqb}
-use Rattle.std.specs.Prelude.{codes, decimal, nat_lt}
+use Rattle.std.specs.Prelude.{codes, decimal}
 use Rattle.std.specs.Str.Parse.{AllDigits}
 use Rattle.std.proofs.lemmas.Bool.Decides.{nat_tests}
 use Rattle.std.proofs.lemmas.Fmt.{decimal_is_IsNumeral, length-decimal-le}
@@ -11,6 +11,7 @@ use Rattle.tb_base.specs.Bytes.{is_blank}
 use Rattle.tb_gen.specs.Draws.{after, draw, seed}
 use Rattle.tb_gen.specs.Lines.{each_below}
 use Rattle.tb_gen.specs.Generated.{amend_line, amend_lines, generated_script, round_lines}
+use Rattle.tb_script.specs.Lines.{is_too_long}
 use Rattle.tb_gen_laws.proofs.ScriptTexts.{AreInside, IsLine, IsText, is_inside, text-both, text-each, text-line, text-within}
 
 -- the lines that are written out
@@ -58,13 +59,13 @@ amend-short person tenure small few =
     let t = length-decimal-le 1 tenure (omega arith) (omega (arith, few)) (omega (arith, few)) in
     omega (arith, a, b, c, p, t)
 
-longest : (n : ℕ) → n ≤ 32 → nat_lt 4096 n ≡ false
-longest n h = grind (arith, nat_tests)
+not-long : (line : List ℕ) → length line ≤ 32 → is_too_long line ≡ false
+not-long line h = grind (arith, nat_tests)
 
 amend-good : (person tenure : ℕ) → person < 10 ^ 7 → tenure < 10 → IsLine (amend_text person tenure)
 unfolding is_blank
 amend-good person tenure small few =
-    record { short = longest (length (amend_text person tenure)) (amend-short person tenure small few); formed = refl; known = refl }
+    record { short = not-long (amend_text person tenure) (amend-short person tenure small few); formed = refl; known = refl }
 
 amend-written : (person tenure : ℕ) → person < 10 ^ 7 → tenure < 10 → IsText (amend_text person tenure ++ codes "\n") 33
 amend-written person tenure small few =

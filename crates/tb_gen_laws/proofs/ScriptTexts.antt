@@ -16,6 +16,7 @@ use Rattle.tb_base.proofs.Texts.{same_text, text_itself}
 use Rattle.tb_gen.specs.Lines.{each_below}
 use Rattle.tb_schema.proofs.Distinct.{distinct-push, either_way}
 use Rattle.tb_script.specs.Lines.{is_lane_line, is_phase_end, is_too_long, is_well_formed, lane_of, line_of}
+use Rattle.tb_script.specs.declared.limits.TheConstants.{MOST_LANES}
 use Rattle.tb_script.specs.Scripts.{ScriptLine, first_bad, is_bad, is_too_many, lane_lines, lanes_before, script_lines, script_of, script_value, value_unless}
 
 -- the three lanes
@@ -94,7 +95,7 @@ and_false false = refl
 line-good : (before : List (List ℕ)) (line : List ℕ) → All IsLine before → IsLine line → is_bad (lanes_before before) line ≡ false
 line-good before line are is =
     let few : length (lanes_before before) ≤ 3 = lanes-few (lanes_before before) (lanes-all [] (lanes (lane_lines 1 before)) lanes-none (lines-known 1 before are)) in
-    let room : is_too_many (lanes_before before) (lane_of line) ≡ false = rw (above 64 (length (lanes_before before)) (omega (arith, few))) refl in
+    let room : is_too_many (lanes_before before) (lane_of line) ≡ false = rw (above MOST_LANES (length (lanes_before before)) (omega (arith, few))) refl in
     rw (is.short, is.formed, room) (and_false (is_lane_line line))
   where
     above : (a b : ℕ) → b < a → nat_le a b ≡ false

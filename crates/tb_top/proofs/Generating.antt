@@ -21,7 +21,7 @@ use Rattle.tb_top.specs.declared.endings.Input.{Input}
 use Rattle.tb_top.specs.declared.endings.Input.TheVariants as input
 use Rattle.tb_top.specs.declared.endings.End.{End}
 use Rattle.tb_top.specs.declared.endings.End.TheVariants as end
-use Rattle.tb_top.specs.Asking.{AskedValue, Contents, Gen, bytes_in, generated_asked, most_bytes, people_in, perturbation_in, schema_in, script_in, script_over}
+use Rattle.tb_top.specs.Asking.{AskedValue, CensusValue, Contents, Gen, bytes_in, generated_asked, most_bytes, people_in, perturbation_in, schema_in, script_in, script_over}
 use Rattle.tb_top.specs.Commands.{NamedFile, command_files}
 use Rattle.tb_top.specs.Endings.{input_name}
 use Rattle.tb_top.specs.GeneratedFiles.{HoldGenerated, generated_contents, generated_inputs}
@@ -130,12 +130,12 @@ loads-as p inputs inputs' name name' result {saw} one two h =
 
 -- an end that can't be another than memory's
 memory-alone : (e : End) → (e ≢ end.Memory → ⊥) → e ≡ end.Memory
-memory-alone end.Memory no = refl
-memory-alone end.Usage no = absurd (no (λ h. cc))
-memory-alone (end.TooLong file) no = absurd (no (λ h. cc))
-memory-alone (end.Unread file) no = absurd (no (λ h. cc))
-memory-alone (end.Refused file name at) no = absurd (no (λ h. cc))
-memory-alone (end.BadLine at) no = absurd (no (λ h. cc))
+memory-alone end.Memory never = refl
+memory-alone end.Usage never = absurd (never (λ h. cc))
+memory-alone (end.TooLong file) never = absurd (never (λ h. cc))
+memory-alone (end.Unread file) never = absurd (never (λ h. cc))
+memory-alone (end.Refused file name at) never = absurd (never (λ h. cc))
+memory-alone (end.BadLine at) never = absurd (never (λ h. cc))
 
 -- a file that isn't too long
 short-bytes : (file : Input) (bytes : List ℕ) → length bytes ≤ most_bytes file → bytes_in file (Some bytes) ≡ Ok bytes
@@ -174,12 +174,19 @@ module _ (p : Population) (has : HasPersons p) where
         text-accepted (generated_script p.persons p.start) 17746 text,
       ) refl
 
-  asked-there : (asked : AskedValue) × (generated_asked p ≡ Ok asked)
-  asked-there = (_, rw (schema-there, table-there, people-there, script-there) refl)
+  abbrev census : CensusValue
+  census = record {
+    setup = record { schema = whole_schema; lines = (generated_table p.start).lines };
+    threshold = generated_inputs.threshold;
+    records = generated_records p.persons p.start;
+  }
+
+  asked-there : generated_asked p ≡ Ok (Gen p census script)
+  asked-there = rw (schema-there, table-there, people-there, script-there) refl
 
   -- so a run over them ends before its task only where memory runs out
   pub accepted-made : {A : Type 0} (view : A → AskedValue) (result : Result A End) → Makes view (generated_asked p) result
       → IfErr result (λ e. e ≡ end.Memory)
   accepted-made view (Ok x) made = tt
   accepted-made view (Err e) made = memory-alone e (λ other.
-      let bad : Ok asked-there.0 ≡ Err e = sym asked-there.1 ∙ made.2 other in cc)
+      let bad : Ok (Gen p census script) ≡ Err e = sym asked-there ∙ made.2 other in cc)

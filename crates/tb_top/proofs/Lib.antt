@@ -8,6 +8,6 @@ pub mod LoadSteps
 pub mod PortLemmas
 pub mod Serving
 pub mod SummaryTexts
-pub mod Summing
+pub mod SummedUp
 pub mod Telling
 pub mod Tested
