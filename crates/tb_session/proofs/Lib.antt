@@ -1,4 +1,3 @@
-pub mod Transcribing
 pub mod SomeReplies
 pub mod Analysts
 mod Texts
@@ -10,9 +9,6 @@ mod Revising
 mod Leading
 mod Numbers
 mod Publishing
-mod Cutting
-mod Ends
-mod SoFar
 mod LegalParties
 mod OwnCells
 mod RunSteps

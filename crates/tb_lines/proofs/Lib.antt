@@ -1,0 +1,7 @@
+pub mod Transcribing
+pub mod Paying
+pub mod OtherWords
+mod Cutting
+mod Ends
+mod SoFar
+mod Listing
