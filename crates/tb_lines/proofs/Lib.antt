@@ -1,5 +1,6 @@
 pub mod Transcribing
 pub mod Paying
+pub mod Completing
 pub mod OtherWords
 mod Cutting
 mod Ends

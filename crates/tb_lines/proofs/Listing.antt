@@ -1,27 +1,21 @@
 -- The lines of a list so far.
 use Rattle.std.proofs.Common.{◌≡◌, ◌∙◌, sym, ap, subst, refl, ℕ, ◌+◌, ◌<◌, ◌≤◌, List, [], ◌∷◌, ◌++◌, length, take, Option, Some, arith}
-use Rattle.std.specs.Prelude.{All, slice_get}
+use Rattle.std.specs.Prelude.{slice_get}
 use Rattle.std.proofs.lemmas.List.{take_all, take_more}
 use Rattle.std.proofs.lemmas.Option.{get_or_from_slice_get}
 use Rattle.tb_io.specs.Taken.{Took, TookPart}
 use Rattle.tb_io.proofs.TakenLemmas.{Took-append, Took-nothing}
 use Rattle.tb_io.proofs.Taking.{Took-same}
-use Rattle.tb_lines.specs.Lists.{AreAnswered, AreCutShort, Asked}
+use Rattle.tb_lines.specs.Lists.{AreAnswered, AreCutShort}
 use Rattle.tb_lines.specs.Outputs.{Lead, ReplyValue, text_of}
 use Rattle.tb_lines.proofs.Transcribing.{Lead-more, text_of-more}
 
--- a line at a place, by its two parts
-pub asked_here : {W : Type 0} (lines : List (Asked W)) (i : ℕ) (who : W) (line : List ℕ) → (one : Asked W) × (slice_get lines i ≡ Some one) × (who ≡ one.who) → (one : Asked W) × (slice_get lines i ≡ Some one) × (line ≡ one.line)
-    → slice_get lines i ≡ Some (record { who = who; line = line })
-asked_here {W} lines i who line (a, here, is) (b, there, also) =
-    let same : a ≡ b = let e : Some a ≡ Some b = sym here ∙ there in cc in
-    let text : line ≡ a.line = also ∙ ap (λ (x : Asked W). x.line) (sym same) in
-    here ∙ ap (λ x. Some x) (λ j. record { who = sym is j; line = sym text j })
-
--- who asks the line at a place may ask
-pub may_here : {W : Type 0} (May : W → Type 0) (lines : List (Asked W)) (i : ℕ) (who : W) → All (λ one. May one.who) lines → i < length lines → (one : Asked W) × (slice_get lines i ≡ Some one) × (who ≡ one.who) → May who
-may_here {W} May lines i who all below (one, here, is) =
-    subst May (sym is) (subst (λ (x : Asked W). May x.who) (get_or_from_slice_get lines i one one here) (all i one below))
+-- the line at a place, its text, and who asks it
+module _ {L W : Type 0} (Asks : L → W → Type 0) (text : L → List ℕ) (lines : List L) (i : ℕ) (who : W) (t : List ℕ) where
+  pub same_line : (line : L) × (slice_get lines i ≡ Some line) × Asks line who → (line : L) × (slice_get lines i ≡ Some line) × (t ≡ text line) → (line : L) × (slice_get lines i ≡ Some line) × Asks line who × (t ≡ text line)
+  same_line (a, here, asks) (b, there, is) =
+      let same : a ≡ b = let e : Some a ≡ Some b = sym here ∙ there in cc in
+      (a, here, asks, is ∙ ap text (sym same))
 
 module _ {S L : Type 0} (Step : S → L → ReplyValue → S → Type 0) where
   -- none yet

@@ -5,15 +5,11 @@ use Rattle.tb_io.specs.declared.answers.Wrote.{Wrote}
 use Rattle.tb_io.specs.declared.answers.Wrote.TheVariants as wrote
 use Rattle.tb_lines.specs.Outputs.{ReplyValue, text_of}
 
--- a line of a list, and who asks it
-pub record Asked (W : Type 0) : Type 0 where
-  pub who : W
-  pub line : List ℕ
-
--- a step at a line of a list, where it goes by who asks
-abbrev pub StepBy : {W S : Type 0} → (W → S → List ℕ → ReplyValue → S → Type 0) → S → Asked W
-    → ReplyValue → S → Type 0
-StepBy Step old one reply new = Step one.who old one.line reply new
+-- a step at a line of a list: one who asks it does so by its text
+abbrev pub StepBy : {S L W : Type 0} → (L → W → Type 0) → (L → List ℕ)
+    → (W → S → List ℕ → ReplyValue → S → Type 0) → S → L → ReplyValue → S → Type 0
+StepBy {W = W} Asks text Step old line reply new =
+    (who : W) × Asks line who × Step who old (text line) reply new
 
 -- of the lines of a list, where it is given which replies to which lines are legal and lead from a
 -- state to another; the sink had taken `before` and then `after`

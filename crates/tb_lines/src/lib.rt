@@ -8,9 +8,10 @@
 //!
 //! Of the proofs, `Cutting` has lines that are cut off a stream and what its source gave, `Ends`
 //! those that end a session, `SoFar` the lines so far and each way to end after them, and `Listing`
-//! the same of a list. `Transcribing` joins replies to lines one after the other, `Paying` says
-//! what they cost together, and `OtherWords` what a session or a list did, in other words for its
-//! replies.
+//! the same of a list. For callers, `Transcribing` joins replies to lines one after the other,
+//! `Paying` says what they cost together, `Completing` that what was taken of lines that were cut
+//! short is a part of some replies to all of them, and `OtherWords` what a session did, in other
+//! words for its replies.
 #![tactic(auto)]
 
 mod answerer;

@@ -1,10 +1,10 @@
 // The lines of a list, answered one after another.
 
-ghost use Rattle.std.specs.Prelude.{◌≡◌, ◌<◌, ◌≤◌, All, List, Some, length, slice_get};
+ghost use Rattle.std.specs.Prelude.{◌≡◌, ◌<◌, ◌≤◌, ℕ, List, Some, length, slice_get};
 ghost use Rattle.tb_io.specs.Faults.{HasRisen};
 ghost use Rattle.tb_io.specs.declared.answers.Wrote.TheVariants as wrote;
 ghost use Rattle.tb_io.specs.declared.limits.TheConstants.{MOST_LINE_BYTES};
-ghost use Rattle.tb_lines.specs.Lists.{Asked, IsListAnswered, StepBy};
+ghost use Rattle.tb_lines.specs.Lists.{IsListAnswered, StepBy};
 ghost use Rattle.tb_lines.specs.Outputs.{AtPrice, Lead, charged};
 
 use crate::answerer::Answerer;
@@ -12,9 +12,17 @@ use std::sync::ledger::Ledger;
 use tb_base::Steps;
 use tb_io::{Sink, Wrote};
 
-/// A list of lines, each with who asks it, that are lent by their places, from 0.
+/// A list of lines, each with who asks it, by their places, from 0.
+///
+/// `lines` are what its lines are, `text` is the text of one, and `Asks` says who asks it.
 pub trait LineList<W> {
-    ghost lines: { Self → List (Asked W) };
+    ghost Line: { Type 0 };
+
+    ghost lines: { Self → List Line };
+
+    ghost text: { Line → List ℕ };
+
+    ghost Asks: { Self → Line → W → Type 0 };
 
     /// How many lines there are.
     fn len(&self) -> usize
@@ -23,14 +31,14 @@ pub trait LineList<W> {
     /// Who asks the line at a place.
     fn who(&self, i: usize) -> W
         requires { i < length (lines self.now) }
-        ensures { (one : Asked W) × (slice_get (lines self.now) i ≡ Some one)
-            × (result ≡ one.who) };
+        ensures { (line : Line) × (slice_get (lines self.now) i ≡ Some line)
+            × Asks self.now line result };
 
-    /// The line at a place.
+    /// The text of the line at a place.
     fn line(&self, i: usize) -> &[u8]
         requires { i < length (lines self.now) }
-        ensures line { (one : Asked W) × (slice_get (lines self.now) i ≡ Some one)
-            × (result.now ≡ one.line) }
+        ensures text { (line : Line) × (slice_get (lines self.now) i ≡ Some line)
+            × (result.now ≡ text line) }
         ensures few { length result.now ≤ MOST_LINE_BYTES };
 }
 
@@ -45,11 +53,13 @@ pub fn answer_list<C, G, W, T: LineList<W>, A: Answerer<C, G, W>, K: Sink, L: Le
     steps: &mut Steps<L>,
 ) -> Wrote
     requires ready { A.IsReady setting.now party.old }
-    requires may { All (λ one. A.MayAsk setting.now one.who) (T.lines lines.now) }
+    requires may { (line : T.Line) (who : W) → T.Asks lines.now line who
+        → A.MayAsk setting.now who }
     ensures ready { A.IsReady setting.now party.new }
     ensures count { K.faults sink.old ≤ K.faults sink.new }
     ensures failed { result ≡ wrote.Failed → HasRisen (K.faults sink.old) (K.faults sink.new) }
-    ensures answered { IsListAnswered (Lead (AtPrice (StepBy (A.Step setting.now)))) result
+    ensures answered { IsListAnswered
+        (Lead (AtPrice (StepBy (T.Asks lines.now) T.text (A.Step setting.now)))) result
         (T.lines lines.now)
         (charged (A.fresh (A.state party.old)) steps.old) (charged (A.state party.new) steps.new)
         (K.taken sink.old) (K.taken sink.new) }

@@ -8,6 +8,6 @@ abbrev pub invariant-loop-i : goal.invariant-loop-i
 invariant-loop-i g l = record {
   ready : g.A.Answerer.IsReady l.setting l.party;
   count : g.K.Sink.faults l.initial.sink ≤ g.K.Sink.faults l.sink;
-  so_far : AreAnswered (Lead (AtPrice (StepBy (g.A.Answerer.Step l.setting)))) (take l.i (g.T.LineList.lines l.lines))
+  so_far : AreAnswered (Lead (AtPrice (StepBy (g.T.LineList.Asks l.lines) g.T.LineList.text (g.A.Answerer.Step l.setting)))) (take l.i (g.T.LineList.lines l.lines))
       (charged (g.A.Answerer.fresh (g.A.Answerer.state l.fn.party)) l.initial.steps) (charged (g.A.Answerer.state l.party) l.steps) (g.K.Sink.taken l.initial.sink) (g.K.Sink.taken l.sink);
 }
