@@ -9,10 +9,11 @@ use Rattle.tb_session.specs.Transcripts.{IsLegal}
 use Rattle.tb_session.specs.declared.party.Party.{Party}
 use Rattle.tb_session.specs.declared.party.Role.{Role}
 
-goes_nowhere : (p : Party) → GoesOn p p
+-- a party is the same one after nothing, and after one thing and another
+pub goes_nowhere : (p : Party) → GoesOn p p
 goes_nowhere p = record { who = refl; front = refl; start = refl }
 
-goes_further : (p q r : Party) → GoesOn p q → GoesOn q r → GoesOn p r
+pub goes_further : (p q r : Party) → GoesOn p q → GoesOn q r → GoesOn p r
 goes_further p q r one more = record { who = more.who ∙ one.who; front = more.front ∙ one.front; start = more.start ∙ one.start }
 
 -- line by line, and for all lines

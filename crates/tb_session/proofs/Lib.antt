@@ -1,5 +1,6 @@
 pub mod SomeReplies
 pub mod Analysts
+pub mod LegalParties
 mod Texts
 mod Pieces
 mod Cubed
@@ -9,7 +10,6 @@ mod Revising
 mod Leading
 mod Numbers
 mod Publishing
-mod LegalParties
 mod OwnCells
 mod RunSteps
 mod TakeRuns

@@ -50,10 +50,7 @@ impl<'a, B: Named, R: Threads + Wait + Sync, G: Gate> Answerer<Setting<'a, B, R>
     ghost Step = { λ c who old line reply new. IsPartyStep c.setup.now old line reply new };
 
     fn begin(&mut self, _setting: &Setting<'a, B, R>) {
-        match self {
-            Party::Analyst(_) => {}
-            Party::Custodian(_, held) => held.clear(),
-        }
+        self.drop_held();
     }
 
     fn answer<K: Sink, L: Ledger>(

@@ -6,7 +6,7 @@ use Rattle.tb_base.specs.declared.status.Status.TheVariants as status
 use Rattle.tb_io.proofs.FaultLemmas.{HasRisen-zero}
 use Rattle.tb_io.specs.Taken.{Took}
 use Rattle.tb_script.specs.Scripts.{ScriptValue}
-use Rattle.tb_session.specs.Outputs.{ReplyValue, price_of, text_of}
+use Rattle.tb_lines.specs.Outputs.{ReplyValue, price_of, text_of}
 use Rattle.tb_top.specs.declared.endings.End.TheVariants as end
 use Rattle.tb_top.specs.Asking.{CensusValue, Script}
 use Rattle.tb_top.specs.Endings.{IsEnded, IsLineWritten}
