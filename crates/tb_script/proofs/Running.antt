@@ -1,6 +1,5 @@
 -- The lines of a script, one after another.
-use Rattle.std.proofs.Common.{◌≡◌, ◌∙◌, sym, ap, subst, refl, ℕ, ◌+◌, ◌≤◌, List, [], ◌∷◌, Option, arith}
-use Rattle.std.proofs.lemmas.List.Elements.{All-nil}
+use Rattle.std.proofs.Common.{◌≡◌, ◌∙◌, sym, ap, subst, ℕ, ◌+◌, ◌≤◌, List, [], ◌∷◌, Option, arith}
 use mathlib.Core.List.{IsPrefix}
 use Rattle.tb_board.specs.Custodians.{CustodianValue, IsWhole}
 use Rattle.tb_board.specs.Holders.{HolderValue}
@@ -8,20 +7,17 @@ use Rattle.tb_board.specs.Starts.{StartValue}
 use Rattle.tb_front.specs.Holders.{IsLater, Name}
 use Rattle.tb_front.proofs.Holding.{later_both, later_trans}
 use Rattle.tb_io.specs.Taken.{Took, TookPart}
-use Rattle.tb_io.specs.declared.answers.Wrote.{Wrote}
 use Rattle.tb_lines.specs.Lists.{AreAnswered, AreCutShort}
-use Rattle.tb_lines.specs.Moments.{IsReplied, Moment, moment}
 use Rattle.tb_lines.specs.Outputs.{AreReplies, AtPrice, Charged, Lead, ReplyValue, charged, price_of, text_of}
 use Rattle.tb_lines.proofs.Completing.{completed}
 use Rattle.tb_lines.proofs.Paying.{paid}
 use Rattle.tb_model.specs.Releases.{ReleaseValue}
 use Rattle.tb_model.specs.Setups.{SetupValue}
 use Rattle.tb_release.specs.Batches.{BatchValue}
-use Rattle.tb_release.specs.Laws.{EditFits}
 use Rattle.tb_release.specs.declared.edits.Edit.{Edit}
-use Rattle.tb_script.specs.Runs.{IsAskedStep, IsLaneReply, IsLaneStep, IsOwnerOf, IsStepBeside, Learns}
+use Rattle.tb_script.specs.Runs.{IsAskedStep, IsLaneReply, IsOwnerOf, Learns}
 use Rattle.tb_script.specs.Scripts.{ScriptLine, ScriptValue, role_of_lane}
-use Rattle.tb_session.specs.Parties.{GoesOn, IsAnalystOf, IsAnswered, IsPartyOf, role_of, seen_by, state_at, state_of}
+use Rattle.tb_session.specs.Parties.{GoesOn, IsAnalystOf, IsPartyOf, role_of, seen_by, state_at, state_of}
 use Rattle.tb_session.specs.PartySessions.{with_none_held}
 use Rattle.tb_session.specs.Replies.{IsReply, StateValue}
 use Rattle.tb_session.specs.Transcripts.{IsStep}
@@ -33,14 +29,7 @@ use Rattle.tb_session.proofs.Analysts.{analyst_anywhere, analyst_stays}
 use Rattle.tb_session.proofs.SomeReplies.{some_reply}
 
 -- ---- one line of an analyst
--- who has learnt something is an analyst still
-pub told_analyst : (name : Name) (shape : List ℕ) (seen : HolderValue) (old new : Party) → IsAnalystOf name shape old → Learns seen old new → IsPartyOf name shape new
-told_analyst name shape seen (party.Analyst a) (party.Analyst b) is (later, knows) =
-    record { front = later.front ∙ is.front; fits = ap (λ (s : StartValue). s.shape) later.base ∙ is.fits }
-told_analyst name shape seen (party.Analyst a) (party.Custodian c h) is learns = absurd learns
-told_analyst name shape seen (party.Custodian c h) new is learns = absurd is
-
--- and after its line
+-- who has learnt something is an analyst still, and after its line
 pub stays_analyst : (name : Name) (shape : List ℕ) (seen : HolderValue) (first old new : Party) → Learns seen first old → GoesOn old new → IsPartyOf name shape new → IsAnalystOf name shape new
 stays_analyst name shape seen (party.Analyst z) (party.Analyst a) (party.Analyst b) learns on is = is
 stays_analyst name shape seen (party.Analyst z) (party.Analyst a) (party.Custodian c h) learns on is = let who : role.Custodian ≡ role.Analyst = on.who in absurd (cc)
@@ -71,42 +60,9 @@ stays_owner name shape (party.Analyst a) new own on is = absurd own
 stays_owner name shape (party.Custodian c h) (party.Analyst a) own on is = let who : role.Analyst ≡ role.Custodian = on.who in absurd (cc)
 stays_owner name shape (party.Custodian c h) (party.Custodian d i) own on is = is
 
--- the custodian that lets go of its edits is one still
-pub fresh_owner : (name : Name) (shape : List ℕ) (p : Party) → IsOwnerOf name shape p → IsOwnerOf name shape (with_none_held p)
-fresh_owner name shape (party.Analyst a) own = absurd own
-fresh_owner name shape (party.Custodian c h) own = record { front = own.front; fits = own.fits; whole = own.whole; edits = All-nil (EditFits shape) }
-
--- the custodian's stands where it stood, until it is answered
-own_reply : (setup : SetupValue) (base : ReleaseValue) (old new : StateValue) (line : List ℕ) (reply : ReplyValue) → IsStep role.Custodian setup base old line reply new → IsReply role.Custodian setup base old line reply new
-own_reply setup base old new line reply (at, same, is) = subst (λ (s : StateValue). IsReply role.Custodian setup base s line reply new) same is
-
--- the custodian's own line
-pub own_line : (setup : SetupValue) (line : List ℕ) (done : Wrote) (f f' : ℕ) (a b : Option (List ℕ)) (p q : ℕ) (old new : Party) (name : Name) (shape : List ℕ) → IsOwnerOf name shape old → IsAnswered setup old line new done f f' a b p q
-    → IsReplied (IsLaneStep setup role.Custodian) line done (moment old p a f) (moment new q b f')
-own_line setup line done f f' a b p q (party.Analyst x) new name shape own is = absurd own
-own_line setup line done f f' a b p q (party.Custodian c h) new name shape own is = record {
-  reply = is.reply;
-  step = (ap (λ (s : StartValue). s.base) is.goes_on.start, own_reply setup c.writer.start.base (state_at c.writer h) (state_of new) line is.reply is.step);
-  written = is.written;
-  cost = is.cost;
-}
-
--- and an analyst's, beside it
-pub analyst_line : (setup : SetupValue) (line : List ℕ) (done : Wrote) (f f' : ℕ) (a b : Option (List ℕ)) (p q : ℕ) (old new : CustodianValue) (held : List Edit) → IsReplied (IsStepBeside setup) line done (moment old p a f) (moment new q b f')
-    → IsReplied (IsLaneStep setup role.Analyst) line done (moment (party.Custodian old held) p a f) (moment (party.Custodian new held) q b f')
-analyst_line setup line done f f' a b p q old new held is = record {
-  reply = is.reply;
-  step = (
-    ap (λ (c : CustodianValue). c.writer.start.base) is.step.0,
-    subst (λ (c : CustodianValue). IsReply role.Analyst setup old.writer.start.base (state_at old.writer held) line is.reply (state_at c.writer held)) (sym is.step.0) (is.step.1 held),
-  );
-  written = is.written;
-  cost = is.cost;
-}
-
 -- ---- all lines
 -- where a party stands, and the counter
-state_now : Charged Party → Charged StateValue
+abbrev state_now : Charged Party → Charged StateValue
 state_now p = charged (state_of p.at) p.steps
 
 module _ (setup : SetupValue) (script : ScriptValue) where

@@ -66,8 +66,8 @@ IsAskedStep setup script =
 
 -- the parties of so many lanes, over this shape: the custodian of the front of this name, and an
 -- analyst for each lane
-pub record AreParties (name : Name) (shape : List ℕ) (lanes : ℕ) (own : Party)
+pub record AreParties (name : Name) (shape : List ℕ) (lanes : ℕ) (custodian : Party)
     (analysts : List Party) : Type 0 where
-  pub own : IsOwnerOf name shape own
-  pub analysts : All (IsAnalystOf name shape) analysts
+  pub own : IsOwnerOf name shape custodian
+  pub others : All (IsAnalystOf name shape) analysts
   pub many : length analysts ≡ lanes

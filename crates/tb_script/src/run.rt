@@ -1,6 +1,6 @@
 // The replies to a script's lines, written one after another.
 
-ghost use Rattle.std.specs.Prelude.{◌≡◌, ◌+◌, ◌≤◌, [], ℕ, All, IfOk, List, length};
+ghost use Rattle.std.specs.Prelude.{◌≡◌, ◌+◌, ◌≤◌, [], All, IfOk, List, length};
 ghost use Rattle.tb_board.specs.Custodians.{IsWhole};
 ghost use Rattle.tb_io.specs.Faults.{HasRisen};
 ghost use Rattle.tb_io.specs.Taken.{Took, TookPart};
@@ -139,8 +139,7 @@ struct Lanes {
 }
 
 impl<'a, B: Named, R: Threads + Wait + Sync, G: Gate> Answerer<Setting<'a, B, R>, G, Asker>
-    for Lanes
-{
+    for Lanes {
     ghost use Rattle.std.specs.Prelude.{◌<◌};
     ghost use Rattle.std.specs.Thread.{IsSync};
     ghost use Rattle.tb_model.specs.Schemas.{shape_of};
