@@ -15,8 +15,9 @@ use Rattle.tb_model.specs.Releases.{ReleaseValue}
 use Rattle.tb_model.specs.Setups.{SetupValue}
 use Rattle.tb_release.specs.Batches.{BatchValue}
 use Rattle.tb_release.specs.declared.edits.Edit.{Edit}
-use Rattle.tb_script.specs.Runs.{IsAskedStep, IsLaneReply, IsOwnerOf, Learns}
+use Rattle.tb_script.specs.Runs.{IsAskedStep, IsLaneReply, IsOwnerOf, IsRun, Learns}
 use Rattle.tb_script.specs.Scripts.{ScriptLine, ScriptValue, role_of_lane}
+use Rattle.tb_script.specs.declared.run.RunEnd.TheVariants as run_end
 use Rattle.tb_session.specs.Parties.{GoesOn, IsAnalystOf, IsPartyOf, role_of, seen_by, state_at, state_of}
 use Rattle.tb_session.specs.PartySessions.{with_none_held}
 use Rattle.tb_session.specs.Replies.{IsReply, StateValue}
@@ -87,24 +88,25 @@ module _ (setup : SetupValue) (script : ScriptValue) where
 
     -- every reply was taken
     pub run-done : AreAnswered (Lead (AtPrice (IsAskedStep setup script))) script.lines (charged (with_none_held own) p) (charged last q) a b
-        → (rs : List ReplyValue) × AreReplies (IsLaneReply setup custodian.writer.start.base) (state_at custodian.writer []) script.lines rs × Took a b (text_of rs) × (q ≤ p + price_of rs)
-    run-done h =
-        let (lead, cost) = paid (IsLaneReply setup custodian.writer.start.base) _ script.lines h.replies _ (from_custodian script.lines h.replies h.legal) in
-        (h.replies, (state_of last, lead), h.took, cost)
+        → IsRun setup custodian.writer.start.base script.lines run_end.Done (charged (state_at custodian.writer []) p) q a b
+    run-done h = (state_of last, record { replies = h.replies; legal = from_custodian _ _ h.legal; took = h.took })
 
     -- a write failed in the reply to one line
     pub run-cut : AreCutShort (Lead (AtPrice (IsAskedStep setup script))) script.lines (charged (with_none_held own) p) (charged last q) a b
-        → (state : StateValue) × AreCutShort (Lead (AtPrice (IsLaneReply setup custodian.writer.start.base))) script.lines (charged (state_at custodian.writer []) p) (charged state q) a b
-    run-cut h = (
-      state_of last,
-      record { count = h.count; among = h.among; replies = h.replies; cut = h.cut; legal = from_custodian _ _ h.legal; part = h.part; took = h.took },
-    )
+        → IsRun setup custodian.writer.start.base script.lines run_end.WriteFault (charged (state_at custodian.writer []) p) q a b
+    run-cut h = (state_of last, record { count = h.count; among = h.among; replies = h.replies; cut = h.cut; legal = from_custodian _ _ h.legal; part = h.part; took = h.took })
 
--- what was taken then is a part of some replies to all lines
-pub run-part : (setup : SetupValue) (base : ReleaseValue) (lines : List ScriptLine) (first : StateValue) (a b : Option (List ℕ)) (p q : ℕ)
-    → (state : StateValue) × AreCutShort (Lead (AtPrice (IsLaneReply setup base))) lines (charged first p) (charged state q) a b
-    → (rs : List ReplyValue) × AreReplies (IsLaneReply setup base) first lines rs × TookPart a b (text_of rs) × (q ≤ p + price_of rs)
-run-part setup base lines first a b p q (state, h) =
-    let (lead, cost) = paid (IsLaneReply setup base) _ _ _ _ h.legal in
-    let (rs, are, took, more) = completed (IsLaneReply setup base) (λ s one. some_reply (role_of_lane one.lane) setup base s one.line) lines h.count first state h.replies h.cut h.part a b lead h.took in
-    (rs, are, took, omega (arith, cost, more))
+-- ---- what was taken of a run, and what it cost
+module _ (setup : SetupValue) (base : ReleaseValue) (lines : List ScriptLine) (first : Charged StateValue) (q : ℕ) (a b : Option (List ℕ)) where
+  -- all of some replies
+  pub run-all : IsRun setup base lines run_end.Done first q a b → (rs : List ReplyValue) × AreReplies (IsLaneReply setup base) first.at lines rs × Took a b (text_of rs) × (q ≤ first.steps + price_of rs)
+  run-all (last, h) =
+      let (lead, cost) = paid (IsLaneReply setup base) first lines h.replies (charged last q) h.legal in
+      (h.replies, (last, lead), h.took, cost)
+
+  -- or a part of some replies to all lines
+  pub run-part : IsRun setup base lines run_end.WriteFault first q a b → (rs : List ReplyValue) × AreReplies (IsLaneReply setup base) first.at lines rs × TookPart a b (text_of rs) × (q ≤ first.steps + price_of rs)
+  run-part (last, h) =
+      let (lead, cost) = paid (IsLaneReply setup base) first _ _ (charged last q) h.legal in
+      let (rs, are, took, more) = completed (IsLaneReply setup base) (λ s one. some_reply (role_of_lane one.lane) setup base s one.line) lines h.count first.at last h.replies h.cut h.part a b lead h.took in
+      (rs, are, took, omega (arith, cost, more))

@@ -1,16 +1,18 @@
 -- The replies to the lines of a script. Each lane is a party of one board, at the batches that the
 -- custodian has published by then.
-use Rattle.std.specs.Prelude.{◌≡◌, ◌<◌, ℕ, List, All, length}
+use Rattle.std.specs.Prelude.{◌≡◌, ◌<◌, ℕ, List, All, Option, length}
 use Rattle.tb_board.specs.Custodians.{CustodianValue}
 use Rattle.tb_board.specs.Holders.{HolderValue}
 use Rattle.tb_front.specs.Holders.{IsLater, Name}
-use Rattle.tb_lines.specs.Lists.{StepBy}
-use Rattle.tb_lines.specs.Outputs.{ReplyValue}
+use Rattle.tb_lines.specs.Lists.{AreAnswered, AreCutShort, StepBy}
+use Rattle.tb_lines.specs.Outputs.{AtPrice, Charged, Lead, ReplyValue, charged}
 use Rattle.tb_model.specs.Releases.{ReleaseValue}
 use Rattle.tb_model.specs.Setups.{SetupValue}
 use Rattle.tb_release.specs.declared.edits.Edit.{Edit}
 use Rattle.tb_script.specs.Scripts.{ScriptLine, ScriptValue, lanes_of, role_of_lane}
 use Rattle.tb_script.specs.declared.asker.Asker.{Asker}
+use Rattle.tb_script.specs.declared.run.RunEnd.{RunEnd}
+use Rattle.tb_script.specs.declared.run.RunEnd.TheVariants as run_end
 use Rattle.tb_session.specs.Parties.{IsAnalystOf, IsCustodianOf, seen_by, state_at, state_of}
 use Rattle.tb_session.specs.Replies.{IsReply, StateValue}
 use Rattle.tb_session.specs.declared.party.Party.{Party}
@@ -24,6 +26,21 @@ abbrev pub IsLaneReply : SetupValue → ReleaseValue → StateValue → ScriptLi
     → StateValue → Type 0
 IsLaneReply setup base state one reply next =
     IsReply (role_of_lane one.lane) setup base state one.line reply next
+
+-- what a run did with the lines of a script, from where the custodian stood and the counter, by how
+-- it ended: it answered all, or some until a write failed; or it was out of memory before the first
+abbrev pub IsRun : SetupValue → ReleaseValue → List ScriptLine → RunEnd → Charged StateValue → ℕ
+    → Option (List ℕ) → Option (List ℕ) → Type 0
+IsRun setup base lines run_end.Done first steps before after =
+    (last : StateValue)
+    × AreAnswered (Lead (AtPrice (IsLaneReply setup base))) lines first (charged last steps) before
+    after
+IsRun setup base lines run_end.WriteFault first steps before after =
+    (last : StateValue)
+    × AreCutShort (Lead (AtPrice (IsLaneReply setup base))) lines first (charged last steps) before
+    after
+IsRun setup base lines run_end.Memory first steps before after =
+    (after ≡ before) × (steps ≡ first.steps)
 
 -- who asks a line of a script: its lane, which is one of the script's
 pub record Asks (script : ScriptValue) (line : ScriptLine) (who : Asker) : Type 0 where

@@ -1,19 +1,15 @@
 // The replies to a script's lines, written one after another.
 
-ghost use Rattle.std.specs.Prelude.{◌≡◌, ◌+◌, ◌≤◌, [], All, IfOk, List, length};
+ghost use Rattle.std.specs.Prelude.{◌≡◌, ◌≤◌, [], All, IfOk, length};
 ghost use Rattle.tb_board.specs.Custodians.{IsWhole};
 ghost use Rattle.tb_io.specs.Faults.{HasRisen};
-ghost use Rattle.tb_io.specs.Taken.{Took, TookPart};
 ghost use Rattle.tb_io.specs.declared.limits.TheConstants.{MOST_LINE_BYTES};
-ghost use Rattle.tb_lines.specs.Lists.{AreCutShort};
 ghost use Rattle.tb_lines.specs.Moments.{IsReplied, moment};
-ghost use Rattle.tb_lines.specs.Outputs.{AreReplies, AtPrice, Lead, ReplyValue, charged};
-ghost use Rattle.tb_lines.specs.Outputs.{price_of, text_of};
+ghost use Rattle.tb_lines.specs.Outputs.{charged};
 ghost use Rattle.tb_model.specs.Schemas.{shape_of};
-ghost use Rattle.tb_script.specs.Runs.{IsLaneReply, IsLaneStep, IsOwnerOf, IsStepBeside, Learns};
+ghost use Rattle.tb_script.specs.Runs.{IsLaneStep, IsOwnerOf, IsRun, IsStepBeside, Learns};
 ghost use Rattle.tb_script.specs.declared.run.RunEnd.TheVariants as run_end;
 ghost use Rattle.tb_session.specs.Parties.{IsAnalystOf, IsCustodianOf, state_at};
-ghost use Rattle.tb_session.specs.Replies.{StateValue};
 
 use crate::asker::Asker;
 use crate::script::Script;
@@ -231,24 +227,8 @@ pub fn run_script<B: Named, K: Sink, L: Ledger>(
     ensures count { K.faults sink.old ≤ K.faults sink.new }
     ensures failed { result ≡ run_end.WriteFault
         → HasRisen (K.faults sink.old) (K.faults sink.new) }
-    ensures memory { result ≡ run_end.Memory → (K.taken sink.new ≡ K.taken sink.old)
-        × (steps.new ≡ steps.old) }
-    // What was taken are the replies, and the counter rose by no more than their price.
-    ensures done { result ≡ run_end.Done → (replies : List ReplyValue)
-        × AreReplies (IsLaneReply setup.now custodian.writer.start.base)
-        (state_at custodian.writer []) script.now.lines replies
-        × Took (K.taken sink.old) (K.taken sink.new) (text_of replies)
-        × (steps.new ≤ steps.old + price_of replies) }
-    // Or a part of some replies.
-    ensures part { result ≡ run_end.WriteFault → (replies : List ReplyValue)
-        × AreReplies (IsLaneReply setup.now custodian.writer.start.base)
-        (state_at custodian.writer []) script.now.lines replies
-        × TookPart (K.taken sink.old) (K.taken sink.new) (text_of replies)
-        × (steps.new ≤ steps.old + price_of replies) }
-    // The write failed in the reply to one of the lines, which leads to where the custodian stands.
-    ensures cut { result ≡ run_end.WriteFault → (last : StateValue)
-        × AreCutShort (Lead (AtPrice (IsLaneReply setup.now custodian.writer.start.base)))
-        script.now.lines (charged (state_at custodian.writer []) steps.old) (charged last steps.new)
+    ensures run { IsRun setup.now custodian.writer.start.base script.now.lines result
+        (charged (state_at custodian.writer []) steps.old) steps.new
         (K.taken sink.old) (K.taken sink.new) }
 {
     let Ok(analysts) = analysts(rt, alloc, board, &mut custodian, script.lanes()) else {
