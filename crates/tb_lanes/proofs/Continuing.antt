@@ -12,7 +12,7 @@ use Rattle.tb_script.specs.Scripts.{ScriptValue, role_of_lane}
 use Rattle.tb_session.specs.Asks.{asks_of}
 use Rattle.tb_session.specs.declared.asks.Asks.{Asks}
 use Rattle.tb_session.specs.declared.asks.Asks.TheVariants as asks
-use Rattle.tb_session.specs.Outputs.{ReplyValue, text_of}
+use Rattle.tb_lines.specs.Outputs.{ReplyValue, text_of}
 use Rattle.tb_session.specs.Replies.{IsReplyTo, StateValue, free_reply}
 use Rattle.tb_session.specs.ReplyLines.{cleared_line, memory_line, stats_line}
 use Rattle.tb_session.specs.Transcripts.{IsLegal, Sees}

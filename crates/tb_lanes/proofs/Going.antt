@@ -10,13 +10,14 @@ use Rattle.tb_lanes.specs.declared.lane.Lane.{Lane}
 use Rattle.tb_lanes.specs.Lanes.{Ran, has_some}
 use Rattle.tb_lanes.specs.Phases.{AnalystGoes, LaneGoes, PhaseGoes, PhasesGo, Standing, after_seeing, lane_at, lane_text, lanes_text, lines_at, phase_line, phase_text}
 use Rattle.tb_lanes.specs.Runs.{AnalystRan, KnowLines, LaneRan, PhaseRan, Stand, Tell, standing_of}
-use Rattle.tb_lanes.proofs.Lanes.{lines_legal, told_text}
+use Rattle.tb_lanes.proofs.Lanes.{told_text}
+use Rattle.tb_session.proofs.LegalParties.{lines_legal}
 use Rattle.tb_model.specs.Releases.{ReleaseValue}
 use Rattle.tb_model.specs.Setups.{SetupValue}
 use Rattle.tb_release.specs.Batches.{BatchValue}
 use Rattle.tb_script.specs.Runs.{IsOwnerOf}
 use Rattle.tb_script.specs.Scripts.{ScriptValue, lanes_of, role_of_lane}
-use Rattle.tb_session.specs.Outputs.{ReplyValue, text_of}
+use Rattle.tb_lines.specs.Outputs.{ReplyValue, text_of}
 use Rattle.tb_session.specs.Parties.{role_of, seen_by, state_of}
 use Rattle.tb_session.specs.Replies.{StateValue}
 use Rattle.tb_session.specs.Transcripts.{IsLegal}

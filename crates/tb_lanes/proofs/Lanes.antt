@@ -13,14 +13,12 @@ use Rattle.tb_board.specs.Holders.{HolderValue}
 use Rattle.tb_board.specs.Starts.{StartValue}
 use Rattle.tb_front.specs.Holders.{IsLater, Name}
 use Rattle.tb_script.specs.Runs.{IsOwnerOf, Learns}
-use Rattle.tb_session.specs.Outputs.{Lead, ReplyValue, text_of}
-use Rattle.tb_session.specs.Parties.{GoesOn, IsAnalystOf, role_of, seen_by, state_of}
-use Rattle.tb_session.specs.PartySessions.{AreLegal, IsPartyStep}
-use Rattle.tb_session.specs.Transcripts.{IsLegal}
+use Rattle.tb_lines.specs.Outputs.{Lead, ReplyValue, text_of}
+use Rattle.tb_session.specs.Parties.{IsAnalystOf, seen_by}
+use Rattle.tb_session.specs.PartySessions.{IsPartyStep}
 use Rattle.tb_session.specs.declared.party.Party.{Party}
 use Rattle.tb_session.specs.declared.party.Party.TheVariants as party
-use Rattle.tb_session.specs.declared.party.Role.{Role}
-use Rattle.tb_session.proofs.Transcribing.{Lead-more, text_of-more}
+use Rattle.tb_lines.proofs.Transcribing.{Lead-more, text_of-more}
 
 -- no line yet
 pub ran_none : (setup : SetupValue) (lines : List (List ℕ)) (p : Party) → lines ≡ [] → Ran setup lines p (Some []) false p
@@ -74,29 +72,3 @@ told_by_owner {G} name shape own custodian held lanes lanes' is owns told =
     let by_writer : Each (λ _. IsTold custodian.writer) lanes lanes' =
     subst (λ (h : HolderValue). Each (λ _. IsTold h) lanes lanes') owner.whole.same told in
     subst (λ (p : Party). Each (λ _. IsTold (seen_by p)) lanes lanes') (sym is) by_writer
-
-goes_further : (p q r : Party) → GoesOn p q → GoesOn q r → GoesOn p r
-goes_further p q r one more = record { who = more.who ∙ one.who; front = more.front ∙ one.front; start = more.start ∙ one.start }
-
--- legal replies, line by line and for all lines
-pub lines_legal : (setup : SetupValue) (p : Party) (lines : List (List ℕ)) (replies : List ReplyValue) (q : Party)
-    → Lead (IsPartyStep setup) p lines replies q → AreLegal setup p lines replies q
-lines_legal setup p [] [] q e = (
-  subst (λ (r : Party). GoesOn p r) (sym e) (record { who = refl; front = refl; start = refl }),
-  ap state_of
-      e,
-)
-lines_legal setup p [] (reply ∷ replies) q e = absurd e
-lines_legal setup p (line ∷ lines) [] q e = absurd e
-lines_legal setup p (line ∷ lines) (reply ∷ replies) q (next, (goes, step), others) =
-    let (further, legal) = lines_legal setup next lines replies q others in
-    let based : IsLegal (role_of next) setup (seen_by p).start.base (state_of next) lines replies (state_of q) = subst
-    (λ (s : StartValue). IsLegal (role_of next) setup s.base (state_of next) lines replies (state_of q)) goes.start legal in (
-      goes_further p next q goes further,
-      (
-        state_of next,
-        step,
-        subst (λ (who : Role). IsLegal who setup (seen_by p).start.base
-            (state_of next) lines replies (state_of q)) goes.who based,
-      ),
-    )

@@ -9,7 +9,7 @@ use Rattle.tb_lanes.specs.declared.lane.Lane.{Lane}
 use Rattle.tb_lanes.specs.Lanes.{HasRun, IsConfirmed, IsTold, Ran}
 use Rattle.tb_lanes.specs.Phases.{lane_at, lines_at}
 use Rattle.tb_lanes.specs.Runs.{AnalystRan, IsOwner, IsSwapped, LaneRan, PhaseRan, with_party}
-use Rattle.tb_lanes.proofs.Lanes.{lines_legal}
+use Rattle.tb_session.proofs.LegalParties.{lines_legal}
 use Rattle.tb_lanes.proofs.Names.{same_lane}
 use Rattle.tb_model.specs.Setups.{SetupValue}
 use Rattle.tb_script.specs.Runs.{IsOwnerOf}

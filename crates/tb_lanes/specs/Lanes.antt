@@ -7,7 +7,7 @@ use Rattle.tb_model.specs.Setups.{SetupValue}
 use Rattle.tb_lanes.specs.declared.lane.Lane.{Lane}
 use Rattle.tb_lanes.specs.Phases.{lines_at}
 use Rattle.tb_script.specs.Scripts.{ScriptValue}
-use Rattle.tb_session.specs.Outputs.{Lead, ReplyValue, text_of}
+use Rattle.tb_lines.specs.Outputs.{Lead, ReplyValue, text_of}
 use Rattle.tb_session.specs.Parties.{seen_by}
 use Rattle.tb_session.specs.PartySessions.{IsPartyStep}
 use Rattle.tb_session.specs.declared.party.Party.{Party}

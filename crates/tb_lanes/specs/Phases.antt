@@ -7,7 +7,7 @@ use Rattle.tb_model.specs.Releases.{ReleaseValue}
 use Rattle.tb_model.specs.Setups.{SetupValue}
 use Rattle.tb_release.specs.Batches.{BatchValue}
 use Rattle.tb_script.specs.Scripts.{ScriptLine, ScriptValue, lanes_of, role_of_lane}
-use Rattle.tb_session.specs.Outputs.{ReplyValue, text_of}
+use Rattle.tb_lines.specs.Outputs.{ReplyValue, text_of}
 use Rattle.tb_session.specs.Replies.{StateValue}
 use Rattle.tb_session.specs.Transcripts.{IsLegal}
 use Rattle.tb_session.specs.declared.party.Role.{Role}

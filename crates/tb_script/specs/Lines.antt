@@ -6,7 +6,7 @@ use Rattle.std.specs.List.{before_first, list_all}
 use Rattle.tb_base.specs.Bytes.{is_blank, begins_blank, after_blanks}
 use Rattle.tb_io.specs.declared.limits.TheConstants.{MOST_LINE_BYTES}
 use Rattle.tb_script.specs.declared.limits.TheConstants.{MOST_LANE_BYTES}
-use Rattle.tb_session.specs.Lines.{is_passed_over}
+use Rattle.tb_lines.specs.Lines.{is_passed_over}
 
 -- A line that is exactly `--` ends a phase.
 abbrev pub is_phase_end : List ℕ → Bool

@@ -1,17 +1,17 @@
 // The replies to a script's lines, written one after another.
 
-ghost use Rattle.std.specs.Prelude.{◌≡◌, ◌<◌, ◌+◌, ◌≤◌, [], ℕ, All, IfOk, List, length};
+ghost use Rattle.std.specs.Prelude.{◌≡◌, ◌≤◌, [], All, IfOk, length};
 ghost use Rattle.tb_board.specs.Custodians.{IsWhole};
 ghost use Rattle.tb_io.specs.Faults.{HasRisen};
-ghost use Rattle.tb_io.specs.Taken.{Took, TookPart};
-ghost use Rattle.tb_io.specs.declared.answers.Wrote.TheVariants as wrote;
 ghost use Rattle.tb_io.specs.declared.limits.TheConstants.{MOST_LINE_BYTES};
+ghost use Rattle.tb_lines.specs.Moments.{IsReplied, moment};
+ghost use Rattle.tb_lines.specs.Outputs.{charged};
 ghost use Rattle.tb_model.specs.Schemas.{shape_of};
-ghost use Rattle.tb_script.specs.Runs.{IsLaneReply, IsOwnerOf, Learns, LineLeads, LineSays};
+ghost use Rattle.tb_script.specs.Runs.{IsLaneStep, IsOwnerOf, IsRun, IsStepBeside, Learns};
 ghost use Rattle.tb_script.specs.declared.run.RunEnd.TheVariants as run_end;
-ghost use Rattle.tb_session.specs.Outputs.{AreReplies, ReplyValue, price_of, text_of};
 ghost use Rattle.tb_session.specs.Parties.{IsAnalystOf, IsCustodianOf, state_at};
 
+use crate::asker::Asker;
 use crate::script::Script;
 use std::alloc::Global;
 use std::sync::Wait;
@@ -19,8 +19,9 @@ use std::sync::ledger::Ledger;
 use std::thread::Threads;
 use tb_base::{Memory, Steps};
 use tb_board::{Board, Custodian, Named};
-use tb_build::Open;
+use tb_build::{Gate, Open};
 use tb_io::{Sink, Wrote};
+use tb_lines::{Answerer, answer_list};
 use tb_release::Edits;
 use tb_session::{Party, Role, analyst_of, answer, confirm};
 use tb_text::Setup;
@@ -51,7 +52,7 @@ pub fn tell<B: Named>(board: &Board<B>, custodian: &mut Custodian, party: &mut P
 
 // Answers an analyst's line over the custodian's release: its pass learns what the custodian's has
 // seen, and has seen no more after it.
-fn answer_beside<B: Named, R: Threads + Wait + Sync, K: Sink, L: Ledger>(
+fn answer_beside<B: Named, R: Threads + Wait + Sync, K: Sink, G: Gate, L: Ledger>(
     setup: &Setup,
     board: &Board<B>,
     rt: &R,
@@ -60,6 +61,7 @@ fn answer_beside<B: Named, R: Threads + Wait + Sync, K: Sink, L: Ledger>(
     party: &mut Party,
     line: &[u8],
     sink: &mut K,
+    gate: &mut G,
     steps: &mut Steps<L>,
 ) -> Wrote
     requires few { length line.now ≤ MOST_LINE_BYTES }
@@ -69,17 +71,18 @@ fn answer_beside<B: Named, R: Threads + Wait + Sync, K: Sink, L: Ledger>(
     requires analyst { IsAnalystOf B.name (shape_of setup.now.schema) party.old }
     ensures same { custodian.new ≡ custodian.old }
     ensures analyst { IsAnalystOf B.name (shape_of setup.now.schema) party.new }
-    ensures says { LineSays setup.now custodian.old line.now result (K.faults sink.old)
-        (K.faults sink.new) (K.taken sink.old) (K.taken sink.new) steps.old steps.new }
+    ensures replied { IsReplied (IsStepBeside setup.now) line.now result
+        (moment custodian.old steps.old (K.taken sink.old) (K.faults sink.old))
+        (moment custodian.new steps.new (K.taken sink.new) (K.faults sink.new)) }
 {
     tell(board, custodian, party);
-    let done = answer(setup, board, rt, alloc, party, line, sink, &mut Open, steps);
+    let done = answer(setup, board, rt, alloc, party, line, sink, gate, steps);
     confirm(board, custodian, party);
     done
 }
 
 // Answers a line of a lane: the custodian's own, or that of an analyst.
-fn answer_lane<B: Named, R: Threads + Wait + Sync, K: Sink, L: Ledger>(
+fn answer_lane<B: Named, R: Threads + Wait + Sync, K: Sink, G: Gate, L: Ledger>(
     setup: &Setup,
     board: &Board<B>,
     rt: &R,
@@ -89,6 +92,7 @@ fn answer_lane<B: Named, R: Threads + Wait + Sync, K: Sink, L: Ledger>(
     role: Role,
     line: &[u8],
     sink: &mut K,
+    gate: &mut G,
     steps: &mut Steps<L>,
 ) -> Wrote
     requires few { length line.now ≤ MOST_LINE_BYTES }
@@ -96,17 +100,88 @@ fn answer_lane<B: Named, R: Threads + Wait + Sync, K: Sink, L: Ledger>(
     requires analyst { IsAnalystOf B.name (shape_of setup.now.schema) party.old }
     ensures own { IsOwnerOf B.name (shape_of setup.now.schema) own.new }
     ensures analyst { IsAnalystOf B.name (shape_of setup.now.schema) party.new }
-    ensures leads { LineLeads setup.now own.old role line.now result (K.faults sink.old)
-        (K.faults sink.new) (K.taken sink.old) (K.taken sink.new) steps.old steps.new own.new }
+    ensures replied { IsReplied (IsLaneStep setup.now role) line.now result
+        (moment own.old steps.old (K.taken sink.old) (K.faults sink.old))
+        (moment own.new steps.new (K.taken sink.new) (K.faults sink.new)) }
 {
     match role {
-        Role::Custodian => answer(setup, board, rt, alloc, own, line, sink, &mut Open, steps),
+        Role::Custodian => answer(setup, board, rt, alloc, own, line, sink, gate, steps),
         Role::Analyst => match own {
             Party::Custodian(custodian, _) => {
-                answer_beside(setup, board, rt, alloc, custodian, party, line, sink, steps)
+                answer_beside(
+                    setup, board, rt, alloc, custodian, party, line, sink, gate, steps,
+                )
             }
             Party::Analyst(_) => unreachable!(),
         },
+    }
+}
+
+// What the lines of a script are answered over, and how many lanes it has.
+#[derive(Drop)]
+struct Setting<'a, B: Named, R: Threads + Wait + Sync> {
+    setup: &'a Setup,
+    board: &'a Board<B>,
+    rt: &'a R,
+    alloc: Global,
+    lanes: usize,
+}
+
+// The parties of a script's lanes: the custodian's own, and an analyst for each lane.
+#[derive(Drop)]
+struct Lanes {
+    own: Party,
+    analysts: Vec<Party>,
+}
+
+impl<'a, B: Named, R: Threads + Wait + Sync, G: Gate> Answerer<Setting<'a, B, R>, G, Asker>
+    for Lanes {
+    ghost use Rattle.std.specs.Prelude.{◌<◌};
+    ghost use Rattle.std.specs.Thread.{IsSync};
+    ghost use Rattle.tb_model.specs.Schemas.{shape_of};
+    ghost use Rattle.tb_script.specs.Runs.{AreParties, IsLaneStep};
+    ghost use Rattle.tb_session.specs.PartySessions.{with_none_held};
+    ghost use Rattle.tb_session.specs.declared.party.Party.{Party as PartyValue};
+
+    ghost State = { PartyValue };
+
+    ghost state = { λ lanes. lanes.own };
+
+    ghost fresh = { with_none_held };
+
+    ghost IsReady = { λ c lanes. IsSync R.row × AreParties B.name (shape_of c.setup.now.schema)
+        c.lanes lanes.own lanes.analysts.items };
+
+    ghost MayAsk = { λ c who. who.lane < c.lanes };
+
+    ghost Step = { λ c who old line reply new. IsLaneStep c.setup.now who.role old line reply new };
+
+    fn begin(&mut self, _setting: &Setting<'a, B, R>) {
+        self.own.drop_held();
+    }
+
+    fn answer<K: Sink, L: Ledger>(
+        &mut self,
+        setting: &Setting<'a, B, R>,
+        who: Asker,
+        line: &[u8],
+        sink: &mut K,
+        gate: &mut G,
+        steps: &mut Steps<L>,
+    ) -> Wrote {
+        answer_lane(
+            setting.setup,
+            setting.board,
+            setting.rt,
+            setting.alloc,
+            &mut self.own,
+            &mut self.analysts[who.lane],
+            who.role,
+            line,
+            sink,
+            gate,
+            steps,
+        )
     }
 }
 
@@ -152,35 +227,24 @@ pub fn run_script<B: Named, K: Sink, L: Ledger>(
     ensures count { K.faults sink.old ≤ K.faults sink.new }
     ensures failed { result ≡ run_end.WriteFault
         → HasRisen (K.faults sink.old) (K.faults sink.new) }
-    ensures memory { result ≡ run_end.Memory → (K.taken sink.new ≡ K.taken sink.old)
-        × (steps.new ≡ steps.old) }
-    // What was taken are the replies, and the counter rose by no more than their price.
-    ensures done { result ≡ run_end.Done → (replies : List ReplyValue)
-        × AreReplies (IsLaneReply setup.now custodian.writer.start.base)
-        (state_at custodian.writer []) script.now.lines replies
-        × Took (K.taken sink.old) (K.taken sink.new) (text_of replies)
-        × (steps.new ≤ steps.old + price_of replies) }
-    // Or a part of some replies.
-    ensures part { result ≡ run_end.WriteFault → (replies : List ReplyValue)
-        × AreReplies (IsLaneReply setup.now custodian.writer.start.base)
-        (state_at custodian.writer []) script.now.lines replies
-        × TookPart (K.taken sink.old) (K.taken sink.new) (text_of replies)
-        × (steps.new ≤ steps.old + price_of replies) }
+    ensures run { IsRun setup.now custodian.writer.start.base script.now.lines result
+        (charged (state_at custodian.writer []) steps.old) steps.new
+        (K.taken sink.old) (K.taken sink.new) }
 {
-    let Ok(mut parties) = analysts(rt, alloc, board, &mut custodian, script.lanes()) else {
+    let Ok(analysts) = analysts(rt, alloc, board, &mut custodian, script.lanes()) else {
         return RunEnd::Memory;
     };
-    let mut own = Party::Custodian(custodian, Edits::new(alloc));
-    for i in 0..script.len() {
-        let party = &mut parties[script.lane_number(i)];
-        let role = script.role(i);
-        let line = script.line(i);
-        match answer_lane(
-            setup, board, rt, alloc, &mut own, party, role, line, sink, steps,
-        ) {
-            Wrote::All => {}
-            Wrote::Failed => return RunEnd::WriteFault,
-        }
+    let own = Party::Custodian(custodian, Edits::new(alloc));
+    let mut lanes = Lanes { own, analysts };
+    let setting = Setting {
+        setup,
+        board,
+        rt,
+        alloc,
+        lanes: script.lanes(),
+    };
+    match answer_list(&setting, &mut lanes, script, sink, &mut Open, steps) {
+        Wrote::All => RunEnd::Done,
+        Wrote::Failed => RunEnd::WriteFault,
     }
-    RunEnd::Done
 }

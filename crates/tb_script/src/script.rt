@@ -8,6 +8,7 @@ ghost use Rattle.tb_script.specs.Scripts.{script_of, with_line};
 ghost use Rattle.tb_script.specs.declared.fault.ScriptFault.TheVariants as fault;
 ghost use Rattle.tb_io.specs.declared.limits.TheConstants.{MOST_LINE_BYTES};
 
+use crate::asker::Asker;
 use crate::fault::ScriptFault;
 use crate::limits::MOST_SCRIPT_BYTES;
 use crate::line::{is_phase_end, split_line};
@@ -16,7 +17,8 @@ use bstr::ByteSlice;
 use std::alloc::Global;
 use std::marker::Model;
 use tb_io::MOST_LINE_BYTES;
-use tb_session::{Role, is_passed_over};
+use tb_lines::{LineList, is_passed_over};
+use tb_session::Role;
 
 /// The lanes' lines of a script in order, each with its phase and its lane. It is made by
 /// `Script::read` alone.
@@ -187,5 +189,33 @@ impl Script {
     {
         let place = &self.parts.places[i];
         &self.parts.texts[place.start..place.start + place.len as usize]
+    }
+}
+
+impl LineList<Asker> for Script {
+    ghost use Rattle.tb_script.specs.Runs.{Asks};
+    ghost use Rattle.tb_script.specs.Scripts.{ScriptLine};
+
+    ghost Line = { ScriptLine };
+
+    ghost lines = { λ script. script.lines };
+
+    ghost text = { λ line. line.line };
+
+    ghost Asks = { λ script line who. Asks script line who };
+
+    fn len(&self) -> usize {
+        Script::len(self)
+    }
+
+    fn who(&self, i: usize) -> Asker {
+        Asker {
+            lane: self.lane_number(i),
+            role: self.role(i),
+        }
+    }
+
+    fn line(&self, i: usize) -> &[u8] {
+        Script::line(self, i)
     }
 }

@@ -7,8 +7,8 @@ use Rattle.tb_model.specs.Releases.{ReleaseValue}
 use Rattle.tb_model.specs.Setups.{SetupValue}
 use Rattle.tb_release.specs.Batches.{BatchValue}
 use Rattle.tb_release.specs.Chains.{release_after}
-use Rattle.tb_session.specs.Lines.{is_passed_over}
-use Rattle.tb_session.specs.Outputs.{ReplyValue}
+use Rattle.tb_lines.specs.Lines.{is_passed_over}
+use Rattle.tb_lines.specs.Outputs.{ReplyValue}
 use Rattle.tb_session.specs.Parties.{IsAnalystOf, IsBehind, IsPartyOf, seen_by}
 use Rattle.tb_session.specs.Replies.{IsAnswer, IsReply, IsReplyTo, StateValue}
 use Rattle.tb_session.specs.declared.asks.Asks.TheVariants as asks

@@ -17,7 +17,7 @@ use Rattle.tb_session.specs.declared.asks.Asks.{Asks}
 use Rattle.tb_session.specs.declared.asks.Asks.TheVariants as asks
 use Rattle.tb_session.specs.declared.party.Role.{Role}
 use Rattle.tb_session.specs.declared.party.Role.TheVariants as role
-use Rattle.tb_session.specs.Lines.{is_passed_over}
+use Rattle.tb_lines.specs.Lines.{is_passed_over}
 use Rattle.tb_session.specs.Parties.{Answers, Leads, PublishLeads, state_at}
 use Rattle.tb_session.specs.Replies.{IsAnswer, IsCapacityReply, IsEditReply, IsReplyTo, IsStatsReply, StateValue, free_reply}
 use Rattle.tb_session.specs.ReplyLines.{cleared_line}

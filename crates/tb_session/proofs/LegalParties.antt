@@ -1,21 +1,19 @@
 -- The replies of a party's session are legal from what it had seen.
-use Rattle.std.proofs.Common.{◌≡◌, ◌∙◌, sym, ap, subst, refl, ℕ, List, [], ◌∷◌, Option, inl, inr}
+use Rattle.std.proofs.Common.{◌≡◌, ◌∙◌, sym, ap, subst, refl, ℕ, List, [], ◌∷◌}
 use Rattle.tb_board.specs.Starts.{StartValue}
 use Rattle.tb_model.specs.Setups.{SetupValue}
-use Rattle.tb_session.specs.Outputs.{Lead, ReplyValue}
+use Rattle.tb_lines.specs.Outputs.{Lead, ReplyValue}
 use Rattle.tb_session.specs.Parties.{GoesOn, role_of, seen_by, state_of}
 use Rattle.tb_session.specs.PartySessions.{AreLegal, IsPartyStep}
-use Rattle.tb_session.specs.Sessions.{IsSession}
 use Rattle.tb_session.specs.Transcripts.{IsLegal}
 use Rattle.tb_session.specs.declared.party.Party.{Party}
 use Rattle.tb_session.specs.declared.party.Role.{Role}
-use Rattle.tb_session.specs.declared.session_end.SessionEnd.{SessionEnd}
-use Rattle.tb_session.specs.declared.session_end.SessionEnd.TheVariants.{Ended, LineTooLong, TooManyLines, ReadFault, WriteFault}
 
-goes_nowhere : (p : Party) → GoesOn p p
+-- a party is the same one after nothing, and after one thing and another
+pub goes_nowhere : (p : Party) → GoesOn p p
 goes_nowhere p = record { who = refl; front = refl; start = refl }
 
-goes_further : (p q r : Party) → GoesOn p q → GoesOn q r → GoesOn p r
+pub goes_further : (p q r : Party) → GoesOn p q → GoesOn q r → GoesOn p r
 goes_further p q r one more = record { who = more.who ∙ one.who; front = more.front ∙ one.front; start = more.start ∙ one.start }
 
 -- line by line, and for all lines
@@ -27,19 +25,3 @@ lines_legal setup p (line ∷ lines) (reply ∷ replies) q (next, (goes, step), 
     let (further, legal) = lines_legal setup next lines replies q others in
     let based : IsLegal (role_of next) setup (seen_by p).start.base (state_of next) lines replies (state_of q) = subst (λ (s : StartValue). IsLegal (role_of next) setup s.base (state_of next) lines replies (state_of q)) goes.start legal in
     (goes_further p next q goes further, (state_of next, step, subst (λ (who : Role). IsLegal who setup (seen_by p).start.base (state_of next) lines replies (state_of q)) goes.who based))
-
--- what a session did, in other words for its replies
-module _ {S : Type 0} (One Other : S → List (List ℕ) → List ReplyValue → S → Type 0) (says : (p : S) (lines : List (List ℕ)) (replies : List ReplyValue) (q : S) → One p lines replies q → Other p lines replies q) where
-  pub session_as : (end : SessionEnd) (left now : Option (List ℕ)) (first last : S) (before after : Option (List ℕ)) → IsSession One end left now first last before after → IsSession Other end left now first last before after
-  session_as Ended left now first last before after h =
-      record { lines = h.lines; of_source = h.of_source; is_end = h.is_end; at_end = h.at_end; gave = h.gave; replies = h.replies; legal = says _ _ _ _ h.legal; took = h.took }
-  session_as LineTooLong left now first last before after h =
-      record { lines = h.lines; of_source = h.of_source; is_end = h.is_end; at_end = h.at_end; gave = h.gave; replies = h.replies; legal = says _ _ _ _ h.legal; took = h.took }
-  session_as TooManyLines left now first last before after h =
-      record { lines = h.lines; of_source = h.of_source; is_end = h.is_end; at_end = h.at_end; gave = h.gave; replies = h.replies; legal = says _ _ _ _ h.legal; took = h.took }
-  session_as ReadFault left now first last before after h =
-      record { lines = h.lines; given = h.given; none_ends = h.none_ends; few = h.few; gave = h.gave; replies = h.replies; legal = says _ _ _ _ h.legal; took = h.took }
-  session_as WriteFault left now first last before after (inl h) =
-      inl (record { lines = h.lines; of_source = h.of_source; count = h.count; among = h.among; gave = h.gave; replies = h.replies; cut = h.cut; legal = says _ _ _ _ h.legal; part = h.part; took = h.took })
-  session_as WriteFault left now first last before after (inr h) =
-      inr (record { lines = h.lines; of_source = h.of_source; is_end = h.is_end; gave = h.gave; replies = h.replies; legal = says _ _ _ _ h.legal; part = h.part; took = h.took })

@@ -1,6 +1,6 @@
-pub mod Transcribing
 pub mod SomeReplies
 pub mod Analysts
+pub mod LegalParties
 mod Texts
 mod Pieces
 mod Cubed
@@ -10,10 +10,6 @@ mod Revising
 mod Leading
 mod Numbers
 mod Publishing
-mod Cutting
-mod Ends
-mod SoFar
-mod LegalParties
 mod OwnCells
 mod RunSteps
 mod TakeRuns

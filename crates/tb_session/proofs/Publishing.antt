@@ -10,7 +10,7 @@ use Rattle.tb_release.specs.Batches.{BatchValue, batch_of}
 use Rattle.tb_release.specs.Chains.{release_after}
 use Rattle.tb_session.specs.Asks.{asks_of}
 use Rattle.tb_session.specs.Laws.{PublishedStays}
-use Rattle.tb_session.specs.Outputs.{ReplyValue}
+use Rattle.tb_lines.specs.Outputs.{ReplyValue}
 use Rattle.tb_session.specs.Replies.{IsPublishReply, IsReplyTo, StateValue}
 use Rattle.tb_session.specs.ReplyLines.{published_line}
 use Rattle.tb_session.specs.Transcripts.{IsLegal}

@@ -8,7 +8,7 @@ use Rattle.tb_session.specs.Asks.{asks_of}
 use Rattle.tb_session.specs.declared.asks.Asks.{Asks}
 use Rattle.tb_session.specs.declared.asks.Asks.TheVariants as asks
 use Rattle.tb_session.specs.declared.party.Role.{Role}
-use Rattle.tb_session.specs.Outputs.{ReplyValue}
+use Rattle.tb_lines.specs.Outputs.{ReplyValue}
 use Rattle.tb_session.specs.Replies.{IsReply, IsReplyTo, StateValue, free_reply}
 use Rattle.tb_session.specs.ReplyLines.{cleared_line, memory_line, stats_line}
 

@@ -11,7 +11,7 @@ use Rattle.tb_session.specs.declared.asks.Asks.{Asks}
 use Rattle.tb_session.specs.declared.asks.Asks.TheVariants as asks
 use Rattle.tb_session.specs.declared.party.Role.{Role}
 use Rattle.tb_session.specs.declared.party.Role.TheVariants as role
-use Rattle.tb_session.specs.Lines.{is_passed_over}
+use Rattle.tb_lines.specs.Lines.{is_passed_over}
 
 -- whether a word begins with the digit zero
 abbrev pub begins_with_zero : List ℕ → Bool

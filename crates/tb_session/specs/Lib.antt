@@ -1,6 +1,4 @@
-pub mod Lines
 pub mod Asks
-pub mod Outputs
 pub mod ReplyLines
 pub mod Replies
 pub mod Transcripts
@@ -9,6 +7,4 @@ pub mod RunWorlds
 pub mod ReplyTexts
 pub mod Counting
 pub mod Parties
-pub mod Streams
-pub mod Sessions
 pub mod PartySessions

@@ -1,7 +1,7 @@
 -- A party's session: legal replies, from what the party had seen to what it has then seen.
 use Rattle.std.specs.Prelude.{ℕ, List, []}
 use Rattle.tb_model.specs.Setups.{SetupValue}
-use Rattle.tb_session.specs.Outputs.{ReplyValue}
+use Rattle.tb_lines.specs.Outputs.{ReplyValue}
 use Rattle.tb_session.specs.Parties.{GoesOn, role_of, seen_by, state_of}
 use Rattle.tb_session.specs.Transcripts.{IsLegal, IsStep}
 use Rattle.tb_session.specs.declared.party.Party.{Party}

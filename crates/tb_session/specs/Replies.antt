@@ -23,7 +23,7 @@ use Rattle.tb_release.specs.declared.edits.Edit.{Edit}
 use Rattle.tb_release.specs.declared.fault.EditFaultKind.{EditFaultKind}
 use Rattle.tb_release.specs.declared.limits.TheConstants.{MOST_EDITS}
 use Rattle.tb_session.specs.Asks.{asks_of}
-use Rattle.tb_session.specs.Outputs.{ReplyValue}
+use Rattle.tb_lines.specs.Outputs.{ReplyValue}
 use Rattle.tb_session.specs.ReplyLines.{memory_line, refusal_line, held_line, edit_refusal_line}
 use Rattle.tb_revise.specs.FaultNames.{too_many}
 use Rattle.tb_session.specs.ReplyLines.{published_line, batch_refusal_line}

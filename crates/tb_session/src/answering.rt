@@ -14,7 +14,6 @@ ghost use Rattle.tb_session.specs.ReplyTexts.{reply_text};
 ghost use Rattle.tb_session.specs.declared.party.Role.TheVariants as roles;
 
 use crate::asks::{Asks, asks_of};
-use crate::line::is_passed_over;
 use crate::party::{Party, Role};
 use crate::query::answer_query;
 use crate::reply::Reply;
@@ -28,6 +27,7 @@ use tb_board::{Board, Custodian, Named, Step};
 use tb_build::Gate;
 use tb_front::Pass;
 use tb_io::{Sink, Wrote};
+use tb_lines::is_passed_over;
 use tb_release::Edits;
 use tb_text::Setup;
 

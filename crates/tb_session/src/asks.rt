@@ -5,10 +5,10 @@ ghost use Rattle.tb_base.specs.Words.{words_of};
 ghost use Rattle.tb_cache.specs.declared.TheConstants.{MOST_ENTRIES};
 ghost use Rattle.tb_session.specs.Asks as asks;
 
-use crate::line::is_passed_over;
 use crate::party::Role;
 use tb_base::{first_word, read_number};
 use tb_cache::MOST_ENTRIES;
+use tb_lines::is_passed_over;
 use tb_revise::begins_edit;
 
 /// What a party's line asks for: a table, an edit, to publish those that are held, the desk's

@@ -4,47 +4,39 @@
 //!
 //! It stands on `tb_board` (the desk behind its lock), `tb_build` (a cube that isn't kept),
 //! `tb_core` (one that is), `tb_query`, `tb_plan`, `tb_rollup` and `tb_scan` (a table's cells),
-//! `tb_revise` (the custodian's edits), `tb_text` (the table) and `tb_io` (where lines come from,
-//! and where replies go). Its contracts cite `specs/Asks` (what a line asks for), `Replies` (what
-//! the reply to it is), `Transcripts` (which replies are legal) and `Parties` (who asks, and what
-//! an answer says); `laws` cites `Laws`, and `RunWorlds` (what a reply of a run of `tb_core`'s
-//! events shows at a place of a table). Those of a session cite `Streams` (what a stream's bytes
-//! say), `Sessions` (what a session did) and `PartySessions` (whose session).
+//! `tb_revise` (the custodian's edits), `tb_text` (the table), `tb_io` (where lines come from, and
+//! where replies go) and `tb_lines` (lines that are answered one after another: what a session
+//! did). Its contracts cite `specs/Asks` (what a line asks for), `Replies` (what the reply to it
+//! is), `Transcripts` (which replies are legal), `Parties` (who asks, and what an answer says) and
+//! `PartySessions` (whose session); `laws` cites `Laws`, and `RunWorlds` (what a reply of a run of
+//! `tb_core`'s events shows at a place of a table).
 //!
 //! Of the proofs, `Leading` leads from what a line asks for to where the party stands then,
 //! `Revising` does so for `publish` and `QueryAnswers` for a query; `Cubed`, `Counts` and `Pieces`
-//! say what a caller of counting owes, `Texts` how lines are put together; `Transcribing`,
-//! `Numbers` and `Publishing` prove the laws of transcripts. Those of runs are proved by
-//! `RunSteps` (what an event may do), `TakeRuns` (a reply's cells), `ReplyTakes` (the take that it
-//! answers), `OwnCells` (a table from a cube over its plan's variables) and `RunLaws`. For
-//! scripts, `SomeReplies` and `Analysts` have what a run of lines needs. The loop of a session
-//! stands over anything that answers lines: `Cutting` has lines that are cut off a stream and what
-//! its source gave, `Ends` those that end a session, `SoFar` the lines so far and each way to end
-//! after them, and `LegalParties` leads from such a loop to a party's legal replies.
+//! say what a caller of counting owes, `Texts` how lines are put together; `Numbers` and
+//! `Publishing` prove the laws of transcripts. Those of runs are proved by `RunSteps` (what an
+//! event may do), `TakeRuns` (a reply's cells), `ReplyTakes` (the take that it answers), `OwnCells`
+//! (a table from a cube over its plan's variables) and `RunLaws`. For scripts, `SomeReplies` and
+//! `Analysts` have what a run of lines needs, and `LegalParties` leads from lines that were
+//! answered one after another to a party's legal replies.
 #![tactic(auto)]
 
-mod answerer;
 mod answering;
 mod asks;
 mod confirming;
 mod count;
 pub mod laws;
 mod limits;
-mod line;
-mod line_by_line;
 mod party;
 mod query;
-mod quit;
 mod reply;
 mod revise;
-mod session_end;
 mod sessions;
 
 pub use answering::answer;
 pub use asks::Asks;
 pub use confirming::{analyst_of, confirm};
 pub use limits::FIRST_CAPACITY;
-pub use line::is_passed_over;
 pub use party::{Party, Role};
-pub use session_end::{MOST_LINES, SessionEnd};
 pub use sessions::session;
+pub use tb_lines::SessionEnd;

@@ -5,14 +5,11 @@ ghost use Rattle.tb_io.specs.Faults.{HasRisen};
 ghost use Rattle.tb_model.specs.Schemas.{shape_of};
 ghost use Rattle.tb_session.specs.Parties.{IsPartyOf};
 ghost use Rattle.tb_session.specs.PartySessions.{AreLegal, with_none_held};
-ghost use Rattle.tb_session.specs.Sessions.{IsSession};
-ghost use Rattle.tb_session.specs.declared.session_end.SessionEnd.TheVariants as session_end;
+ghost use Rattle.tb_lines.specs.Sessions.{IsSession};
+ghost use Rattle.tb_lines.specs.declared.session_end.SessionEnd.TheVariants as session_end;
 
-use crate::answerer::Answerer;
 use crate::answering::answer;
-use crate::line_by_line::answer_lines;
 use crate::party::Party;
-use crate::session_end::SessionEnd;
 use std::alloc::Global;
 use std::sync::Wait;
 use std::sync::ledger::Ledger;
@@ -21,6 +18,7 @@ use tb_base::Steps;
 use tb_board::{Board, Named};
 use tb_build::Gate;
 use tb_io::{LineReader, Sink, Source, Wrote};
+use tb_lines::{Answerer, SessionEnd, answer_lines};
 use tb_text::Setup;
 
 // What a party's lines are answered over.
@@ -32,7 +30,7 @@ struct Setting<'a, B: Named, R: Threads + Wait + Sync> {
     alloc: Global,
 }
 
-impl<'a, B: Named, R: Threads + Wait + Sync, G: Gate> Answerer<Setting<'a, B, R>, G> for Party {
+impl<'a, B: Named, R: Threads + Wait + Sync, G: Gate> Answerer<Setting<'a, B, R>, G, ()> for Party {
     ghost use Rattle.std.specs.Thread.{IsSync};
     ghost use Rattle.tb_model.specs.Schemas.{shape_of};
     ghost use Rattle.tb_session.specs.Parties.{IsPartyOf};
@@ -47,18 +45,18 @@ impl<'a, B: Named, R: Threads + Wait + Sync, G: Gate> Answerer<Setting<'a, B, R>
 
     ghost IsReady = { λ c p. IsSync R.row × IsPartyOf B.name (shape_of c.setup.now.schema) p };
 
-    ghost Step = { λ c old line reply new. IsPartyStep c.setup.now old line reply new };
+    ghost MayAsk = { λ c who. Unit {0} };
+
+    ghost Step = { λ c who old line reply new. IsPartyStep c.setup.now old line reply new };
 
     fn begin(&mut self, _setting: &Setting<'a, B, R>) {
-        match self {
-            Party::Analyst(_) => {}
-            Party::Custodian(_, held) => held.clear(),
-        }
+        self.drop_held();
     }
 
     fn answer<K: Sink, L: Ledger>(
         &mut self,
         setting: &Setting<'a, B, R>,
+        _who: (),
         line: &[u8],
         sink: &mut K,
         gate: &mut G,

@@ -7,7 +7,7 @@ use Rattle.tb_model.specs.Releases.{ReleaseValue}
 use Rattle.tb_model.specs.Setups.{SetupValue}
 use Rattle.tb_script.specs.Runs.{IsLaneReply}
 use Rattle.tb_script.specs.Scripts.{ScriptValue}
-use Rattle.tb_session.specs.Outputs.{AreReplies, ReplyValue}
+use Rattle.tb_lines.specs.Outputs.{AreReplies, ReplyValue}
 use Rattle.tb_session.specs.Parties.{state_at}
 use Rattle.tb_top.specs.Asking.{Script}
 use Rattle.tb_top.specs.Endings.{IsEnded}

@@ -27,7 +27,7 @@ use Rattle.tb_top.proofs.Serving.{keeps_by_service}
 use Rattle.tb_top.proofs.Telling.{always_told, where_told}
 use Rattle.tb_script.specs.Scripts.{ScriptValue}
 use Rattle.tb_serve.specs.Stages.{IsFresh}
-use Rattle.tb_session.specs.Outputs.{ReplyValue, price_of, text_of}
+use Rattle.tb_lines.specs.Outputs.{ReplyValue, price_of, text_of}
 use Rattle.tb_io.proofs.TakenLemmas.{TookPart-all}
 
 -- what the sink took of the last line of an end, and the status

@@ -7,7 +7,7 @@ use Rattle.tb_io.specs.Taken.{Took, TookPart}
 use Rattle.tb_script.specs.Runs.{IsLaneReply}
 use Rattle.tb_script.specs.Scripts.{ScriptValue}
 use Rattle.tb_serve.specs.Ports.{PortValue}
-use Rattle.tb_session.specs.Outputs.{AreReplies, ReplyValue, price_of, text_of}
+use Rattle.tb_lines.specs.Outputs.{AreReplies, ReplyValue, price_of, text_of}
 use Rattle.tb_top.specs.declared.endings.End.TheVariants as end
 use Rattle.tb_top.specs.Asking.{AskedValue, CensusValue, Gen, Lanes, Script, Serve, base_of}
 use Rattle.tb_top.specs.Endings.{IsEnded, IsLineWritten, last_line}

@@ -2,7 +2,7 @@
 use Rattle.std.specs.Prelude.{◌≡◌, ◌⊎◌, ◌+◌, ◌≤◌, ℕ, List, ◌++◌, All, false, true, Option, None, Some, Result, Ok, Err, IfSome}
 use Rattle.tb_base.specs.declared.status.Status.{Status}
 use Rattle.tb_base.specs.declared.status.Status.TheVariants as status
-use Rattle.tb_session.specs.Outputs.{ReplyValue, price_of}
+use Rattle.tb_lines.specs.Outputs.{ReplyValue, price_of}
 use Rattle.tb_top.specs.declared.endings.Input.{Input}
 use Rattle.tb_top.specs.declared.endings.End.{End}
 use Rattle.tb_top.specs.declared.endings.End.TheVariants as end

@@ -4,96 +4,16 @@ use Rattle.tb_io.specs.Faults.{HasRisen}
 use Rattle.tb_model.specs.Setups.{SetupValue}
 use Rattle.tb_io.specs.Listeners.{Connection}
 use Rattle.tb_worker.specs.Visits.{HasCause, IsVisit}
-use Rattle.tb_session.specs.Outputs.{ReplyValue}
+use Rattle.tb_lines.specs.Outputs.{ReplyValue}
 use Rattle.tb_session.specs.Parties.{GoesOn, held_by, role_of, seen_by, state_of}
 use Rattle.tb_session.specs.PartySessions.{AreLegal, with_none_held}
-use Rattle.tb_session.specs.Sessions.{IsSession}
+use Rattle.tb_lines.specs.Sessions.{IsSession}
+use Rattle.tb_lines.proofs.OtherWords.{session_as}
 use Rattle.tb_session.specs.Transcripts.{IsLegal}
 use Rattle.tb_session.specs.declared.party.Party.{Party}
 use Rattle.tb_session.specs.declared.party.Party.TheVariants as party
-use Rattle.tb_session.specs.declared.session_end.SessionEnd.{SessionEnd}
-use Rattle.tb_session.specs.declared.session_end.SessionEnd.TheVariants.{Ended, LineTooLong, TooManyLines, ReadFault, WriteFault}
-
--- what a session did from one state to another, in other words for its replies and for these states
-module _ {S T : Type 0} (One : S → List (List ℕ) → List ReplyValue → S → Type 0) (Other : T → List (List ℕ) → List ReplyValue → T → Type 0)
-    (first last : S) (first' last' : T) (says : (lines : List (List ℕ)) (replies : List ReplyValue) → One first lines replies last
-    → Other first' lines replies last')
-  where
-    pub session_as : (end : SessionEnd) (left now before after : Option (List ℕ)) → IsSession One end left now first last before after
-        → IsSession Other end left now first' last' before after
-    session_as Ended left now before after h =
-        record {
-          lines = h.lines;
-          of_source = h.of_source;
-          is_end = h.is_end;
-          at_end = h.at_end;
-          gave = h.gave;
-          replies = h.replies;
-          legal = says _ _
-              h.legal;
-          took = h.took;
-        }
-    session_as LineTooLong left now before after h =
-        record {
-          lines = h.lines;
-          of_source = h.of_source;
-          is_end = h.is_end;
-          at_end = h.at_end;
-          gave = h.gave;
-          replies = h.replies;
-          legal = says _ _
-              h.legal;
-          took = h.took;
-        }
-    session_as TooManyLines left now before after h =
-        record {
-          lines = h.lines;
-          of_source = h.of_source;
-          is_end = h.is_end;
-          at_end = h.at_end;
-          gave = h.gave;
-          replies = h.replies;
-          legal = says _ _
-              h.legal;
-          took = h.took;
-        }
-    session_as ReadFault left now before after h =
-        record {
-          lines = h.lines;
-          given = h.given;
-          none_ends = h.none_ends;
-          few = h.few;
-          gave = h.gave;
-          replies = h.replies;
-          legal = says _ _ h.legal;
-          took = h.took;
-        }
-    session_as WriteFault left now before after (inl h) =
-        inl (record {
-          lines = h.lines;
-          of_source = h.of_source;
-          count = h.count;
-          among = h.among;
-          gave = h.gave;
-          replies = h.replies;
-          cut = h.cut;
-          legal
-              = says _ _ h.legal;
-          part = h.part;
-          took = h.took;
-        })
-    session_as WriteFault left now before after (inr h) =
-        inr (record {
-          lines = h.lines;
-          of_source = h.of_source;
-          is_end = h.is_end;
-          gave = h.gave;
-          replies = h.replies;
-          legal = says _ _ h.legal;
-          part =
-              h.part;
-          took = h.took;
-        })
+use Rattle.tb_lines.specs.declared.session_end.SessionEnd.{SessionEnd}
+use Rattle.tb_lines.specs.declared.session_end.SessionEnd.TheVariants.{Ended, LineTooLong, TooManyLines, ReadFault, WriteFault}
 
 -- a party's replies, from what it has seen on
 legal_at : (setup : SetupValue) (p q : Party) (lines : List (List ℕ)) (replies : List ReplyValue)

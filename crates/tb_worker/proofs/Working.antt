@@ -17,6 +17,7 @@ use Rattle.tb_worker.specs.declared.next.Next.TheVariants as next
 use Rattle.tb_session.specs.Parties.{GoesOn, IsPartyOf, role_of, seen_by}
 use Rattle.tb_session.specs.declared.party.Party.{Party}
 use Rattle.tb_session.specs.declared.party.Role.{Role}
+use Rattle.tb_session.proofs.LegalParties.{goes_further, goes_nowhere}
 
 -- ---- what a listener gives and gets back
 -- what comes in front of what comes
@@ -97,12 +98,6 @@ visits_more : (who : Role) (setup : SetupValue) (base : ReleaseValue) (from mid 
     → AreVisits who setup base from vs mid → AreVisits who setup base mid ws to → AreVisits who setup base from (vs ++ ws) to
 visits_more who setup base from mid to [] ws p q = subst (λ (l : List BatchValue). AreVisits who setup base l ws to) p q
 visits_more who setup base from mid to (v ∷ vs) ws p q = (p.0, p.1, visits_more who setup base p.0 mid to vs ws p.2 q)
-
-goes_nowhere : (p : Party) → GoesOn p p
-goes_nowhere p = record { who = refl; front = refl; start = refl }
-
-goes_further : (p q r : Party) → GoesOn p q → GoesOn q r → GoesOn p r
-goes_further p q r one more = record { who = more.who ∙ one.who; front = more.front ∙ one.front; start = more.start ∙ one.start }
 
 module _ (name : Name) (setup : SetupValue) where
   -- a session that was accepted, served and given back

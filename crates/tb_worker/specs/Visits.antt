@@ -6,11 +6,11 @@ use Rattle.tb_model.specs.Setups.{SetupValue}
 use Rattle.tb_io.specs.Listeners.{Connection}
 use Rattle.tb_release.specs.Batches.{BatchValue}
 use Rattle.tb_release.specs.declared.edits.Edit.{Edit}
-use Rattle.tb_session.specs.Sessions.{IsSession}
+use Rattle.tb_lines.specs.Sessions.{IsSession}
 use Rattle.tb_session.specs.Transcripts.{IsLegal}
 use Rattle.tb_session.specs.declared.party.Role.{Role}
-use Rattle.tb_session.specs.declared.session_end.SessionEnd.{SessionEnd}
-use Rattle.tb_session.specs.declared.session_end.SessionEnd.TheVariants as session_end
+use Rattle.tb_lines.specs.declared.session_end.SessionEnd.{SessionEnd}
+use Rattle.tb_lines.specs.declared.session_end.SessionEnd.TheVariants as session_end
 
 -- a session that was served: how it came, how it went back, and how it ended
 pub record Visit : Type 0 where

@@ -1,5 +1,5 @@
 use Rattle.tb_session.specs.Transcripts.{IsStep}
-use Rattle.tb_session.proofs.Transcribing.{Lead-append}
+use Rattle.tb_lines.proofs.Transcribing.{Lead-append}
 use Rattle.tb_session.proofs.laws.meeting_transcripts_join.Goals as goal
 
 pub returns : goal.returns

@@ -1,5 +1,5 @@
 use Rattle.tb_session.specs.Transcripts.{IsStep}
-use Rattle.tb_session.proofs.Transcribing.{Lead-more}
+use Rattle.tb_lines.proofs.Transcribing.{Lead-more}
 use Rattle.tb_session.proofs.laws.one_more_line.Goals as goal
 
 pub returns : goal.returns

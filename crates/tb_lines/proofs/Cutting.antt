@@ -7,9 +7,9 @@ use Rattle.tb_io.specs.declared.limits.TheConstants.{MOST_LINE_BYTES}
 use Rattle.tb_io.proofs.LineLemmas.{feed-first, feed-rest, has-feed-more, line_of-more, rest_of-more, rest_of-short}
 use Rattle.tb_io.proofs.NextLemmas.{Gave-more, Gave-none}
 use Rattle.tb_io.specs.Lines.{has_line_feed, is_line_feed, line_of, rest_of}
-use Rattle.tb_session.specs.Streams.{after_lines, is_too_long, lines_of, whole_lines_of, with_first_byte, with_first_byte_if_any}
+use Rattle.tb_lines.specs.Streams.{after_lines, is_too_long, lines_of, whole_lines_of, with_first_byte, with_first_byte_if_any}
 use Rattle.tb_io.specs.NextLines.{IsNextOf, Takes}
-use Rattle.tb_session.specs.Sessions.{AreLinesGiven, AreLinesOf, GaveAtMost}
+use Rattle.tb_lines.specs.Sessions.{AreLinesGiven, AreLinesOf, GaveAtMost}
 use Rattle.tb_io.specs.Sources.{Gave, IsAtEnd, stream_of}
 use Rattle.tb_io.specs.declared.line_reader.NextLine.{NextLine}
 use Rattle.tb_io.specs.declared.line_reader.NextLine.TheVariants.{Line, End, TooLong, ReadFault}

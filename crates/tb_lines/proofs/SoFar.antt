@@ -11,15 +11,15 @@ use Rattle.tb_io.specs.declared.line_reader.NextLine.{NextLine}
 use Rattle.tb_io.specs.declared.line_reader.NextLine.TheVariants as next_line
 use Rattle.tb_io.proofs.TakenLemmas.{Took-append, Took-nothing}
 use Rattle.tb_io.proofs.Taking.{Took-same}
-use Rattle.tb_session.specs.Outputs.{Lead, ReplyValue, text_of}
-use Rattle.tb_session.specs.Sessions.{AreLinesOf, GaveAtMost, IsBroken, IsCut, IsCutAtEnd, IsRefused, IsSession, IsWhole, last_words, texts_of, too_long_text}
-use Rattle.tb_session.specs.Streams.{answered_of, before_end, end_by_lines, end_of, is_quit, is_too_long}
-use Rattle.tb_session.specs.declared.session_end.SessionEnd.{SessionEnd}
-use Rattle.tb_session.specs.declared.session_end.SessionEnd.TheVariants.{Ended, LineTooLong, TooManyLines, ReadFault, WriteFault}
-use Rattle.tb_session.specs.declared.session_end.TheConstants.{MOST_LINES}
-use Rattle.tb_session.proofs.Cutting.{CutsOf, CutsOf-more, CutsOf-none, IsGiven, given-broken, given-ends, given-few, given-more, given-none, left-nothing, lines-any, lines-end, lines-long, lines-longer, lines-next, lines-whole, next-none}
-use Rattle.tb_session.proofs.Ends.{answered_full, answered_here, answered_many, answered_part, before_end-append, end_full, end_here, long_ends, long_stops, none_more, one_goes_on, quit_ends, quit_stops}
-use Rattle.tb_session.proofs.Transcribing.{Lead-more, text_of-more}
+use Rattle.tb_lines.specs.Outputs.{Lead, ReplyValue, text_of}
+use Rattle.tb_lines.specs.Sessions.{AreLinesOf, GaveAtMost, IsBroken, IsCut, IsCutAtEnd, IsRefused, IsSession, IsWhole, last_words, texts_of, too_long_text}
+use Rattle.tb_lines.specs.Streams.{answered_of, before_end, end_by_lines, end_of, is_quit, is_too_long}
+use Rattle.tb_lines.specs.declared.session_end.SessionEnd.{SessionEnd}
+use Rattle.tb_lines.specs.declared.session_end.SessionEnd.TheVariants.{Ended, LineTooLong, TooManyLines, ReadFault, WriteFault}
+use Rattle.tb_lines.specs.declared.session_end.TheConstants.{MOST_LINES}
+use Rattle.tb_lines.proofs.Cutting.{CutsOf, CutsOf-more, CutsOf-none, IsGiven, given-broken, given-ends, given-few, given-more, given-none, left-nothing, lines-any, lines-end, lines-long, lines-longer, lines-next, lines-whole, next-none}
+use Rattle.tb_lines.proofs.Ends.{answered_full, answered_here, answered_many, answered_part, before_end-append, end_full, end_here, long_ends, long_stops, none_more, one_goes_on, quit_ends, quit_stops}
+use Rattle.tb_lines.proofs.Transcribing.{Lead-more, text_of-more}
 
 -- a reader that returned anything but the end had not ended
 pub had_not : (had : Bool) (next : NextLine) → (had ≡ true → next ≡ next_line.End) → next ≢ next_line.End → had ≡ false

@@ -5,12 +5,12 @@ use Rattle.tb_io.specs.Lines.{without_return}
 use Rattle.tb_io.specs.Sources.{Gave, IsAtEnd}
 use Rattle.tb_io.specs.Taken.{Took, TookPart}
 use Rattle.tb_io.specs.declared.limits.TheConstants.{MOST_LINE_BYTES}
-use Rattle.tb_session.specs.Outputs.{ReplyValue, text_of}
-use Rattle.tb_session.specs.Streams.{after_lines, answered_of, before_end, end_of, lines_of}
-use Rattle.tb_session.specs.Streams.{whole_lines_of}
-use Rattle.tb_session.specs.declared.session_end.SessionEnd.{SessionEnd}
-use Rattle.tb_session.specs.declared.session_end.SessionEnd.TheVariants as session_end
-use Rattle.tb_session.specs.declared.session_end.TheConstants.{MOST_LINES}
+use Rattle.tb_lines.specs.Outputs.{ReplyValue, text_of}
+use Rattle.tb_lines.specs.Streams.{after_lines, answered_of, before_end, end_of, lines_of}
+use Rattle.tb_lines.specs.Streams.{whole_lines_of}
+use Rattle.tb_lines.specs.declared.session_end.SessionEnd.{SessionEnd}
+use Rattle.tb_lines.specs.declared.session_end.SessionEnd.TheVariants as session_end
+use Rattle.tb_lines.specs.declared.session_end.TheConstants.{MOST_LINES}
 
 -- what is written for a line that is too long
 abbrev pub too_long_text : List ℕ

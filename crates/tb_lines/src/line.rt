@@ -1,7 +1,7 @@
 // A line by itself.
 
 ghost use Rattle.std.specs.Prelude.{◌≡◌};
-ghost use Rattle.tb_session.specs.Lines as lines;
+ghost use Rattle.tb_lines.specs.Lines as lines;
 
 use tb_base::are_blanks;
 

@@ -5,9 +5,9 @@ use Rattle.std.specs.Prelude.{length, take, nat_le, nat_lt, bytes_eq, codes}
 use Rattle.tb_base.specs.Words.{words_of}
 use Rattle.tb_io.specs.Lines.{is_line_feed, rest_of, without_return}
 use Rattle.tb_io.specs.declared.limits.TheConstants.{MOST_LINE_BYTES}
-use Rattle.tb_session.specs.declared.session_end.SessionEnd.{SessionEnd}
-use Rattle.tb_session.specs.declared.session_end.SessionEnd.TheVariants as session_end
-use Rattle.tb_session.specs.declared.session_end.TheConstants.{MOST_LINES}
+use Rattle.tb_lines.specs.declared.session_end.SessionEnd.{SessionEnd}
+use Rattle.tb_lines.specs.declared.session_end.SessionEnd.TheVariants as session_end
+use Rattle.tb_lines.specs.declared.session_end.TheConstants.{MOST_LINES}
 
 -- the lines, with this byte in front of the first; where there is none, it is one
 abbrev pub with_first_byte : ℕ → List (List ℕ) → List (List ℕ)

@@ -1,10 +1,10 @@
-// The lines of a session, answered one after another.
+// The lines of a source, answered one after another.
 
 ghost use Rattle.std.specs.Prelude.{◌≡◌, ◌≤◌};
 ghost use Rattle.tb_io.specs.Faults.{HasRisen};
-ghost use Rattle.tb_session.specs.Outputs.{Lead};
-ghost use Rattle.tb_session.specs.Sessions.{IsRefused, IsSession};
-ghost use Rattle.tb_session.specs.declared.session_end.SessionEnd.TheVariants as session_end;
+ghost use Rattle.tb_lines.specs.Outputs.{AtPrice, Lead, charged};
+ghost use Rattle.tb_lines.specs.Sessions.{IsRefused, IsSession};
+ghost use Rattle.tb_lines.specs.declared.session_end.SessionEnd.TheVariants as session_end;
 
 use crate::answerer::Answerer;
 use crate::quit::is_quit;
@@ -28,7 +28,7 @@ fn refuse<K: Sink>(sink: &mut K) -> SessionEnd
 
 /// Answers a source's lines, one after another, until one of the ends comes. It takes no memory but
 /// for the replies.
-pub(crate) fn answer_lines<C, G, A: Answerer<C, G>, S: Source, K: Sink, L: Ledger>(
+pub fn answer_lines<C, G, A: Answerer<C, G, ()>, S: Source, K: Sink, L: Ledger>(
     setting: &C,
     party: &mut A,
     lines: &mut LineReader,
@@ -37,7 +37,8 @@ pub(crate) fn answer_lines<C, G, A: Answerer<C, G>, S: Source, K: Sink, L: Ledge
     gate: &mut G,
     steps: &mut Steps<L>,
 ) -> SessionEnd
-    requires { A.IsReady setting.now party.old }
+    requires ready { A.IsReady setting.now party.old }
+    requires may { A.MayAsk setting.now tt }
     ensures ready { A.IsReady setting.now party.new }
     ensures reads { S.faults source.old ≤ S.faults source.new }
     ensures writes { K.faults sink.old ≤ K.faults sink.new }
@@ -45,9 +46,9 @@ pub(crate) fn answer_lines<C, G, A: Answerer<C, G>, S: Source, K: Sink, L: Ledge
         → HasRisen (S.faults source.old) (S.faults source.new) }
     ensures write_fault { result ≡ session_end.WriteFault
         → HasRisen (K.faults sink.old) (K.faults sink.new) }
-    ensures session { IsSession (Lead (A.Step setting.now)) result
+    ensures session { IsSession (Lead (AtPrice (A.Step setting.now tt))) result
         (S.left source.old) (S.left source.new)
-        (A.fresh (A.state party.old)) (A.state party.new)
+        (charged (A.fresh (A.state party.old)) steps.old) (charged (A.state party.new) steps.new)
         (K.taken sink.old) (K.taken sink.new) }
 {
     lines.reset();
@@ -63,7 +64,7 @@ pub(crate) fn answer_lines<C, G, A: Answerer<C, G>, S: Source, K: Sink, L: Ledge
         if is_quit(line) {
             return SessionEnd::Ended;
         }
-        match party.answer(setting, line, sink, gate, steps) {
+        match party.answer(setting, (), line, sink, gate, steps) {
             Wrote::All => {}
             Wrote::Failed => return SessionEnd::WriteFault,
         }
