@@ -46,10 +46,11 @@ def quotations(page):
 
 
 def is_there(root, name):
-    """Whether a file is there, from the top or from a crate's folder, where its ending may be left
-    out; what is built may be missing."""
-    inside = os.path.join(root, "crates", "*", name)
-    return "/out/" in name or any(glob.glob(it) for it in (os.path.join(root, name), inside, inside + ".*"))
+    """Whether a file is there, from the top, from the folder of the crates or from a crate's, where
+    its ending may be left out; what is built may be missing."""
+    inside = [os.path.join(root, "crates", name), os.path.join(root, "crates", "*", name)]
+    places = [os.path.join(root, name), *inside, *(it + ".*" for it in inside)]
+    return "/out/" in name or any(glob.glob(it) for it in places)
 
 
 def main():
