@@ -4,6 +4,7 @@ use Rattle.tb_base.specs.declared.status.Status.{Status}
 use Rattle.tb_io.specs.BoundedSink.{BoundedSink}
 use Rattle.tb_io.specs.HeldFiles.{FailingFiles, bytes_of}
 use Rattle.tb_serve.specs.Ports.{PortValue}
+use Rattle.tb_serve.specs.Serves.{output}
 use Rattle.tb_top.specs.declared.endings.Input.{Input}
 use Rattle.tb_top.specs.declared.endings.End.TheVariants as end
 use Rattle.tb_top.specs.declared.command.Command.{Command}
@@ -11,26 +12,22 @@ use Rattle.tb_top.specs.Calls.{Call, IsReadTo}
 use Rattle.tb_top.specs.Commands.{command_of, command_files}
 use Rattle.tb_top.specs.Endings.{last_line}
 use Rattle.tb_top.specs.Promises.{IsTextOf}
+use Rattle.tb_top.specs.Seen.{call_over}
 
 -- what such a call saw
 abbrev pub memory_call : List (List ℕ) → FailingFiles → FailingFiles → BoundedSink → BoundedSink
     → List PortValue → List PortValue → ℕ → ℕ → Call
-memory_call words files files' out out' ports ports' steps steps' = record {
-  words = words;
-  content = Some (bytes_of files.held);
-  read_faults = files.faults;
-  read_faults_after = files'.faults;
-  readings = Some files.calls;
-  readings_after = Some files'.calls;
-  write_faults = out.faults;
-  write_faults_after = out'.faults;
-  ports = ports;
-  ports_after = ports';
-  taken = Some out.taken;
-  taken_after = Some out'.taken;
-  steps = steps;
-  steps_after = steps';
-}
+memory_call words files files' out out' ports ports' steps steps' =
+    call_over words
+    (record {
+      content = Some (bytes_of files.held);
+      content_after = Some (bytes_of files'.held);
+      faults = files.faults;
+      faults_after = files'.faults;
+      readings = Some files.calls;
+      readings_after = Some files'.calls;
+    })
+    (output (Some out.taken) (Some out'.taken) out.faults out'.faults) ports ports' steps steps'
 
 -- the bytes that a run with this status added to those of the sink
 abbrev pub Adds : Call → FailingFiles → BoundedSink → BoundedSink → Status → Type 0

@@ -14,3 +14,4 @@ pub mod Calls
 pub mod Promises
 pub mod InMemory
 pub mod Loading
+pub mod Seen

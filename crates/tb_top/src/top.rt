@@ -3,16 +3,18 @@
 ghost use Rattle.std.specs.Prelude.{◌≡◌, ◌≤◌, ◌+◌, ℕ, List, All, map, string_bytes, vec_len};
 ghost use Rattle.tb_base.specs.declared.status.Status.TheVariants as status;
 ghost use Rattle.tb_model.specs.Schemas.{shape_of};
+ghost use Rattle.tb_serve.specs.Serves.{output};
 ghost use Rattle.tb_serve.specs.Stages.{IsFresh};
 ghost use Rattle.tb_top.specs.declared.service.TheConstants.{MOST_WORKERS};
 ghost use Rattle.tb_top.specs.Asking.{Script as AskedScript};
 ghost use Rattle.tb_top.specs.declared.endings.End.TheVariants as end;
 ghost use Rattle.tb_top.specs.Loading.{AskedIsFirst, IsBase, IsFirst, asked_value};
-ghost use Rattle.tb_top.specs.Loading.{census_over, census_value};
+ghost use Rattle.tb_top.specs.Loading.{census_over, census_value, reading};
 ghost use Rattle.tb_top.specs.Endings.{IsEnded};
 ghost use Rattle.tb_top.specs.Outputs.{IsAnswered, IsGenAnswered, IsScriptAnswered, IsSummedUp};
 ghost use Rattle.tb_top.specs.Services.{IsServiceAnswered};
 ghost use Rattle.tb_top.specs.Promises.{Keeps};
+ghost use Rattle.tb_top.specs.Seen.{call_over};
 ghost use Rattle.tb_top.specs.Summing.{AreSums};
 
 use crate::asking::ask;
@@ -233,22 +235,10 @@ pub fn tablebuilder<F: Files, O: Sink, N: Listen + Send, L: Ledger>(
     requires fresh { All IsFresh net.old.items }
     // What the call keeps, promise by promise, over what it saw.
     ensures { Keeps
-        (record {
-          words = map string_bytes words.now;
-          content = F.content files.old;
-          read_faults = F.faults files.old;
-          read_faults_after = F.faults files.new;
-          readings = F.readings files.old;
-          readings_after = F.readings files.new;
-          write_faults = O.faults out.old;
-          write_faults_after = O.faults out.new;
-          ports = net.old.items;
-          ports_after = net.new.items;
-          taken = O.taken out.old;
-          taken_after = O.taken out.new;
-          steps = steps.old;
-          steps_after = steps.new;
-        })
+        (call_over (map string_bytes words.now)
+        (reading F.content F.faults F.readings files.old files.new)
+        (output (O.taken out.old) (O.taken out.new) (O.faults out.old) (O.faults out.new))
+        net.old.items net.new.items steps.old steps.new)
         result }
 {
     match ask(alloc, words, files) {
