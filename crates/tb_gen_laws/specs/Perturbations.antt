@@ -21,5 +21,6 @@ lines_of_row pcv x = list_below (key_range K256) (λ ckey. pair_line pcv ckey (a
 abbrev pub generated_table : ℕ → TableValue
 generated_table start = record {
   keys = K256;
-  lines = lists_below LAST_ROW (λ i. lines_of_row (i + 1) (after (key_range K256 * i) (seed start 1)));
+  lines = lists_below LAST_ROW
+      (λ i. lines_of_row (i + 1) (after (key_range K256 * i) (seed start 1)));
 }

@@ -67,8 +67,8 @@ abbrev pub telling_none : ℕ → Option ℕ → Bool → ListenerValue
 telling_none faults port is_out =
     record { faults = faults; port = port; is_out = is_out; to_come = None; came_back = None }
 
--- where a listener tells its sessions, its count of faults stayed: a call that didn't fail raises it
--- of others alone, which may try again
+-- where a listener tells its sessions, its count of faults stayed: a call that didn't fail raises
+-- it of others alone, which may try again
 abbrev pub IsCalm : ListenerValue → ListenerValue → Type 0
 IsCalm before after = IsSome after.to_come → after.faults ≡ before.faults
 

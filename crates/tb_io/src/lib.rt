@@ -42,6 +42,7 @@ mod sure_source;
 mod unread;
 
 pub use answers::{Accepted, Bound, FileRead, Wrote, count_fault};
+pub use failures::is_listed;
 pub use files::Files;
 pub use limits::MOST_LINE_BYTES;
 pub use line_reader::{LineReader, NextLine};

@@ -24,8 +24,8 @@ pub record ReleaseValue : Type 0 where
   pub edits : ℕ
   pub rules : RulesValue
 
--- release 0 with a threshold: the microdata's records, in pages that each came into after the other,
--- each person's key in the key book, no edit so far, and no pvalue that was set
+-- release 0 with a threshold: the microdata's records, in pages that each came into after the
+-- other, each person's key in the key book, no edit so far, and no pvalue that was set
 abbrev pub first_release : ℕ → List Record → ReleaseValue
 first_release threshold people =
     record {

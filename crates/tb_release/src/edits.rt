@@ -113,7 +113,8 @@ impl Edits {
 
     /// How many edits are held.
     pub fn len(&self) -> usize
-        ensures { result ≡ length self.now }
+        ensures len { result ≡ length self.now }
+        ensures few { result ≤ MOST_EDITS }
     {
         self.list.len()
     }

@@ -6,7 +6,8 @@
 //! a line is by itself), `Scripts` (what a file says, or its first bad line), `Parts` (how a script
 //! is kept), `WholeFiles` (what `laws` says of a whole file) and `Runs` (the replies to a script's
 //! lines). Of the proofs, `Ascii`, `Words` and `Names` serve one line, `Growing` and `Reading` the
-//! reading of a file, `Phases` the lines up to a phase, `WholeFiles` the laws and `Running` the run.
+//! reading of a file, `Phases` the lines up to a phase, `WholeFiles` the laws and `Running` the
+//! run.
 #![tactic(auto)]
 
 mod asker;
