@@ -38,5 +38,5 @@ pub use asks::Asks;
 pub use confirming::{analyst_of, confirm};
 pub use limits::FIRST_CAPACITY;
 pub use party::{Party, Role};
-pub use sessions::session;
+pub use sessions::{Setting, session};
 pub use tb_lines::SessionEnd;

@@ -21,13 +21,14 @@ use tb_io::{LineReader, Sink, Source, Wrote};
 use tb_lines::{Answerer, SessionEnd, answer_lines};
 use tb_text::Setup;
 
-// What a party's lines are answered over.
+/// What a party's lines are answered over: a setup and a board, by what waits and makes threads, in
+/// this memory.
 #[derive(Drop)]
-struct Setting<'a, B: Named, R: Threads + Wait + Sync> {
-    setup: &'a Setup,
-    board: &'a Board<B>,
-    rt: &'a R,
-    alloc: Global,
+pub struct Setting<'a, B: Named, R: Threads + Wait + Sync> {
+    pub setup: &'a Setup,
+    pub board: &'a Board<B>,
+    pub rt: &'a R,
+    pub alloc: Global,
 }
 
 impl<'a, B: Named, R: Threads + Wait + Sync, G: Gate> Answerer<Setting<'a, B, R>, G, ()> for Party {
