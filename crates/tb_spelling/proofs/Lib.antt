@@ -1,0 +1,5 @@
+pub mod Formats
+pub mod Edits
+pub mod Lengths
+pub mod OneMore
+pub mod Rereading

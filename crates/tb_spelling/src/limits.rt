@@ -1,0 +1,5 @@
+/// The most bytes that a payload may have.
+pub const MOST_PAYLOAD_BYTES: u32 = 4_000_000;
+
+/// The most codes, or settings, of an edit that is spelled: as many as a schema may have variables.
+pub const MOST_PARTS: usize = 64;
