@@ -20,4 +20,4 @@ mod write;
 pub use fault::PayloadFault;
 pub use limits::{MOST_PARTS, MOST_PAYLOAD_BYTES};
 pub use read::read_payload;
-pub use write::spell;
+pub use write::{payload_len, spell, spell_behind};

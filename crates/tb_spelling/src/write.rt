@@ -101,8 +101,8 @@ fn edit_len(edit: &Edit) -> usize
     }
 }
 
-// How many bytes the payload of edits has.
-fn payload_len(edits: &Edits) -> usize
+/// How many bytes the payload of edits has, of which each can be written.
+pub fn payload_len(edits: &Edits) -> usize
     requires { CanBeSpelled edits.now }
     ensures len { result ≡ length (spelled edits.now) }
     ensures short { result ≤ MOST_PAYLOAD_BYTES }
@@ -114,6 +114,20 @@ fn payload_len(edits: &Edits) -> usize
     total
 }
 
+/// Puts the payload of edits, of which each can be written, behind what was written. It takes memory
+/// only where there is no room for it.
+pub fn spell_behind(out: &mut Vec<u8>, edits: &Edits) -> Result<(), Memory>
+    requires { CanBeSpelled edits.now }
+    ensures spelled { OnOk result (out.new.items ≡ out.old.items ++ spelled edits.now) }
+    ensures payload { OnOk result (IsPayload (spelled edits.now) edits.now) }
+{
+    out.extend_from_slice(&(edits.len() as u32).to_be_bytes())?;
+    for i in 0..edits.len() {
+        put_edit(out, edits.at(i))?;
+    }
+    Ok(())
+}
+
 /// The payload of edits of which each can be written, at most `MOST_PAYLOAD_BYTES` bytes. It takes
 /// memory for them, once.
 pub fn spell(alloc: Global, edits: &Edits) -> Result<Vec<u8>, Memory>
@@ -123,9 +137,6 @@ pub fn spell(alloc: Global, edits: &Edits) -> Result<Vec<u8>, Memory>
     ensures short { IfOk result (λ bytes. length bytes.items ≤ MOST_PAYLOAD_BYTES) }
 {
     let mut out = Vec::with_capacity(alloc, payload_len(edits))?;
-    out.extend_from_slice(&(edits.len() as u32).to_be_bytes())?;
-    for i in 0..edits.len() {
-        put_edit(&mut out, edits.at(i))?;
-    }
+    spell_behind(&mut out, edits)?;
     Ok(out)
 }

@@ -1,12 +1,11 @@
-use Rattle.std.proofs.Common.{◌≡◌, ◌++◌, length, take}
-use Rattle.std.specs.Int.{w32, to_be_bytes}
+use Rattle.std.proofs.Common.{◌≡◌, ◌++◌, take}
 use Rattle.std.specs.List.{flat_map, AllByRecursion}
 use Rattle.tb_spelling.specs.Payloads.{IsInFormat}
 use Rattle.tb_spelling.specs.Spelling.{edit_spelled}
-use Rattle.tb_spelling.proofs.write.spell.Given as goal
+use Rattle.tb_spelling.proofs.write.spell_behind.Given as goal
 
 abbrev pub invariant-loop-i : goal.invariant-loop-i
 invariant-loop-i l = record {
-  bytes : l.out.items ≡ to_be_bytes w32 (length l.edits) ++ flat_map edit_spelled (take l.i l.edits);
+  bytes : l.out.items ≡ l.initial.out.items ++ flat_map edit_spelled (take l.i l.edits);
   in_format : AllByRecursion IsInFormat (take l.i l.edits);
 }

@@ -1,0 +1,64 @@
+-- What the opening of a journal finds, and what a stop in it leaves.
+use Rattle.std.proofs.Common.{◌≡◌, ◌≤◌, ◌<◌, ◌^◌, ◌+◌, ◌-◌, ◌==◌, ℕ, zero, suc, Bool, true, false, List, [], ◌∷◌, ◌++◌, max, Option, None, Some}
+use Rattle.std.proofs.Common.{length, take, drop, get_or, refl, sym, ◌∙◌, ap, subst, arith, length-drop, take-append-drop}
+use Rattle.std.specs.Prelude.{◌&&◌, nat_lt}
+use Rattle.std.proofs.lemmas.Bool.{le-ltb}
+use Rattle.std.proofs.lemmas.List.{drop_all, length-take-le}
+use Rattle.tb_disk.specs.Images.{Fewer, IsWritten, Leads, Only, Torn}
+use Rattle.tb_journal.specs.Records.{length_at, is_whole, payloads, stands_for, HasGate}
+use Rattle.tb_journal.specs.Opening.{header, IsFew, IsLong, IsOpened, StandsAsOne}
+use Rattle.tb_journal.specs.Through.{IsThrough}
+
+and-false : (b : Bool) → (b && false) ≡ false
+and-false true = refl
+and-false false = refl
+
+short-none : (n : ℕ) (bytes : List ℕ) → length bytes ≤ 5 → payloads n bytes ≡ []
+short-none zero bytes short = refl
+short-none (suc n) bytes short =
+    let no_record : is_whole bytes ≡ false =
+    ap (λ (b : Bool). (get_or bytes 0 0 == 1) && b) (le-ltb (5 + length_at bytes) (length bytes) (omega arith)) ∙ and-false (get_or bytes 0 0 == 1) in
+    rw no_record refl
+
+-- a file of at most nine bytes stands for no payload
+pub few-stands : (file : List ℕ) → IsFew file → stands_for file ≡ []
+few-stands file few = short-none (length file) (drop 8 file) (omega (arith, length-drop 8 file, few))
+
+pub few-torn : (file image : List ℕ) → IsFew file → Torn 0 9 file image → IsFew image
+few-torn file image few torn = omega (arith, torn.no_longer, few)
+
+-- the file that is written anew
+pub anew : (file next : List ℕ) (images : List ℕ → Type 0) → IsFew file → IsThrough images 0 (84 ∷ 66 ∷ 74 ∷ 79 ∷ 85 ∷ 82 ∷ 78 ∷ 49 ∷ 0 ∷ []) file next → IsOpened images file next
+anew file next images few through =
+    let is : next ≡ 84 ∷ 66 ∷ 74 ∷ 79 ∷ 85 ∷ 82 ∷ 78 ∷ 49 ∷ 0 ∷ [] =
+    through.written.holds ∙ ap (λ (l : List ℕ). 84 ∷ 66 ∷ 74 ∷ 79 ∷ 85 ∷ 82 ∷ 78 ∷ 49 ∷ 0 ∷ l) (drop_all 9 file few) in
+    record {
+      stands = few-stands next (omega (arith, ap length is)) ∙ sym (few-stands file few);
+      on = record {
+        gate = record { head = header; so_far = []; rest = 0 ∷ []; long = refl; split = is; here = refl; lies = omega arith; each = tt };
+        durable = through.durable;
+        small = through.written.small;
+        shut = λ ended. absurd cc;
+      };
+    }
+
+-- a longer file as it is
+pub looked : (file : List ℕ) (images : List ℕ → Type 0) → IsLong file → Only file images → IsOpened images file file
+looked file images long only = record {
+  stands = refl;
+  on = record {
+    gate = record { head = take 8 file; so_far = []; rest = drop 8 file; long = length-take-le 8 file (omega (arith, long.0)); split = sym (take-append-drop 8 file); here = refl; lies = omega (arith, length-drop 8 file, long.0); each = tt };
+    durable = only;
+    small = long.1;
+    shut = λ ended. absurd cc;
+  };
+}
+
+pub as-one-now : (images : List ℕ → Type 0) (image : List ℕ) → images image → StandsAsOne images image
+as-one-now images image here = (image, here, refl)
+
+pub as-one-fewer : (old new : List ℕ → Type 0) → Fewer old new → (image : List ℕ) → StandsAsOne new image → StandsAsOne old image
+as-one-fewer old new fewer image one = (one.0, fewer one.0 one.1, one.2)
+
+pub as-one-few : (images : List ℕ → Type 0) (file image : List ℕ) → images file → IsFew file → IsFew image → StandsAsOne images image
+as-one-few images file image here few short = (file, here, few-stands image short ∙ sym (few-stands file few))
