@@ -1,11 +1,11 @@
 -- What the opening of a journal finds, and what a stop in it leaves.
-use Rattle.std.proofs.Common.{◌≡◌, ◌≤◌, ◌<◌, ◌^◌, ◌+◌, ◌-◌, ◌==◌, ℕ, zero, suc, Bool, true, false, List, [], ◌∷◌, ◌++◌, max, Option, None, Some}
-use Rattle.std.proofs.Common.{length, take, drop, get_or, refl, sym, ◌∙◌, ap, subst, arith, length-drop, take-append-drop}
-use Rattle.std.specs.Prelude.{◌&&◌, nat_lt}
-use Rattle.std.proofs.lemmas.Bool.{le-ltb}
+use Rattle.std.proofs.Common.{◌≡◌, ◌≤◌, ◌<◌, ◌^◌, ◌+◌, ◌-◌, ◌==◌, ℕ, zero, suc, Bool, true, false, List, [], ◌∷◌, ◌++◌, max}
+use Rattle.std.proofs.Common.{length, take, drop, get_or, refl, sym, ◌∙◌, ap, subst, arith, inl, inr, length-append, length-drop, length-take, take-append-drop}
+use Rattle.std.specs.Prelude.{◌&&◌, nat_le, nat_lt, if◌then◌else◌}
+use Rattle.std.proofs.lemmas.Bool.{le-leb, le-ltb, lt-leb}
 use Rattle.std.proofs.lemmas.List.{drop_all, length-take-le}
-use Rattle.tb_disk.specs.Images.{Fewer, IsWritten, Leads, Only, Torn}
-use Rattle.tb_journal.specs.Records.{length_at, is_whole, payloads, stands_for, HasGate}
+use Rattle.tb_disk.specs.Images.{Fewer, Only, Torn}
+use Rattle.tb_journal.specs.Records.{length_at, is_whole, payloads, payloads_before, stands_for, HasGate}
 use Rattle.tb_journal.specs.Opening.{header, IsFew, IsLong, IsOpened, StandsAsOne}
 use Rattle.tb_journal.specs.Through.{IsThrough}
 
@@ -27,13 +27,25 @@ few-stands file few = short-none (length file) (drop 8 file) (omega (arith, leng
 pub few-torn : (file image : List ℕ) → IsFew file → Torn 0 9 file image → IsFew image
 few-torn file image few torn = omega (arith, torn.no_longer, few)
 
+-- no payload stands before the first gate
+none-before : (file : List ℕ) → payloads_before 8 file ≡ []
+none-before file = few-stands (take 8 file ++ 0 ∷ []) (omega (arith, length-append (take 8 file) (0 ∷ []), length-take 8 file))
+
+if-few : (file : List ℕ) → IsFew file → (x y : List ℕ) → x ≡ (if nat_le (length file) 9 then x else y)
+if-few file few x y = ap (λ (b : Bool). if b then x else y) (sym (le-leb (length file) 9 few))
+
+if-long : (file : List ℕ) → 9 < length file → (x y : List ℕ) → y ≡ (if nat_le (length file) 9 then x else y)
+if-long file long x y = ap (λ (b : Bool). if b then x else y) (sym (lt-leb (length file) 9 long))
+
 -- the file that is written anew
 pub anew : (file next : List ℕ) (images : List ℕ → Type 0) → IsFew file → IsThrough images 0 (84 ∷ 66 ∷ 74 ∷ 79 ∷ 85 ∷ 82 ∷ 78 ∷ 49 ∷ 0 ∷ []) file next → IsOpened images file next
 anew file next images few through =
     let is : next ≡ 84 ∷ 66 ∷ 74 ∷ 79 ∷ 85 ∷ 82 ∷ 78 ∷ 49 ∷ 0 ∷ [] =
     through.written.holds ∙ ap (λ (l : List ℕ). 84 ∷ 66 ∷ 74 ∷ 79 ∷ 85 ∷ 82 ∷ 78 ∷ 49 ∷ 0 ∷ l) (drop_all 9 file few) in
     record {
+      is = is ∙ if-few file few (header ++ 0 ∷ []) file;
       stands = few-stands next (omega (arith, ap length is)) ∙ sym (few-stands file few);
+      before = none-before next;
       on = record {
         gate = record { head = header; so_far = []; rest = 0 ∷ []; long = refl; split = is; here = refl; lies = omega arith; each = tt };
         durable = through.durable;
@@ -45,7 +57,9 @@ anew file next images few through =
 -- a longer file as it is
 pub looked : (file : List ℕ) (images : List ℕ → Type 0) → IsLong file → Only file images → IsOpened images file file
 looked file images long only = record {
+  is = if-long file long.0 (header ++ 0 ∷ []) file;
   stands = refl;
+  before = none-before file;
   on = record {
     gate = record { head = take 8 file; so_far = []; rest = drop 8 file; long = length-take-le 8 file (omega (arith, long.0)); split = sym (take-append-drop 8 file); here = refl; lies = omega (arith, length-drop 8 file, long.0); each = tt };
     durable = only;
@@ -55,10 +69,10 @@ looked file images long only = record {
 }
 
 pub as-one-now : (images : List ℕ → Type 0) (image : List ℕ) → images image → StandsAsOne images image
-as-one-now images image here = (image, here, refl)
+as-one-now images image here = record { first = image; left = here; same = inl refl; stands = refl }
 
 pub as-one-fewer : (old new : List ℕ → Type 0) → Fewer old new → (image : List ℕ) → StandsAsOne new image → StandsAsOne old image
-as-one-fewer old new fewer image one = (one.0, fewer one.0 one.1, one.2)
+as-one-fewer old new fewer image one = record { first = one.first; left = fewer one.first one.left; same = one.same; stands = one.stands }
 
 pub as-one-few : (images : List ℕ → Type 0) (file image : List ℕ) → images file → IsFew file → IsFew image → StandsAsOne images image
-as-one-few images file image here few short = (file, here, few-stands image short ∙ sym (few-stands file few))
+as-one-few images file image here few short = record { first = file; left = here; same = inr (few, short); stands = few-stands image short ∙ sym (few-stands file few) }

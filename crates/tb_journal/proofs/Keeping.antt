@@ -21,7 +21,7 @@ pub kept : (old new : List ℕ) (images : List ℕ → Type 0) (place : ℕ) (pa
 kept old new images place payload behind journal same put is =
     let exact : journal.place ≡ place + length (behind_of payload) = place-exact new place (length (behind_of payload)) journal.place put.ready.small put.ready.shut.gate (is ∙ ap (λ (bs : List ℕ). min (place + length bs) (2 ^ 64 - 1)) same) in
     record {
-      stands = put.stands;
+      ends = put.ends;
       on = record {
         gate = subst (HasGate new) (sym exact) put.ready.shut.gate;
         durable = put.ready.durable;
@@ -31,7 +31,7 @@ kept old new images place payload behind journal same put is =
     }
 
 -- the file of a journal at its end stands for some payloads, and the gate behind them is shut
-pub ends-on : (file : List ℕ) (images : List ℕ → Type 0) (journal : JournalState) → journal.at_end ≡ true → IsOn file images journal → Ends (stands_for file) file
+pub ends-on : (file : List ℕ) (images : List ℕ → Type 0) (journal : JournalState) → journal.at_end ≡ true → IsOn file images journal → Ends (take 8 file) (stands_for file) file
 ends-on file images journal ended on = ends-now file journal.place (parts-of file journal.place (ready file images journal ended on).shut)
 
 -- the payload in what is written for it

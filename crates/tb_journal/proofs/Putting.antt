@@ -6,8 +6,8 @@ use Rattle.std.specs.Int.{w32, to_be_bytes}
 use Rattle.std.proofs.lemmas.List.{take_at, drop_at, drop_more, take_all, drop-drop, get_or_at}
 use Rattle.tb_disk.specs.Images.{IsWritten, Torn}
 use Rattle.tb_journal.specs.Records.{records_of, record_of, behind_of, HasLength, HasGate, ShutAt, stands_for}
-use Rattle.tb_journal.specs.Stops.{Ends, EndsWithOrWithout}
-use Rattle.tb_journal.proofs.Standing.{ends-shut, ends-either, records-append, each-append}
+use Rattle.tb_journal.specs.Stops.{Ends}
+use Rattle.tb_journal.proofs.Standing.{Either, ends-shut, ends-either, records-append, each-append}
 
 -- a file with a part in front of a gate
 module _ (front : List ℕ) (place : ℕ) (long : length front ≡ place) where
@@ -90,19 +90,23 @@ module _ (file : List ℕ) (place : ℕ) (parts : Parts file place) where
   abbrev front : List ℕ
   front = parts.head ++ records_of parts.so_far
 
-  ends : (gate : ℕ) (rest image : List ℕ) → gate ≢ 1 → image ≡ front ++ (gate ∷ rest) → Ends parts.so_far image
-  ends gate rest image shut is = subst (Ends parts.so_far) (sym (is ∙ append_assoc parts.head (records_of parts.so_far) (gate ∷ rest))) (ends-shut parts.head parts.so_far gate rest parts.long parts.each shut)
+  ends : (gate : ℕ) (rest image : List ℕ) → gate ≢ 1 → image ≡ front ++ (gate ∷ rest) → Ends parts.head parts.so_far image
+  ends gate rest image shut is = subst (Ends parts.head parts.so_far) (sym (is ∙ append_assoc parts.head (records_of parts.so_far) (gate ∷ rest))) (ends-shut parts.head parts.so_far gate rest parts.long parts.each shut)
 
   -- the file as it is stands for the payloads so far
   pub stands-now : stands_for file ≡ parts.so_far
   stands-now = (ends parts.gate parts.more file parts.shut parts.split).stands
 
+  -- it begins with its head
+  pub begins-now : take 8 file ≡ parts.head
+  begins-now = (ends parts.gate parts.more file parts.shut parts.split).begins
+
   -- and the gate behind them is shut
-  pub ends-now : Ends (stands_for file) file
-  ends-now = subst (λ (ps : List (List ℕ)). Ends ps file) (sym stands-now) (ends parts.gate parts.more file parts.shut parts.split)
+  pub ends-now : Ends (take 8 file) (stands_for file) file
+  ends-now = record { begins = refl; stands = refl; shut = (ends parts.gate parts.more file parts.shut parts.split).shut }
 
   -- and so does whatever a stop leaves in the first write
-  pub first-stop : (n : ℕ) (image : List ℕ) → Torn (place + 1) n file image → Ends parts.so_far image
+  pub first-stop : (n : ℕ) (image : List ℕ) → Torn (place + 1) n file image → Ends parts.head parts.so_far image
   first-stop n image torn = ends parts.gate (drop (place + 1) image) image parts.shut
       (gate-stays front place parts.here parts.gate n parts.more image (subst (λ (f : List ℕ). Torn (place + 1) n f image) parts.split torn))
 
@@ -113,14 +117,14 @@ module _ (file : List ℕ) (place : ℕ) (parts : Parts file place) where
     next-is : next ≡ front ++ (parts.gate ∷ behind_of payload ++ more)
     next-is = behind-gate front place parts.here parts.gate (behind_of payload) parts.more next (subst (λ (f : List ℕ). IsWritten (place + 1) (behind_of payload) f next) parts.split written)
 
-    either : (gate : ℕ) (image : List ℕ) → image ≡ front ++ (gate ∷ behind_of payload ++ more) → EndsWithOrWithout parts.so_far payload image
+    either : (gate : ℕ) (image : List ℕ) → image ≡ front ++ (gate ∷ behind_of payload ++ more) → Either parts.head parts.so_far payload image
     either gate image is =
         let regrouped : (gate ∷ behind_of payload) ++ more ≡ gate ∷ to_be_bytes w32 (length payload) ++ payload ++ 0 ∷ more = append_assoc (gate ∷ to_be_bytes w32 (length payload) ++ payload) (0 ∷ []) more in
-        subst (EndsWithOrWithout parts.so_far payload) (sym (is ∙ append_assoc parts.head (records_of parts.so_far) ((gate ∷ behind_of payload) ++ more) ∙ ap (λ (l : List ℕ). parts.head ++ (records_of parts.so_far ++ l)) regrouped))
+        subst (Either parts.head parts.so_far payload) (sym (is ∙ append_assoc parts.head (records_of parts.so_far) ((gate ∷ behind_of payload) ++ more) ∙ ap (λ (l : List ℕ). parts.head ++ (records_of parts.so_far ++ l)) regrouped))
         (ends-either parts.head parts.so_far gate payload more parts.long parts.each one)
 
     -- a stop in the second write leaves the new payload or not
-    pub second-stop : (image : List ℕ) → Torn place 1 next image → EndsWithOrWithout parts.so_far payload image
+    pub second-stop : (image : List ℕ) → Torn place 1 next image → Either parts.head parts.so_far payload image
     second-stop image torn = either (get_or image place 0) image
         (rest-stays front place parts.here parts.gate (behind_of payload ++ more) image (subst (λ (f : List ℕ). Torn place 1 f image) next-is torn))
 
@@ -129,7 +133,7 @@ module _ (file : List ℕ) (place : ℕ) (parts : Parts file place) where
     gate-lies = omega (arith, ap length next-is, length-append front (parts.gate ∷ behind_of payload ++ more), parts.here)
 
     -- after it the new payload is there, and the gate behind it is shut
-    pub both-done : (last : List ℕ) → IsWritten place (1 ∷ []) next last → ShutAt last (place + length (behind_of payload)) × (stands_for last ≡ parts.so_far ++ payload ∷ [])
+    pub both-done : (last : List ℕ) → IsWritten place (1 ∷ []) next last → ShutAt last (place + length (behind_of payload)) × Ends parts.head (parts.so_far ++ payload ∷ []) last
     both-done last opened =
         let is : last ≡ front ++ (1 ∷ behind_of payload ++ more) = gate-written front place parts.here parts.gate 1 (behind_of payload ++ more) last (subst (λ (f : List ℕ). IsWritten place (1 ∷ []) f last) next-is opened) in
         let regrouped : (1 ∷ behind_of payload) ++ more ≡ record_of payload ++ (0 ∷ more) = append_assoc (record_of payload) (0 ∷ []) more in
@@ -148,5 +152,5 @@ module _ (file : List ℕ) (place : ℕ) (parts : Parts file place) where
             gate = record { head = parts.head; so_far = parts.so_far ++ payload ∷ []; rest = 0 ∷ more; long = parts.long; split = split; here = here; lies = omega arith; each = each };
             shut = λ one. omega (arith, one, is_shut);
           },
-          ap stands_for split ∙ (ends-shut parts.head (parts.so_far ++ payload ∷ []) 0 more parts.long each (omega arith)).stands,
+          subst (Ends parts.head (parts.so_far ++ payload ∷ [])) (sym split) (ends-shut parts.head (parts.so_far ++ payload ∷ []) 0 more parts.long each (omega arith)),
         )

@@ -1,6 +1,6 @@
 -- For which payloads a file stands.
 use Rattle.std.proofs.Common.{◌≡◌, ◌≢◌, ◌<◌, ◌≤◌, ◌^◌, ◌+◌, ◌-◌, ◌==◌, ℕ, zero, suc, Bool, true, false, cond, ltb, eqb, List, [], ◌∷◌, ◌++◌}
-use Rattle.std.proofs.Common.{length, take, drop, get_or, refl, sym, ◌∙◌, ap, subst, arith, append_assoc, length-append, zero-add, inl, inr}
+use Rattle.std.proofs.Common.{length, take, drop, get_or, refl, sym, ◌∙◌, ap, subst, arith, append_assoc, length-append, zero-add, inl, inr, ◌⊎◌}
 use Rattle.std.specs.Prelude.{◌&&◌, nat_lt}
 use Rattle.std.specs.List.{AllByRecursion}
 use Rattle.std.specs.Int.{w32, to_be_bytes, from_be_bytes}
@@ -8,7 +8,7 @@ use Rattle.std.proofs.lemmas.Bool.{cases_eq, lt-ltb, ne_eqb}
 use Rattle.std.proofs.lemmas.List.{append-nil, take_at, drop_at}
 use Rattle.std.proofs.lemmas.Nat.{from_be_bytes-to_be_bytes_4}
 use Rattle.tb_journal.specs.Records.{length_at, is_whole, payload_at, after_record, payloads, behind_records, stands_for, end_of, IsShut, record_of, records_of, HasLength, HasGate}
-use Rattle.tb_journal.specs.Stops.{Ends, EndsWithOrWithout}
+use Rattle.tb_journal.specs.Stops.{Ends}
 
 module _ (payload rest : List ℕ) (short : HasLength payload) where
   length-is : length_at (record_of payload ++ rest) ≡ length payload
@@ -74,13 +74,14 @@ few-records [] = omega arith
 few-records (p ∷ ps) = omega (arith, few-records ps, length-append (record_of p) (records_of ps))
 
 -- eight bytes, records, and then a gate that isn't open: the file stands for their payloads
-pub ends-shut : (head : List ℕ) (ps : List (List ℕ)) (gate : ℕ) (rest : List ℕ) → length head ≡ 8 → AllByRecursion HasLength ps → gate ≢ 1 → Ends ps (head ++ (records_of ps ++ (gate ∷ rest)))
+pub ends-shut : (head : List ℕ) (ps : List (List ℕ)) (gate : ℕ) (rest : List ℕ) → length head ≡ 8 → AllByRecursion HasLength ps → gate ≢ 1 → Ends head ps (head ++ (records_of ps ++ (gate ∷ rest)))
 ends-shut head ps gate rest long each shut =
     let file = head ++ (records_of ps ++ (gate ∷ rest)) in
     let behind : drop 8 file ≡ records_of ps ++ (gate ∷ rest) = drop_at head (records_of ps ++ (gate ∷ rest)) 8 long in
     let le : length ps ≤ length file = omega (arith, few-records ps, length-append head (records_of ps ++ (gate ∷ rest)), length-append (records_of ps) (gate ∷ rest)) in
     let at_end : end_of file ≡ gate ∷ rest = ap (behind_records (length file)) behind ∙ some-behind (length file) gate ps rest each le shut in
     record {
+      begins = take_at head (records_of ps ++ (gate ∷ rest)) 8 long;
       stands = ap (payloads (length file)) behind ∙ some-payloads (length file) gate ps rest each le shut;
       shut = subst IsShut (sym at_end) shut;
     }
@@ -96,13 +97,17 @@ pub each-append : (ps : List (List ℕ)) (p : List ℕ) → AllByRecursion HasLe
 each-append [] p each one = (one, tt)
 each-append (q ∷ ps) p each one = (each.0, each-append ps p each.1 one)
 
+-- one payload more, or not
+abbrev pub Either : List ℕ → List (List ℕ) → List ℕ → List ℕ → Type 0
+Either head ps p file = Ends head ps file ⊎ Ends head (ps ++ p ∷ []) file
+
 -- behind any gate a whole record and a gate that isn't open: with that payload or without
 pub ends-either : (head : List ℕ) (ps : List (List ℕ)) (gate : ℕ) (p rest : List ℕ) → length head ≡ 8 → AllByRecursion HasLength ps → HasLength p
-    → EndsWithOrWithout ps p (head ++ (records_of ps ++ (gate ∷ to_be_bytes w32 (length p) ++ p ++ 0 ∷ rest)))
+    → Either head ps p (head ++ (records_of ps ++ (gate ∷ to_be_bytes w32 (length p) ++ p ++ 0 ∷ rest)))
 ends-either head ps gate p rest long each one = elim (cases_eq gate 1) [
   | inl is_open ↦
       let same : head ++ (records_of (ps ++ p ∷ []) ++ (0 ∷ rest)) ≡ head ++ (records_of ps ++ (gate ∷ to_be_bytes w32 (length p) ++ p ++ 0 ∷ rest)) =
       ap (λ (l : List ℕ). head ++ l) (records-append ps p (0 ∷ rest)) ∙ ap (λ (g : ℕ). head ++ (records_of ps ++ (g ∷ to_be_bytes w32 (length p) ++ p ++ 0 ∷ rest))) (sym is_open) in
-      inr (subst (Ends (ps ++ p ∷ [])) same (ends-shut head (ps ++ p ∷ []) 0 rest long (each-append ps p each one) (omega arith)))
+      inr (subst (Ends head (ps ++ p ∷ [])) same (ends-shut head (ps ++ p ∷ []) 0 rest long (each-append ps p each one) (omega arith)))
   | inr shut ↦ inl (ends-shut head ps gate (to_be_bytes w32 (length p) ++ p ++ 0 ∷ rest) long each shut)
 ]

@@ -1,6 +1,6 @@
 -- What the opening of a journal finds, and what it leaves.
-use Rattle.std.specs.Prelude.{◌≡◌, ◌≢◌, ◌≤◌, ◌<◌, ◌^◌, ℕ, List, [], ◌∷◌, length, take, false, true}
-use Rattle.tb_journal.specs.Records.{stands_for}
+use Rattle.std.specs.Prelude.{◌≡◌, ◌≢◌, ◌≤◌, ◌<◌, ◌^◌, ◌⊎◌, ℕ, List, [], ◌∷◌, ◌++◌, length, take, nat_le, if◌then◌else◌}
+use Rattle.tb_journal.specs.Records.{payloads_before, stands_for}
 use Rattle.tb_journal.specs.Stops.{IsOn}
 use Rattle.tb_journal.specs.States.{opened}
 
@@ -23,11 +23,22 @@ IsForeign file = (9 < length file) × (take 8 file ≢ header)
 abbrev pub IsOurs : List ℕ → Type 0
 IsOurs file = 9 < length file → take 8 file ≡ header
 
--- new stands for the same payloads as old, and the journal is on it
+-- a file of at most nine bytes is written anew, and any other stays as it is
+abbrev pub opened_file : List ℕ → List ℕ
+opened_file file = if nat_le (length file) 9 then header ++ 0 ∷ [] else file
+
+-- new is old, or was written anew; so it stands for the same payloads as old; the journal is on it,
+-- and no payload stands before its place
 pub record IsOpened (may_leave : List ℕ → Type 0) (old new : List ℕ) : Type 0 where
+  pub is : new ≡ opened_file old
   pub stands : stands_for new ≡ stands_for old
+  pub before : payloads_before opened.place new ≡ []
   pub on : IsOn new may_leave opened
 
--- it stands for the same payloads as one of these files
-abbrev pub StandsAsOne : (List ℕ → Type 0) → List ℕ → Type 0
-StandsAsOne images file = (first : List ℕ) × images first × (stands_for file ≡ stands_for first)
+-- it is one of these files, or neither has more than nine bytes; so it stands for the same payloads
+-- as one of them
+pub record StandsAsOne (images : List ℕ → Type 0) (file : List ℕ) : Type 0 where
+  pub first : List ℕ
+  pub left : images first
+  pub same : (file ≡ first) ⊎ (IsFew first × IsFew file)
+  pub stands : stands_for file ≡ stands_for first

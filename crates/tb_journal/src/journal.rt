@@ -6,7 +6,7 @@ ghost use Rattle.tb_disk.specs.Moments.{LeavesOnly};
 ghost use Rattle.tb_disk.specs.Quiet.{IsQuiet};
 ghost use Rattle.tb_spelling.specs.Payloads.{CanBeSpelled};
 ghost use Rattle.tb_spelling.specs.Spelling.{spelled};
-ghost use Rattle.tb_journal.specs.Records.{HasLength, behind_of, payload_behind, stands_for};
+ghost use Rattle.tb_journal.specs.Records.{HasLength, behind_of, payload_behind};
 ghost use Rattle.tb_journal.specs.States.{AfterNext, JournalState, opened, place_after};
 ghost use Rattle.tb_journal.specs.Stops.{EndsWithOrWithout, IsKept, IsOn};
 ghost use Rattle.tb_journal.specs.Opening.{IsForeign, IsOpened, IsOurs, StandsAsOne};
@@ -181,7 +181,7 @@ impl Journal {
         ensures kept { result ≡ put.Kept → Leads (D.content disk.old) (D.content disk.new)
             (IsKept (D.may_leave disk.new) self.new (spelled edits.now)) }
         ensures any_moment { WhereTold (D.content disk.old) (λ file. LeavesOnly D.moment D.left_since
-            disk.old disk.new (EndsWithOrWithout (stands_for file) (spelled edits.now))) }
+            disk.old disk.new (EndsWithOrWithout file (spelled edits.now))) }
         ensures state { result ≡ put.Kept → self.new ≡ record self.old {
           place = place_after self.old.place (length (spelled edits.now));
         } }
@@ -211,7 +211,7 @@ impl Journal {
         ensures kept { result ≡ put.Kept → Leads (D.content disk.old) (D.content disk.new)
             (IsKept (D.may_leave disk.new) self.new (payload_behind behind.now)) }
         ensures any_moment { WhereTold (D.content disk.old) (λ file. LeavesOnly D.moment D.left_since
-            disk.old disk.new (EndsWithOrWithout (stands_for file) (payload_behind behind.now))) }
+            disk.old disk.new (EndsWithOrWithout file (payload_behind behind.now))) }
         ensures state { result ≡ put.Kept → self.new ≡ record self.old {
           place = place_after self.old.place (length (payload_behind behind.now));
         } }

@@ -5,7 +5,7 @@ ghost use Rattle.tb_io.specs.Faults.{HasRisen};
 ghost use Rattle.tb_disk.specs.Images.{Leads, Only, Torn, WhereTold};
 ghost use Rattle.tb_disk.specs.Moments.{LeavesOnly};
 ghost use Rattle.tb_disk.specs.declared.disk.Done.TheVariants as done;
-ghost use Rattle.tb_journal.specs.Records.{HasLength, behind_of, payload_behind, stands_for};
+ghost use Rattle.tb_journal.specs.Records.{HasLength, behind_of, payload_behind};
 ghost use Rattle.tb_journal.specs.Stops.{EndsWithOrWithout};
 ghost use Rattle.tb_journal.specs.Through.{IsThrough, IsReady, IsPut};
 
@@ -42,7 +42,7 @@ pub(crate) fn write_record<D: Disk>(disk: &mut D, place: u64, behind: &[u8]) -> 
     ensures put { result ≡ done.All → Leads (D.content disk.old) (D.content disk.new)
         (IsPut (D.may_leave disk.new) place (payload_behind behind.now)) }
     ensures any_moment { WhereTold (D.content disk.old) (λ file. LeavesOnly D.moment D.left_since
-        disk.old disk.new (EndsWithOrWithout (stands_for file) (payload_behind behind.now))) }
+        disk.old disk.new (EndsWithOrWithout file (payload_behind behind.now))) }
     ensures count { D.faults disk.old ≤ D.faults disk.new }
     ensures failed { result ≡ done.Failed → HasRisen (D.faults disk.old) (D.faults disk.new) }
 {

@@ -1,7 +1,7 @@
 use Rattle.std.proofs.Common.{[], ◌∷◌, length, refl}
 use Rattle.tb_disk.proofs.Going.{joins, weaker}
 use Rattle.tb_disk.proofs.Telling.{forward, back, Leads-then}
-use Rattle.tb_journal.specs.Records.{payload_behind, stands_for}
+use Rattle.tb_journal.specs.Records.{payload_behind}
 use Rattle.tb_journal.specs.Stops.{EndsWithOrWithout}
 use Rattle.tb_journal.proofs.Recording.{second-within, puts, first-leaves, second-leaves}
 use Rattle.tb_journal.proofs.through.write_record.Goals as goal
@@ -21,7 +21,7 @@ returns-in-All-clause-put g c = λ all.
 
 pub returns-in-All-clause-any_moment : goal.returns-in-All-clause-any_moment
 returns-in-All-clause-any_moment g c = λ file told.
-    let P = EndsWithOrWithout (stands_for file) (payload_behind c.args.behind.now) in
+    let P = EndsWithOrWithout file (payload_behind c.args.behind.now) in
     let ready = c.requires.ready file told in
     let next = forward _ _ _ (c.in-All.ensures.through refl) file told in
     let first = weaker g.D.Disk.moment g.D.Disk.left_since c.args.disk.now c.write_through.new.disk _ P (c.write_through.ensures.any_moment file told)
@@ -32,5 +32,5 @@ returns-in-All-clause-any_moment g c = λ file told.
 
 pub returns-in-Failed-clause-any_moment : goal.returns-in-Failed-clause-any_moment
 returns-in-Failed-clause-any_moment g c = λ file told.
-    weaker g.D.Disk.moment g.D.Disk.left_since c.args.disk.now c.write_through.new.disk _ (EndsWithOrWithout (stands_for file) (payload_behind c.args.behind.now)) (c.write_through.ensures.any_moment file told)
+    weaker g.D.Disk.moment g.D.Disk.left_since c.args.disk.now c.write_through.new.disk _ (EndsWithOrWithout file (payload_behind c.args.behind.now)) (c.write_through.ensures.any_moment file told)
     (first-leaves file c.args.place (payload_behind c.args.behind.now) c.args.behind.now c.saturating_add.result _ (c.requires.ready file told) c.requires.payload c.requires.behind c.saturating_add.ensures)

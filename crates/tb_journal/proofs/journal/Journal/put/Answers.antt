@@ -1,4 +1,4 @@
-use Rattle.std.proofs.Common.{List, ℕ, inl, sym, subst}
+use Rattle.std.proofs.Common.{List, ℕ, take, inl, sym, subst}
 use Rattle.tb_disk.specs.Images.{Leads}
 use Rattle.tb_disk.specs.Moments.{LeavesOnly}
 use Rattle.tb_disk.proofs.Going.{starts}
@@ -17,10 +17,10 @@ returns-in-Ok-clause-kept g c = λ is.
 
 pub returns-in-Ok-clause-any_moment : goal.returns-in-Ok-clause-any_moment
 returns-in-Ok-clause-any_moment g c = λ file told.
-    subst (λ (p : List ℕ). LeavesOnly g.D.Disk.moment g.D.Disk.left_since c.args.disk.now c.put_record.new.disk (EndsWithOrWithout (stands_for file) p)) (payload-of c.as_slice.result.now c.in-Ok.behind.items (spelled c.args.edits.now) c.as_slice.ensures.value c.in-Ok.ensures.behind) (c.put_record.ensures.any_moment file told)
+    subst (λ (p : List ℕ). LeavesOnly g.D.Disk.moment g.D.Disk.left_since c.args.disk.now c.put_record.new.disk (EndsWithOrWithout file p)) (payload-of c.as_slice.result.now c.in-Ok.behind.items (spelled c.args.edits.now) c.as_slice.ensures.value c.in-Ok.ensures.behind) (c.put_record.ensures.any_moment file told)
 
 pub returns-in-Err-clause-any_moment : goal.returns-in-Err-clause-any_moment
 returns-in-Err-clause-any_moment g c = λ file told.
     let on = c.requires.on file told in
-    starts g.D.Disk.moment g.D.Disk.left_since c.args.disk.now (EndsWithOrWithout (stands_for file) (spelled c.args.edits.now))
-    (λ image left. inl (subst (Ends (stands_for file)) (sym (on.durable image (g.met.D.Disk.only_now c.args.disk.now image left))) (ends-on file _ c.args.self.now c.requires.at_end on)))
+    starts g.D.Disk.moment g.D.Disk.left_since c.args.disk.now (EndsWithOrWithout file (spelled c.args.edits.now))
+    (λ image left. inl (subst (Ends (take 8 file) (stands_for file)) (sym (on.durable image (g.met.D.Disk.only_now c.args.disk.now image left))) (ends-on file _ c.args.self.now c.requires.at_end on)))
