@@ -1,11 +1,11 @@
 -- From one gate to the next.
-use Rattle.std.proofs.Common.{◌≡◌, ◌≢◌, ◌<◌, ◌≤◌, ◌^◌, ◌+◌, ◌-◌, ◌==◌, ℕ, Bool, true, false, eqb, List, [], ◌∷◌, ◌++◌, min}
+use Rattle.std.proofs.Common.{◌≡◌, ◌≢◌, ◌<◌, ◌≤◌, ◌+◌, ◌-◌, ℕ, Bool, true, false, eqb, List, [], ◌∷◌, ◌++◌}
 use Rattle.std.proofs.Common.{length, take, drop, get_or, refl, sym, ◌∙◌, ap, subst, arith, append_assoc, length-append, length-drop, length-take, take-append-drop}
 use Rattle.std.specs.Prelude.{◌&&◌, nat_lt}
 use Rattle.std.specs.Int.{w32, to_be_bytes}
 use Rattle.std.proofs.lemmas.Bool.{eqb-true, ltb-true}
 use Rattle.std.proofs.lemmas.List.{take_at, drop_at, drop_more, drop-drop, get_or_at}
-use Rattle.tb_journal.specs.Records.{length_at, is_whole, payload_at, payloads, stands_for, payloads_before, record_of, records_of, HasLength, HasGate}
+use Rattle.tb_journal.specs.Records.{length_at, payload_at, payloads, stands_for, payloads_before, record_of, records_of, HasGate}
 use Rattle.tb_journal.specs.Reading.{IsRecord}
 use Rattle.tb_journal.proofs.Standing.{ends-shut, few-records, first-payloads, records-append, each-append}
 

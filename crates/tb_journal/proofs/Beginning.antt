@@ -1,12 +1,12 @@
 -- What the opening of a journal finds, and what a stop in it leaves.
-use Rattle.std.proofs.Common.{◌≡◌, ◌≤◌, ◌<◌, ◌^◌, ◌+◌, ◌-◌, ◌==◌, ℕ, zero, suc, Bool, true, false, List, [], ◌∷◌, ◌++◌, max}
-use Rattle.std.proofs.Common.{length, take, drop, get_or, refl, sym, ◌∙◌, ap, subst, arith, inl, inr, length-append, length-drop, length-take, take-append-drop}
-use Rattle.std.specs.Prelude.{◌&&◌, nat_le, nat_lt, if◌then◌else◌}
+use Rattle.std.proofs.Common.{◌≡◌, ◌≤◌, ◌<◌, ◌+◌, ◌==◌, ℕ, zero, suc, Bool, true, false, List, [], ◌∷◌, ◌++◌}
+use Rattle.std.proofs.Common.{length, take, drop, get_or, refl, sym, ◌∙◌, ap, arith, inl, inr, length-append, length-drop, length-take, take-append-drop}
+use Rattle.std.specs.Prelude.{◌&&◌, nat_le, if◌then◌else◌}
 use Rattle.std.proofs.lemmas.Bool.{le-leb, le-ltb, lt-leb}
 use Rattle.std.proofs.lemmas.List.{drop_all, length-take-le}
 use Rattle.tb_disk.specs.Images.{Fewer, Only, Torn}
-use Rattle.tb_journal.specs.Records.{length_at, is_whole, payloads, payloads_before, stands_for, HasGate}
-use Rattle.tb_journal.specs.Opening.{header, IsFew, IsLong, IsOpened, StandsAsOne}
+use Rattle.tb_journal.specs.Records.{length_at, is_whole, payloads, payloads_before, stands_for}
+use Rattle.tb_journal.specs.Opening.{header, IsFew, IsLong, IsBegun, StandsAsOne}
 use Rattle.tb_journal.specs.Through.{IsThrough}
 
 and-false : (b : Bool) → (b && false) ≡ false
@@ -38,14 +38,16 @@ if-long : (file : List ℕ) → 9 < length file → (x y : List ℕ) → y ≡ (
 if-long file long x y = ap (λ (b : Bool). if b then x else y) (sym (lt-leb (length file) 9 long))
 
 -- the file that is written anew
-pub anew : (file next : List ℕ) (images : List ℕ → Type 0) → IsFew file → IsThrough images 0 (84 ∷ 66 ∷ 74 ∷ 79 ∷ 85 ∷ 82 ∷ 78 ∷ 49 ∷ 0 ∷ []) file next → IsOpened images file next
+pub anew : (file next : List ℕ) (images : List ℕ → Type 0) → IsFew file → IsThrough images 0 (84 ∷ 66 ∷ 74 ∷ 79 ∷ 85 ∷ 82 ∷ 78 ∷ 49 ∷ 0 ∷ []) file next → IsBegun images file next
 anew file next images few through =
     let is : next ≡ 84 ∷ 66 ∷ 74 ∷ 79 ∷ 85 ∷ 82 ∷ 78 ∷ 49 ∷ 0 ∷ [] =
     through.written.holds ∙ ap (λ (l : List ℕ). 84 ∷ 66 ∷ 74 ∷ 79 ∷ 85 ∷ 82 ∷ 78 ∷ 49 ∷ 0 ∷ l) (drop_all 9 file few) in
     record {
-      is = is ∙ if-few file few (header ++ 0 ∷ []) file;
-      stands = few-stands next (omega (arith, ap length is)) ∙ sym (few-stands file few);
-      before = none-before next;
+      as_opened = record {
+        is = is ∙ if-few file few (header ++ 0 ∷ []) file;
+        stands = few-stands next (omega (arith, ap length is)) ∙ sym (few-stands file few);
+        before = none-before next;
+      };
       on = record {
         gate = record { head = header; so_far = []; rest = 0 ∷ []; long = refl; split = is; here = refl; lies = omega arith; each = tt };
         durable = through.durable;
@@ -55,11 +57,9 @@ anew file next images few through =
     }
 
 -- a longer file as it is
-pub looked : (file : List ℕ) (images : List ℕ → Type 0) → IsLong file → Only file images → IsOpened images file file
+pub looked : (file : List ℕ) (images : List ℕ → Type 0) → IsLong file → Only file images → IsBegun images file file
 looked file images long only = record {
-  is = if-long file long.0 (header ++ 0 ∷ []) file;
-  stands = refl;
-  before = none-before file;
+  as_opened = record { is = if-long file long.0 (header ++ 0 ∷ []) file; stands = refl; before = none-before file };
   on = record {
     gate = record { head = take 8 file; so_far = []; rest = drop 8 file; long = length-take-le 8 file (omega (arith, long.0)); split = sym (take-append-drop 8 file); here = refl; lies = omega (arith, length-drop 8 file, long.0); each = tt };
     durable = only;

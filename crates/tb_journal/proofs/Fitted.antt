@@ -1,5 +1,5 @@
 -- Which edits fit a setup.
-use Rattle.std.proofs.Common.{◌≡◌, ◌&&◌, true, List, ℕ, refl}
+use Rattle.std.proofs.Common.{◌≡◌, true, List, ℕ, refl}
 use Rattle.std.specs.Prelude.{All, nat_lt}
 use Rattle.std.specs.List.{list_all}
 use Rattle.std.proofs.lemmas.Bool.{and_from, and_parts, lt-ltb, ltb-true}
@@ -9,7 +9,6 @@ use Rattle.tb_base.specs.Keys.{key_range}
 use Rattle.tb_release.specs.declared.edits.Edit.{Edit}
 use Rattle.tb_release.specs.declared.edits.Edit.TheVariants.{Add, Drop, Amend, Pvalue, Threshold}
 use Rattle.tb_release.specs.Fitting.{edits_fit}
-use Rattle.tb_release.specs.Laws.{EditFits}
 use Rattle.tb_release.proofs.FitTests.{all_back, all_told, fit_is_told}
 use Rattle.tb_journal.specs.Fitting.{FitsSetup, IsInRange, is_in_range}
 

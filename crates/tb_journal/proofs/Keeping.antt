@@ -1,8 +1,8 @@
 -- A journal at its end, and what one more record makes of it.
-use Rattle.std.proofs.Common.{◌≡◌, ◌≢◌, ◌≤◌, ◌<◌, ◌^◌, ◌+◌, ◌-◌, ℕ, true, List, [], ◌∷◌, ◌++◌, take, length, get_or, min, refl, arith, ap, subst, sym, ◌∙◌, length-append}
+use Rattle.std.proofs.Common.{◌≡◌, ◌≢◌, ◌<◌, ◌^◌, ◌+◌, ◌-◌, ℕ, true, List, [], ◌∷◌, ◌++◌, take, length, get_or, min, refl, arith, ap, subst, sym, ◌∙◌, length-append}
 use Rattle.std.proofs.lemmas.List.{take_at}
-use Rattle.tb_journal.specs.Records.{behind_of, payload_behind, records_of, stands_for, HasGate, ShutAt}
-use Rattle.tb_journal.specs.Stops.{IsOn, IsKept, Ends}
+use Rattle.tb_journal.specs.Records.{behind_of, payload_behind, records_of, stands_for, HasGate}
+use Rattle.tb_journal.specs.Stops.{IsOn, IsKeptOn, Ends}
 use Rattle.tb_journal.specs.States.{JournalState}
 use Rattle.tb_journal.specs.Through.{IsReady, IsPut}
 use Rattle.tb_journal.proofs.Putting.{parts-of, ends-now}
@@ -17,7 +17,7 @@ place-exact file place n sum small gate is =
     omega (arith, is, small, ap length gate.split, length-append gate.head (records_of gate.so_far ++ gate.rest), length-append (records_of gate.so_far) gate.rest, gate.long, gate.here, gate.lies)
 
 -- after one more record the journal is on the file
-pub kept : (old new : List ℕ) (images : List ℕ → Type 0) (place : ℕ) (payload behind : List ℕ) (journal : JournalState) → behind ≡ behind_of payload → IsPut images place payload old new → journal.place ≡ min (place + length behind) (2 ^ 64 - 1) → IsKept images journal payload old new
+pub kept : (old new : List ℕ) (images : List ℕ → Type 0) (place : ℕ) (payload behind : List ℕ) (journal : JournalState) → behind ≡ behind_of payload → IsPut images place payload old new → journal.place ≡ min (place + length behind) (2 ^ 64 - 1) → IsKeptOn images journal payload old new
 kept old new images place payload behind journal same put is =
     let exact : journal.place ≡ place + length (behind_of payload) = place-exact new place (length (behind_of payload)) journal.place put.ready.small put.ready.shut.gate (is ∙ ap (λ (bs : List ℕ). min (place + length bs) (2 ^ 64 - 1)) same) in
     record {

@@ -1,11 +1,11 @@
 -- The two writes of one payload: first what stands behind the gate, and then the gate.
-use Rattle.std.proofs.Common.{◌≡◌, ◌≢◌, ◌<◌, ◌≤◌, ◌+◌, ℕ, List, [], ◌∷◌, ◌++◌, max}
-use Rattle.std.proofs.Common.{length, take, drop, get_or, refl, sym, ◌∙◌, ap, subst, arith, append_assoc, length-append, length-drop, take-append-drop}
+use Rattle.std.proofs.Common.{◌≡◌, ◌≢◌, ◌<◌, ◌≤◌, ◌+◌, ℕ, List, [], ◌∷◌, ◌++◌}
+use Rattle.std.proofs.Common.{length, take, drop, get_or, refl, sym, ◌∙◌, ap, subst, arith, append_assoc, length-append, take-append-drop}
 use Rattle.std.specs.List.{AllByRecursion}
 use Rattle.std.specs.Int.{w32, to_be_bytes}
-use Rattle.std.proofs.lemmas.List.{take_at, drop_at, drop_more, take_all, drop-drop, get_or_at}
+use Rattle.std.proofs.lemmas.List.{take_at, drop_at, drop_more, drop-drop, get_or_at}
 use Rattle.tb_disk.specs.Images.{IsWritten, Torn}
-use Rattle.tb_journal.specs.Records.{records_of, record_of, behind_of, HasLength, HasGate, ShutAt, stands_for}
+use Rattle.tb_journal.specs.Records.{records_of, record_of, behind_of, HasLength, ShutAt, stands_for}
 use Rattle.tb_journal.specs.Stops.{Ends}
 use Rattle.tb_journal.proofs.Standing.{Either, ends-shut, ends-either, records-append, each-append}
 

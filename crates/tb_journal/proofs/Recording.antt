@@ -1,7 +1,7 @@
 -- Two writes of which each is on the disk before the next: what stands behind a gate, and the gate.
-use Rattle.std.proofs.Common.{◌≡◌, ◌≢◌, ◌<◌, ◌≤◌, ◌^◌, ◌+◌, ℕ, List, [], ◌∷◌, ◌++◌, inl, ⊎_elim}
-use Rattle.std.proofs.Common.{length, take, min, ◌-◌, refl, sym, ◌∙◌, ap, subst, arith, length-append}
-use Rattle.tb_disk.specs.Images.{IsWritten, Torn, Only}
+use Rattle.std.proofs.Common.{◌≡◌, ◌≤◌, ◌^◌, ◌+◌, ℕ, List, [], ◌∷◌, ◌++◌, inl}
+use Rattle.std.proofs.Common.{length, take, min, ◌-◌, sym, ap, subst, arith, length-append}
+use Rattle.tb_disk.specs.Images.{IsWritten, Torn}
 use Rattle.tb_journal.specs.Records.{behind_of, records_of, HasLength, stands_for}
 use Rattle.tb_journal.specs.Stops.{Ends, EndsWithOrWithout}
 use Rattle.tb_journal.specs.Through.{IsThrough, IsReady, IsPut}

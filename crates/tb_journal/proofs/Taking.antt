@@ -1,5 +1,5 @@
 -- What is read at a gate, and what a journal makes of it.
-use Rattle.std.proofs.Common.{◌≡◌, ◌≢◌, ◌≤◌, ◌<◌, ◌^◌, ◌+◌, ◌-◌, ℕ, Bool, true, false, List, [], ◌∷◌, ◌++◌, inl, inr, min, length, take, drop, get_or, eq-eqb, refl, sym, ◌∙◌, ap, subst, arith, add-zero, length-drop}
+use Rattle.std.proofs.Common.{◌≡◌, ◌≢◌, ◌≤◌, ◌<◌, ◌+◌, ◌-◌, ℕ, Bool, true, false, List, [], ◌∷◌, ◌++◌, inl, inr, min, length, take, drop, get_or, eq-eqb, sym, ◌∙◌, ap, subst, arith, add-zero, length-drop}
 use Rattle.std.proofs.lemmas.Bool.{and_from, and_parts, eqb-true, lt-ltb}
 use Rattle.std.proofs.lemmas.List.{drop-drop, get_or-drop, get_or_default}
 use Rattle.std.specs.Prelude.{nat_lt}
@@ -9,8 +9,8 @@ use Rattle.tb_release.specs.declared.edits.Edit.{Edit}
 use Rattle.tb_spelling.specs.declared.limits.TheConstants.{MOST_PAYLOAD_BYTES}
 use Rattle.tb_spelling.specs.Payloads.{IsPayload}
 use Rattle.tb_spelling.specs.Spelling.{spelled}
-use Rattle.tb_journal.specs.Records.{is_whole, length_at, payload_at, payloads_before, stands_for, HasGate}
-use Rattle.tb_journal.specs.Reading.{AreBytes, IsBad, IsEnd, IsNextBatch, IsNoRecord, IsNumber, IsRecord, Tells, TellsFound, TellsNext}
+use Rattle.tb_journal.specs.Records.{length_at, payload_at, payloads_before, stands_for, HasGate}
+use Rattle.tb_journal.specs.Reading.{AreBytes, IsNextBatch, IsNoRecord, IsNumber, IsRecord, Tells, TellsFound, TellsNext}
 use Rattle.tb_journal.specs.States.{AfterNext, JournalState, last_place, place_after}
 use Rattle.tb_journal.specs.Stops.{IsOn}
 use Rattle.tb_journal.specs.Taking.{IsTaken}

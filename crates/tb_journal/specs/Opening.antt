@@ -27,12 +27,16 @@ IsOurs file = 9 < length file → take 8 file ≡ header
 abbrev pub opened_file : List ℕ → List ℕ
 opened_file file = if nat_le (length file) 9 then header ++ 0 ∷ [] else file
 
--- new is old, or was written anew; so it stands for the same payloads as old; the journal is on it,
--- and no payload stands before its place
-pub record IsOpened (may_leave : List ℕ → Type 0) (old new : List ℕ) : Type 0 where
+-- new is old, or was written anew; so it stands for the same payloads as old, and none of them
+-- stands before the place of a journal that was just opened
+pub record IsOpened (old new : List ℕ) : Type 0 where
   pub is : new ≡ opened_file old
   pub stands : stands_for new ≡ stands_for old
   pub before : payloads_before opened.place new ≡ []
+
+-- and the journal is on it
+pub record IsBegun (may_leave : List ℕ → Type 0) (old new : List ℕ) : Type 0 where
+  pub as_opened : IsOpened old new
   pub on : IsOn new may_leave opened
 
 -- it is one of these files, or neither has more than nine bytes; so it stands for the same payloads

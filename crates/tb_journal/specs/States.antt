@@ -1,6 +1,5 @@
 -- What a journal knows, and what each of its calls leaves of that.
-use Rattle.std.specs.Prelude.{◌≡◌, ◌+◌, ◌-◌, ◌^◌, ℕ, Bool, true, false, List, length, min}
-use Rattle.tb_release.specs.declared.edits.Edit.{Edit}
+use Rattle.std.specs.Prelude.{◌≡◌, ◌+◌, ◌-◌, ◌^◌, ℕ, Bool, true, false, length, min}
 use Rattle.tb_spelling.specs.Spelling.{spelled}
 use Rattle.tb_journal.specs.declared.recovered.Recovered.{Recovered}
 use Rattle.tb_journal.specs.declared.recovered.Recovered.TheVariants.{Batch, End, BadRecord, DiskFault, Memory}

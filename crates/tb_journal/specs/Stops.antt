@@ -1,5 +1,5 @@
 -- A journal beside its disk's file, and what a stop may leave of it.
-use Rattle.std.specs.Prelude.{◌≡◌, ◌≢◌, ◌<◌, ◌^◌, ◌⊎◌, ℕ, Bool, true, List, [], ◌∷◌, ◌++◌, length, take, get_or}
+use Rattle.std.specs.Prelude.{◌≡◌, ◌≢◌, ◌<◌, ◌^◌, ◌⊎◌, ℕ, true, List, [], ◌∷◌, ◌++◌, length, take, get_or}
 use Rattle.tb_disk.specs.Images.{Only}
 use Rattle.tb_journal.specs.Records.{HasGate, IsShut, stands_for, end_of}
 use Rattle.tb_journal.specs.States.{JournalState}
@@ -25,7 +25,11 @@ abbrev pub EndsWithOrWithout : List ℕ → List ℕ → List ℕ → Type 0
 EndsWithOrWithout old payload file =
     Ends (take 8 old) (stands_for old) file ⊎ Ends (take 8 old) (stands_for old ++ payload ∷ []) file
 
--- new stands for one payload more than old, and the journal is on it
-pub record IsKept (may_leave : List ℕ → Type 0) (journal : JournalState) (payload old new : List ℕ) : Type 0 where
+-- new stands for one payload more than old
+abbrev pub IsKept : List ℕ → List ℕ → List ℕ → Type 0
+IsKept payload old new = Ends (take 8 old) (stands_for old ++ payload ∷ []) new
+
+-- and the journal is on it
+pub record IsKeptOn (may_leave : List ℕ → Type 0) (journal : JournalState) (payload old new : List ℕ) : Type 0 where
   pub ends : Ends (take 8 old) (stands_for old ++ payload ∷ []) new
   pub on : IsOn new may_leave journal

@@ -8,7 +8,7 @@ ghost use Rattle.tb_spelling.specs.Payloads.{CanBeSpelled};
 ghost use Rattle.tb_spelling.specs.Spelling.{spelled};
 ghost use Rattle.tb_journal.specs.Records.{HasLength, behind_of, payload_behind};
 ghost use Rattle.tb_journal.specs.States.{AfterNext, JournalState, opened, place_after};
-ghost use Rattle.tb_journal.specs.Stops.{EndsWithOrWithout, IsKept, IsOn};
+ghost use Rattle.tb_journal.specs.Stops.{EndsWithOrWithout, IsKept, IsKeptOn, IsOn};
 ghost use Rattle.tb_journal.specs.Opening.{IsForeign, IsOpened, IsOurs, StandsAsOne};
 ghost use Rattle.tb_journal.specs.Reading.{IsSizeFound, Tells};
 ghost use Rattle.tb_journal.specs.Taking.{IsTaken};
@@ -66,8 +66,10 @@ impl Journal {
         ensures attached { D.attached disk.new ≡ true }
         ensures only { (result.0 ≡ opening.Open) ↔ IsSome result.1 }
         ensures fresh { IfSome result.1 (λ journal. journal ≡ opened) }
-        ensures opened { IsSome result.1 →
-            Leads (D.content disk.old) (D.content disk.new) (IsOpened (D.may_leave disk.new)) }
+        ensures opened { result.0 ≡ opening.Open →
+            Leads (D.content disk.old) (D.content disk.new) IsOpened }
+        ensures on { result.0 ≡ opening.Open → WhereTold (D.content disk.new)
+            (λ file. IsOn file (D.may_leave disk.new) opened) }
         ensures ours { result.0 ≡ opening.Open → WhereTold (D.content disk.old) IsOurs }
         ensures foreign { result.0 ≡ opening.NotJournal → WhereTold (D.content disk.old) IsForeign }
         ensures any_moment { WhereTold (D.content disk.old) (λ _. LeavesOnly D.moment D.left_since
@@ -178,8 +180,10 @@ impl Journal {
             (λ file. IsOn file (D.may_leave disk.old) self.old) }
 
         ensures attached { D.attached disk.new ≡ true }
-        ensures kept { result ≡ put.Kept → Leads (D.content disk.old) (D.content disk.new)
-            (IsKept (D.may_leave disk.new) self.new (spelled edits.now)) }
+        ensures kept { result ≡ put.Kept →
+            Leads (D.content disk.old) (D.content disk.new) (IsKept (spelled edits.now)) }
+        ensures on { result ≡ put.Kept → WhereTold (D.content disk.new)
+            (λ file. IsOn file (D.may_leave disk.new) self.new) }
         ensures any_moment { WhereTold (D.content disk.old) (λ file. LeavesOnly D.moment D.left_since
             disk.old disk.new (EndsWithOrWithout file (spelled edits.now))) }
         ensures state { result ≡ put.Kept → self.new ≡ record self.old {
@@ -209,7 +213,7 @@ impl Journal {
 
         ensures attached { D.attached disk.new ≡ true }
         ensures kept { result ≡ put.Kept → Leads (D.content disk.old) (D.content disk.new)
-            (IsKept (D.may_leave disk.new) self.new (payload_behind behind.now)) }
+            (IsKeptOn (D.may_leave disk.new) self.new (payload_behind behind.now)) }
         ensures any_moment { WhereTold (D.content disk.old) (λ file. LeavesOnly D.moment D.left_since
             disk.old disk.new (EndsWithOrWithout file (payload_behind behind.now))) }
         ensures state { result ≡ put.Kept → self.new ≡ record self.old {

@@ -4,7 +4,7 @@ ghost use Rattle.std.specs.Prelude.{◌≡◌, ◌≢◌, ◌≤◌, ◌<◌, tr
 ghost use Rattle.tb_io.specs.Faults.{HasRisen};
 ghost use Rattle.tb_disk.specs.Images.{Fewer, Leads, Only, WhereTold};
 ghost use Rattle.tb_disk.specs.Moments.{LeavesOnly};
-ghost use Rattle.tb_journal.specs.Opening.{IsOpened, IsForeign, IsOurs, IsFew, IsLong, StandsAsOne};
+ghost use Rattle.tb_journal.specs.Opening.{IsBegun, IsForeign, IsOurs, IsFew, IsLong, StandsAsOne};
 ghost use Rattle.tb_journal.specs.Opening.{header};
 ghost use Rattle.tb_journal.specs.declared.opening.JournalOpen.TheVariants as opening;
 
@@ -32,7 +32,7 @@ pub(crate) fn begin<D: Disk>(disk: &mut D) -> JournalOpen
     requires attached { D.attached disk.old ≡ true }
     ensures attached { D.attached disk.new ≡ true }
     ensures opened { result ≡ opening.Open →
-        Leads (D.content disk.old) (D.content disk.new) (IsOpened (D.may_leave disk.new)) }
+        Leads (D.content disk.old) (D.content disk.new) (IsBegun (D.may_leave disk.new)) }
     ensures ours { result ≡ opening.Open → WhereTold (D.content disk.old) IsOurs }
     ensures foreign { result ≡ opening.NotJournal → WhereTold (D.content disk.old) IsForeign }
     ensures any_moment { WhereTold (D.content disk.old) (λ _. LeavesOnly D.moment D.left_since
@@ -54,7 +54,7 @@ fn look<D: Disk>(disk: &mut D) -> JournalOpen
     requires durable { WhereTold (D.content disk.old) (λ file. Only file (D.may_leave disk.old)) }
     ensures attached { D.attached disk.new ≡ true }
     ensures opened { result ≡ opening.Open →
-        Leads (D.content disk.old) (D.content disk.new) (IsOpened (D.may_leave disk.new)) }
+        Leads (D.content disk.old) (D.content disk.new) (IsBegun (D.may_leave disk.new)) }
     ensures ours { result ≡ opening.Open → WhereTold (D.content disk.old) IsOurs }
     ensures foreign { result ≡ opening.NotJournal → WhereTold (D.content disk.old) IsForeign }
     ensures any_moment { WhereTold (D.content disk.old) (λ _. LeavesOnly D.moment D.left_since
@@ -77,7 +77,7 @@ fn start<D: Disk>(disk: &mut D, size: u64) -> JournalOpen
     requires durable { WhereTold (D.content disk.old) (λ file. Only file (D.may_leave disk.old)) }
     ensures attached { D.attached disk.new ≡ true }
     ensures opened { result ≡ opening.Open →
-        Leads (D.content disk.old) (D.content disk.new) (IsOpened (D.may_leave disk.new)) }
+        Leads (D.content disk.old) (D.content disk.new) (IsBegun (D.may_leave disk.new)) }
     ensures ours { result ≡ opening.Open → WhereTold (D.content disk.old) IsOurs }
     ensures foreign { result ≡ opening.NotJournal → WhereTold (D.content disk.old) IsForeign }
     ensures any_moment { WhereTold (D.content disk.old) (λ _. LeavesOnly D.moment D.left_since
@@ -100,7 +100,7 @@ fn start_anew<D: Disk>(disk: &mut D) -> JournalOpen
     requires durable { WhereTold (D.content disk.old) (λ file. Only file (D.may_leave disk.old)) }
     ensures attached { D.attached disk.new ≡ true }
     ensures opened { result ≡ opening.Open →
-        Leads (D.content disk.old) (D.content disk.new) (IsOpened (D.may_leave disk.new)) }
+        Leads (D.content disk.old) (D.content disk.new) (IsBegun (D.may_leave disk.new)) }
     ensures ours { result ≡ opening.Open → WhereTold (D.content disk.old) IsOurs }
     ensures foreign { result ≡ opening.NotJournal → WhereTold (D.content disk.old) IsForeign }
     ensures any_moment { WhereTold (D.content disk.old) (λ _. LeavesOnly D.moment D.left_since
@@ -122,7 +122,7 @@ fn read_header<D: Disk>(disk: &mut D) -> JournalOpen
     requires durable { WhereTold (D.content disk.old) (λ file. Only file (D.may_leave disk.old)) }
     ensures attached { D.attached disk.new ≡ true }
     ensures opened { result ≡ opening.Open →
-        Leads (D.content disk.old) (D.content disk.new) (IsOpened (D.may_leave disk.new)) }
+        Leads (D.content disk.old) (D.content disk.new) (IsBegun (D.may_leave disk.new)) }
     ensures ours { result ≡ opening.Open → WhereTold (D.content disk.old) IsOurs }
     ensures foreign { result ≡ opening.NotJournal → WhereTold (D.content disk.old) IsForeign }
     ensures any_moment { WhereTold (D.content disk.old) (λ _. LeavesOnly D.moment D.left_since

@@ -1,4 +1,4 @@
-use Rattle.std.proofs.Common.{refl, sym, ◌∙◌}
+use Rattle.std.proofs.Common.{◌∙◌}
 use Rattle.tb_disk.proofs.Telling.{Leads-first}
 use Rattle.tb_disk.proofs.Going.{starts, goes_on, joins, weaker}
 use Rattle.tb_journal.specs.Opening.{StandsAsOne}

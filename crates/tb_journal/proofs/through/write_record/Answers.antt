@@ -1,4 +1,4 @@
-use Rattle.std.proofs.Common.{[], ◌∷◌, length, refl}
+use Rattle.std.proofs.Common.{refl}
 use Rattle.tb_disk.proofs.Going.{joins, weaker}
 use Rattle.tb_disk.proofs.Telling.{forward, back, Leads-then}
 use Rattle.tb_journal.specs.Records.{payload_behind}

@@ -1,7 +1,7 @@
-use Rattle.std.proofs.Common.{List, ℕ, take, inl, sym, subst}
-use Rattle.tb_disk.specs.Images.{Leads}
+use Rattle.std.proofs.Common.{List, ℕ, take, inl, refl, sym, subst}
 use Rattle.tb_disk.specs.Moments.{LeavesOnly}
 use Rattle.tb_disk.proofs.Going.{starts}
+use Rattle.tb_disk.proofs.Telling.{back, Leads-same}
 use Rattle.tb_spelling.specs.Spelling.{spelled}
 use Rattle.tb_journal.specs.Records.{stands_for}
 use Rattle.tb_journal.specs.Stops.{Ends, EndsWithOrWithout, IsKept}
@@ -13,7 +13,11 @@ put_record-requires-clause-behind g c = behind-so c.as_slice.result.now c.in-Ok.
 
 pub returns-in-Ok-clause-kept : goal.returns-in-Ok-clause-kept
 returns-in-Ok-clause-kept g c = λ is.
-    subst (λ (p : List ℕ). Leads (g.D.Disk.content c.args.disk.now) (g.D.Disk.content c.put_record.new.disk) (IsKept (g.D.Disk.may_leave c.put_record.new.disk) c.put_record.new.self p)) (payload-of c.as_slice.result.now c.in-Ok.behind.items (spelled c.args.edits.now) c.as_slice.ensures.value c.in-Ok.ensures.behind) (c.put_record.ensures.kept is)
+    Leads-same _ _ _ _ _ (c.put_record.ensures.kept is) refl
+    (λ old new was told kept. subst (λ (p : List ℕ). IsKept p old new) (payload-of c.as_slice.result.now c.in-Ok.behind.items (spelled c.args.edits.now) c.as_slice.ensures.value c.in-Ok.ensures.behind) kept.ends)
+
+pub returns-in-Ok-clause-on : goal.returns-in-Ok-clause-on
+returns-in-Ok-clause-on g c = λ is file now. (back _ _ _ (c.put_record.ensures.kept is) file now).2.on
 
 pub returns-in-Ok-clause-any_moment : goal.returns-in-Ok-clause-any_moment
 returns-in-Ok-clause-any_moment g c = λ file told.
