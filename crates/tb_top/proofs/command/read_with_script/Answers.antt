@@ -1,13 +1,13 @@
 use Rattle.std.proofs.Common.{◌≡◌, ◌∙◌, arith, length, map, string_bytes}
 use Rattle.std.proofs.lemmas.List.{length-map}
-use Rattle.tb_top.proofs.CommandWords.{lanes-named, is-equal, word-read}
-use Rattle.tb_top.proofs.lanes_words.read_lanes_words.Goals as goal
+use Rattle.tb_top.proofs.CommandWords.{is-equal, with-script, word-read}
+use Rattle.tb_top.proofs.command.read_with_script.Goals as goal
 
 pub returns : goal.returns
 returns c =
     let words = c.args.words.now in
     let seven : length words ≡ 7 = omega (arith, c.in-len7.len_at_least, c.in-len7.len_below) in
-    c.read_lanes.ensures ∙ lanes-named (map string_bytes words) _ _ _ _ _ _ _ (length-map words string_bytes ∙ seven)
+    c.read_script_inputs.ensures ∙ with-script c.args.word.now (map string_bytes words) _ _ _ _ _ _ _ (length-map words string_bytes ∙ seven)
     (word-read words string_bytes 0 c.command-item.result c.as_str.result.now
     (omega (arith, c.in-len7.len_at_least)) c.command-item.is c.as_str.ensures.value)
     (is-equal _ c.if-ne.ensures)
