@@ -21,7 +21,7 @@ use Rattle.tb_release.specs.Chains.{change_count, release_after}
 use Rattle.tb_core.specs.Advancing.{CanAdvanceAlong}
 use Rattle.tb_core.specs.Desks.{DeskValue, HasCube, IsCubeAt, IsSound, current_of, release_at}
 use Rattle.tb_core.specs.Got.{is_new, is_own}
-use Rattle.tb_core.specs.Takes.{IsHit, IsTaken, cost_by, cost_of, found_in, number_of, release_in}
+use Rattle.tb_core.specs.Takes.{IsHit, IsTaken, cost_by, cost_of, found_in, number_of, release_in, shape_of_hit}
 use Rattle.tb_core.specs.Turns.{HitValue, hit_at, hit_for}
 use Rattle.tb_core.specs.Views.{hit_of}
 use Rattle.tb_core.specs.declared.desk.Hit.{Hit}
@@ -107,7 +107,7 @@ module _ (shape : List ℕ) (base : ReleaseValue) (chain : List BatchValue) (var
       ∙ ap (λ n. cube_over shape vars (release_at base chain n).records) same ∙ ap (λ (r : ReleaseValue). cube_over shape vars r.records) (sym t.release_is)
 
   -- its shape and the records that it holds
-  shape_found : (hit : Hit) → taken.hit ≡ Some hit → (arc_value hit.cube).shape ≡ shape
+  pub shape_found : (hit : Hit) → taken.hit ≡ Some hit → shape_of_hit hit ≡ shape
   shape_found hit is = ap (λ (c : CubeValue). c.shape) (is_found hit is).cube
 
   release_found : (hit : Hit) → taken.hit ≡ Some hit → IsAfter shape base (take hit.number chain)

@@ -6,6 +6,7 @@ use Rattle.tb_base.specs.Sets.{includes_all}
 use Rattle.tb_core.specs.Desks.{IsRevised, release_at}
 use Rattle.tb_core.specs.Turns.{HitValue}
 use Rattle.tb_core.specs.Views.{hit_of}
+use Rattle.tb_core.specs.declared.desk.Hit.{Hit}
 use Rattle.tb_core.specs.declared.desk.Taken.{Taken}
 use Rattle.tb_cube.specs.Cubes.{cube_over}
 use Rattle.tb_model.specs.Releases.{ReleaseValue}
@@ -23,6 +24,10 @@ number_of taken = (release_in taken).number
 -- the variables of the cube that was found and the number of its release, if one was
 abbrev pub found_in : Taken → Option (List ℕ × ℕ)
 found_in taken = option_map (λ hit. ((hit_of hit).cube.vars, hit.number)) taken.hit
+
+-- the shape of the records that the cube that was found holds
+abbrev pub shape_of_hit : Hit → List ℕ
+shape_of_hit hit = (hit_of hit).cube.shape
 
 -- the cube of release m over some variables, for a caller at release n of a chain
 abbrev pub hit_to : List ℕ → ReleaseValue → List BatchValue → List ℕ → ℕ → ℕ → HitValue

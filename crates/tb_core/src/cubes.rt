@@ -10,7 +10,7 @@ ghost use Rattle.tb_core.specs.Advancing.{CanAdvanceAlong};
 ghost use Rattle.tb_core.specs.Desks.{HasCube};
 ghost use Rattle.tb_core.specs.Got.{cube_got, is_made, is_new, is_own as is_the_own};
 ghost use Rattle.tb_core.specs.Takes.{cost_of, cube_price, found_in, number_of, release_in};
-ghost use Rattle.tb_core.specs.Takes.{IsTaken};
+ghost use Rattle.tb_core.specs.Takes.{IsTaken, shape_of_hit};
 ghost use Rattle.tb_core.specs.Views.{hit_of};
 ghost use Rattle.tb_cube.specs.Cubes.{cell_count, cube_over, unpacked, Holds};
 ghost use Rattle.tb_grid.specs.declared.products.TheConstants.{MOST_CELLS};
@@ -86,14 +86,13 @@ pub fn lead_on<L: Ledger>(
     steps: &mut Steps<L>,
 ) -> Result<CubeFor, Memory>
     requires hit { taken.now.hit ≡ Some hit.now }
-    requires taken { (shape : List ℕ) × (base : ReleaseValue) × (chain : List BatchValue)
-        × HasCube shape vars.now × IsTaken shape base chain vars.now taken.now }
+    requires has { HasCube (shape_of_hit hit.now) vars.now }
+    requires taken { (base : ReleaseValue) × (chain : List BatchValue)
+        × IsTaken (shape_of_hit hit.now) base chain vars.now taken.now }
     ensures price { steps.new ≤ steps.old + cost_of taken.now }
     ensures cost { OnOk result (steps.new ≡ steps.old + cost_of taken.now) }
-    // Of whatever chain it was taken.
-    ensures cube { (shape : List ℕ) (base : ReleaseValue) (chain : List BatchValue)
-        → IsTaken shape base chain vars.now taken.now → IfOk result (λ got. cube_got got
-        ≡ cube_over shape vars.now (release_in taken.now).records) }
+    ensures cube { IfOk result (λ got. cube_got got
+        ≡ cube_over (shape_of_hit hit.now) vars.now (release_in taken.now).records) }
     ensures made { IfOk result (λ got. is_made got
         ≡ is_new (number_of taken.now) vars.now (found_in taken.now)) }
     ensures kept { IfOk result (λ got. (is_made got ≡ false)

@@ -27,39 +27,6 @@ drop-map f (suc n) (x ∷ xs) = drop-map f n xs
 pub between-map : {X Y : Type 0} (f : X → Y) (from to : ℕ) (xs : List X) → between from to (map f xs) ≡ map f (between from to xs)
 between-map f from to xs = ap (λ ys. drop from ys) (take-map f to xs) ∙ drop-map f from (take to xs)
 
--- of some numbers, the first k are changed, each by its place
-abbrev pub ChangedBelow : ℕ → (ℕ → ℕ → ℕ) → ℕ → List ℕ → List ℕ → Type 0
-ChangedBelow k change n old new =
-    (i : ℕ) → i < n → get_or new i 0 ≡ cond (nat_lt i k) (change i (get_or old i 0)) (get_or old i 0)
-
-pub none-changed : (change : ℕ → ℕ → ℕ) (n : ℕ) (old : List ℕ) → ChangedBelow 0 change n old old
-none-changed change n old i below = sym (ap (λ b. cond b (change i (get_or old i 0)) (get_or old i 0)) (le-ltb i 0 (omega arith)))
-
-same-below : (i k : ℕ) → (i ≡ k → ⊥) → nat_lt i k ≡ nat_lt i (k + 1)
-same-below i k apart = elim (cases_lt i k) [
-  | inl low ↦ lt-ltb i k low ∙ sym (lt-ltb i (k + 1) (omega (arith, low)))
-  | inr high ↦
-      let above : k + 1 ≤ i = omega (arith, high, apart) in
-      le-ltb i k high ∙ sym (le-ltb i (k + 1) above)
-]
-
-pub one-changed : (k : ℕ) (change : ℕ → ℕ → ℕ) (n : ℕ) (old numbers : List ℕ) (value : ℕ) → n ≤ length numbers → k < n
-    → value ≡ change k (get_or numbers k 0) → ChangedBelow k change n old numbers → ChangedBelow (k + 1) change n old (set numbers k value)
-one-changed k change n old numbers value long there made before i below =
-    elim (eqb_tells i k) [
-      | inl h ↦
-          let was : get_or numbers k 0 ≡ get_or old k 0 = before k there ∙ ap (λ b. cond b (change k (get_or old k 0)) (get_or old k 0)) (le-ltb k k (omega arith)) in
-          rw (h.1, lt-ltb k (k + 1) (omega arith), get_or-set_same numbers k value 0 (omega (arith, there, long))) (made ∙ ap (change k) was)
-      | inr h ↦
-          get_or-set_other numbers k i value 0 h.1 ∙ before i below
-          ∙ ap (λ b. cond b (change i (get_or old i 0)) (get_or old i 0)) (same-below i k h.1)
-    ]
-
-pub all-changed : (k : ℕ) (change : ℕ → ℕ → ℕ) (n : ℕ) (old new : List ℕ) → n ≤ k → ChangedBelow k change n old new
-    → (i : ℕ) → i < n → get_or new i 0 ≡ change i (get_or old i 0)
-all-changed k change n old new done before i below =
-    before i below ∙ ap (λ b. cond b (change i (get_or old i 0)) (get_or old i 0)) (lt-ltb i k (omega (arith, below, done)))
-
 -- what a code leads on by
 abbrev pub led_on : List ℕ → ℕ → ℕ → ℕ → ℕ
 led_on codes stride i n = (n + get_or codes i 0 * stride) % 2 ^ 32

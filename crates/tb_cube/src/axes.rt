@@ -40,8 +40,8 @@ pub fn offset_of(axis: Axis, one: &Record) -> usize
     one.codes.at(axis.variable as usize) as usize * axis.stride as usize
 }
 
-// The number of a record's cell, whatever the number of variables.
-fn number_by_any(axes: &[Axis], one: &Record) -> usize
+/// The number of a record's cell.
+pub fn number_of(axes: &[Axis], one: &Record) -> usize
     requires { LeadsBelow MOST_CELLS axes.now one.now }
     ensures { result ≡ number_by axes.now (category_at one.now) }
 {
@@ -50,31 +50,4 @@ fn number_by_any(axes: &[Axis], one: &Record) -> usize
         number += offset_of(*axis, one);
     }
     number
-}
-
-// The same by four variables, without a loop.
-#[inline]
-fn number_by_four(axes: &[Axis], one: &Record) -> usize
-    requires axes { length axes.now ≡ 4 }
-    requires lead { LeadsBelow MOST_CELLS axes.now one.now }
-    ensures { result ≡ number_by axes.now (category_at one.now) }
-{
-    let by_v = offset_of(axes[0], one);
-    let by_w = offset_of(axes[1], one);
-    let by_x = offset_of(axes[2], one);
-    let by_y = offset_of(axes[3], one);
-    by_v + by_w + by_x + by_y
-}
-
-/// The number of a record's cell.
-#[inline]
-pub fn number_of(axes: &[Axis], one: &Record) -> usize
-    requires { LeadsBelow MOST_CELLS axes.now one.now }
-    ensures { result ≡ number_by axes.now (category_at one.now) }
-{
-    if axes.len() == 4 {
-        number_by_four(axes, one)
-    } else {
-        number_by_any(axes, one)
-    }
 }

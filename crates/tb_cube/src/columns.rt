@@ -12,15 +12,13 @@ ghost use Rattle.tb_grid.specs.declared.products.TheConstants.{MOST_CELLS};
 ghost use Rattle.tb_base.specs.Cells.{IsReduced};
 ghost use Rattle.tb_base.specs.Pieces.{between, code_column, key_column};
 ghost use Rattle.tb_cube.specs.declared.axes.Axis.{Axis as AnyAxis};
-ghost use Rattle.tb_cube.specs.declared.columns.TheConstants.{MOST_NUMBERED};
 ghost use Rattle.tb_cube.specs.Axes.{codes_by, numbers_by, with_all, AreNumbered, LeadsBelow};
+ghost use Rattle.tb_model.specs.declared.rooms.TheConstants.{PAGE_ROOM};
 
 use crate::axes::Axis;
 use crate::putting::put_all;
 use tb_base::{Cell, MOST_TALLIED, Piece, Record, add_tallies, know_cells};
-
-// So many records at most are read by column at once: a whole page.
-const MOST_NUMBERED: usize = 1024;
+use tb_model::PAGE_ROOM;
 
 // The elements from one place up to another, as far as they go.
 fn part<T>(items: &[T], from: usize, to: usize) -> &[T]
@@ -104,8 +102,8 @@ fn add_by_two(
 }
 
 // Adds how far each code leads to its number.
-fn add_offsets(codes: &[u16], stride: u32, numbers: &mut [u32; MOST_NUMBERED])
-    requires { length codes.now ≤ MOST_NUMBERED }
+fn add_offsets(codes: &[u16], stride: u32, numbers: &mut [u32; PAGE_ROOM])
+    requires { length codes.now ≤ PAGE_ROOM }
     ensures { (i : ℕ) → i < length codes.now → slice_index numbers.new i
         ≡ (slice_index numbers.old i + slice_index codes.now i * stride) % 2 ^ 32 }
 {
@@ -122,10 +120,10 @@ fn write_numbers(
     piece: &Piece,
     from: usize,
     to: usize,
-    numbers: &mut [u32; MOST_NUMBERED],
+    numbers: &mut [u32; PAGE_ROOM],
 ) -> bool
-    requires zero { numbers.old ≡ replicate MOST_NUMBERED 0 }
-    requires few { length (between from to piece.now) ≤ MOST_NUMBERED }
+    requires zero { numbers.old ≡ replicate PAGE_ROOM 0 }
+    requires few { length (between from to piece.now) ≤ PAGE_ROOM }
     requires lead { All (LeadsBelow MOST_CELLS axes.now) (between from to piece.now) }
     ensures { result ≡ true → take (length (between from to piece.now)) numbers.new
         ≡ numbers_by axes.now (between from to piece.now) }
@@ -159,7 +157,7 @@ fn tally_numbered(cells: &mut [Cell], numbers: &[u32], keys: &[u16])
     requires few { length cells.old ≤ MOST_TALLIED }
     requires reduced { All IsReduced cells.old }
     requires same { length numbers.now ≡ length keys.now }
-    requires short { length keys.now ≤ MOST_NUMBERED }
+    requires short { length keys.now ≤ PAGE_ROOM }
     requires room { All (λ c. c.count + length keys.now < 2 ^ 32) cells.old }
     ensures { (axes : List AnyAxis) (records : List AnyRecord)
         → AreNumbered (length cells.old) axes records numbers.now keys.now
@@ -174,7 +172,7 @@ fn tally_numbered(cells: &mut [Cell], numbers: &[u32], keys: &[u16])
 fn put_by_numbers(cells: &mut [Cell], numbers: &[u32], keys: &[u16])
     requires there { All (λ n. n < length cells.old) numbers.now }
     requires same { length numbers.now ≡ length keys.now }
-    requires short { length keys.now ≤ MOST_NUMBERED }
+    requires short { length keys.now ≤ PAGE_ROOM }
     requires room { All (λ c. c.count + length keys.now < 2 ^ 32) cells.old }
     requires reduced { All IsReduced cells.old }
     ensures { (axes : List AnyAxis) (records : List AnyRecord)
@@ -234,10 +232,10 @@ fn put_by_any(cells: &mut [Cell], axes: &[Axis], piece: &Piece, from: usize, to:
     ensures { cells.new ≡ with_all axes.now cells.old (between from to piece.now) }
 {
     let records = part(piece.records(), from, to);
-    if records.len() > MOST_NUMBERED {
+    if records.len() > PAGE_ROOM {
         return put_all(cells, axes, records);
     }
-    let mut numbers = [0; MOST_NUMBERED];
+    let mut numbers = [0; PAGE_ROOM];
     let all_there = write_numbers(axes, piece, from, to, &mut numbers);
     if all_there {
         let keys = keys_in(piece, from, to);

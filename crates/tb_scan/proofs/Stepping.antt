@@ -10,6 +10,7 @@ use Rattle.tb_base.specs.Records.{category_at}
 use Rattle.tb_base.specs.Parts.{modulus, part_at, weight, Part}
 use Rattle.tb_base.proofs.TallyLemmas.{at_place, ArePutBy}
 use Rattle.tb_model.proofs.SumLemmas.{sum_by-ext}
+use Rattle.tb_grid.proofs.Changing.{all-changed, none-changed, one-changed, ChangedBelow}
 use Rattle.tb_plan.specs.Plans.{PlanValue}
 use Rattle.tb_plan.specs.Steps.{number_at}
 use Rattle.tb_scan.specs.Scanning.{added, numbers_of, ArePut}
@@ -18,43 +19,26 @@ use Rattle.tb_scan.specs.Scanning.{added, numbers_of, ArePut}
 no_record : Record
 no_record = record { person = 0; key = 0; codes = [] }
 
+-- a number to which the step of a chunk's record is added, as far as a u32 goes
+abbrev pub stepped : (Record → ℕ) → List Record → Record → ℕ → ℕ → ℕ
+stepped step chunk one i n = min (n + step (get_or chunk i one)) (2 ^ 32 - 1)
+
 -- of the numbers of a chunk, the first k have a step added
 abbrev pub SteppedBelow : ℕ → (Record → ℕ) → List Record → List ℕ → List ℕ → Type 0
-SteppedBelow k step chunk old new =
-    (one : Record) (i : ℕ) → i < length chunk
-    → get_or new i 0 ≡ cond (nat_lt i k) (min (get_or old i 0 + step (get_or chunk i one)) (2 ^ 32 - 1)) (get_or old i 0)
+SteppedBelow k step chunk old new = (one : Record) → ChangedBelow k (stepped step chunk one) (length chunk) old new
 
-same-below : (i k : ℕ) → (i ≡ k → ⊥) → nat_lt i k ≡ nat_lt i (k + 1)
-same-below i k apart = elim (cases_lt i k) [
-  | inl low ↦ lt-ltb i k low ∙ sym (lt-ltb i (k + 1) (omega (arith, low)))
-  | inr high ↦
-      let above : k + 1 ≤ i = omega (arith, high, apart) in
-      le-ltb i k high ∙ sym (le-ltb i (k + 1) above)
-]
+pub none-stepped : (step : Record → ℕ) (chunk : List Record) (old : List ℕ) → SteppedBelow 0 step chunk old old
+none-stepped step chunk old one = none-changed (stepped step chunk one) (length chunk) old
 
 pub stepped-more : (k : ℕ) (step : Record → ℕ) (chunk : List Record) (old numbers : List ℕ) (value : ℕ) → length chunk ≤ length numbers → k < length chunk
     → ((one : Record) → value ≡ min (get_or numbers k 0 + step (get_or chunk k one)) (2 ^ 32 - 1))
     → SteppedBelow k step chunk old numbers → SteppedBelow (k + 1) step chunk old (set numbers k value)
-stepped-more k step chunk old numbers value long there made before one i below =
-    elim (eqb_tells i k) [
-      | inl h ↦
-          let within : k < length numbers = omega (arith, there, long) in
-          let was : get_or numbers k 0 ≡ get_or old k 0 = before one k there ∙ ap (λ b. cond b (min (get_or old k 0 + step (get_or chunk k one)) (2 ^ 32 - 1)) (get_or old k 0)) (le-ltb k k (omega arith)) in
-          rw (h.1, lt-ltb k (k + 1) (omega arith), get_or-set_same numbers k value 0 within)
-          (made one ∙ ap (λ n. min (n + step (get_or chunk k one)) (2 ^ 32 - 1)) was)
-      | inr h ↦
-          get_or-set_other numbers k i value 0 h.1 ∙ before one i below
-          ∙ ap (λ b. cond b (min (get_or old i 0 + step (get_or chunk i one)) (2 ^ 32 - 1)) (get_or old i 0)) (same-below i k h.1)
-    ]
-
-pub none-stepped : (step : Record → ℕ) (chunk : List Record) (old : List ℕ) → SteppedBelow 0 step chunk old old
-none-stepped step chunk old one i below =
-    sym (ap (λ b. cond b (min (get_or old i 0 + step (get_or chunk i one)) (2 ^ 32 - 1)) (get_or old i 0)) (le-ltb i 0 (omega arith)))
+stepped-more k step chunk old numbers value long there made before one =
+    one-changed k (stepped step chunk one) (length chunk) old numbers value long there (made one) (before one)
 
 pub all-stepped : (k : ℕ) (step : Record → ℕ) (chunk : List Record) (old new : List ℕ) → length chunk ≤ k → SteppedBelow k step chunk old new
     → (one : Record) (i : ℕ) → i < length chunk → get_or new i 0 ≡ min (get_or old i 0 + step (get_or chunk i one)) (2 ^ 32 - 1)
-all-stepped k step chunk old new done before one i below =
-    before one i below ∙ ap (λ b. cond b (min (get_or old i 0 + step (get_or chunk i one)) (2 ^ 32 - 1)) (get_or old i 0)) (lt-ltb i k (omega (arith, below, done)))
+all-stepped k step chunk old new done before one = all-changed k (stepped step chunk one) (length chunk) old new done (before one)
 
 -- a step more, as far as a u32 goes
 pub cap-add : (s x : ℕ) → min (min s (2 ^ 32 - 1) + x) (2 ^ 32 - 1) ≡ min (s + x) (2 ^ 32 - 1)

@@ -1,6 +1,7 @@
 use Rattle.std.proofs.Common.{◌*◌, ◌^◌, length, get_or, arith}
 use Rattle.std.proofs.Math.Nat.{add-mod-mod}
-use Rattle.tb_cube.proofs.ByColumn.{all-changed, led_on, none-changed, one-changed}
+use Rattle.tb_cube.proofs.ByColumn.{led_on}
+use Rattle.tb_grid.proofs.Changing.{all-changed, none-changed, one-changed}
 use Rattle.tb_cube.proofs.columns.add_offsets.Goals as goal
 
 pub loop-k-init : goal.loop-k-init

@@ -1,5 +1,6 @@
 use Rattle.std.proofs.Common.{length}
-use Rattle.tb_cube.proofs.ByColumn.{led_on, ChangedBelow}
+use Rattle.tb_cube.proofs.ByColumn.{led_on}
+use Rattle.tb_grid.proofs.Changing.{ChangedBelow}
 use Rattle.tb_cube.proofs.columns.add_offsets.Given as goal
 
 abbrev pub invariant-loop-k : goal.invariant-loop-k
