@@ -13,11 +13,13 @@ use Rattle.tb_session.specs.Asks.{asks_of}
 use Rattle.tb_session.specs.declared.asks.Asks.{Asks}
 use Rattle.tb_session.specs.declared.asks.Asks.TheVariants as asks
 use Rattle.tb_lines.specs.Outputs.{ReplyValue, text_of}
-use Rattle.tb_session.specs.Replies.{IsReplyTo, StateValue, free_reply}
-use Rattle.tb_session.specs.ReplyLines.{cleared_line, memory_line, stats_line}
+use Rattle.tb_session.specs.Replies.{IsReplyTo, StateValue}
+use Rattle.tb_session.specs.ReplyLines.{cleared_line, stats_line}
 use Rattle.tb_session.specs.Transcripts.{IsLegal, Sees}
 use Rattle.tb_session.specs.declared.party.Role.{Role}
 use Rattle.tb_session.specs.declared.party.Role.TheVariants as role
+use Rattle.tb_tables.specs.Answers.{free_reply}
+use Rattle.tb_tables.specs.ReplyLines.{memory_line}
 
 -- a reply to a line after which the party stands where it stood
 reply_in_place : (what : Asks) (setup : SetupValue) (release : ReleaseValue) (state : StateValue) (line : List ℕ)

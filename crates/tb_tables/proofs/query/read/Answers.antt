@@ -3,7 +3,7 @@ use Rattle.std.specs.Prelude.{IfErr, IfOk}
 use Rattle.tb_model.specs.Setups.{SetupValue}
 use Rattle.tb_query.specs.Faults.{IsRefused, Reads}
 use Rattle.tb_query.specs.Over.{IsOver}
-use Rattle.tb_session.proofs.query.read.Goals as goal
+use Rattle.tb_tables.proofs.query.read.Goals as goal
 
 pub returns : goal.returns
 returns c = record {
