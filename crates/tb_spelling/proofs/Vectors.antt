@@ -1,7 +1,6 @@
 -- Worked payloads.
 use Rattle.std.proofs.Common.{◌≡◌, ℕ, List, [], ◌∷◌, ◌++◌, Some, None, refl}
-use Rattle.std.specs.Prelude.{pos, negsuc}
-use Rattle.std.specs.List.{flat_map}
+use Rattle.std.specs.Prelude.{negsuc}
 use Rattle.tb_release.specs.declared.edits.Edit.{Edit}
 use Rattle.tb_release.specs.declared.edits.Edit.TheVariants.{Add, Drop, Amend, Pvalue, Threshold}
 use Rattle.tb_spelling.specs.Spelling.{spelled}
