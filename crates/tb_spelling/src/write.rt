@@ -2,7 +2,8 @@
 
 ghost use Rattle.std.specs.Prelude.{◌≡◌, ◌≤◌, ◌++◌, All, IfOk, OnOk, length};
 ghost use Rattle.std.specs.Int.{w16, to_be_bytes};
-ghost use Rattle.tb_spelling.specs.declared.limits.TheConstants.{MOST_PARTS, MOST_PAYLOAD_BYTES};
+ghost use Rattle.tb_spelling.specs.declared.limits.TheConstants.{MOST_EDIT_BYTES, MOST_PARTS};
+ghost use Rattle.tb_spelling.specs.declared.limits.TheConstants.{MOST_PAYLOAD_BYTES};
 ghost use Rattle.tb_spelling.specs.Payloads.{CanBeSpelled, CanBeWritten, InTwoBytes, IsInFormat};
 ghost use Rattle.tb_spelling.specs.Payloads.{IsPayload, IsSetting};
 ghost use Rattle.tb_spelling.specs.Spelling.{counted, edit_spelled, setting, spelled};
@@ -82,7 +83,7 @@ fn put_edit(out: &mut Vec<u8>, edit: &Edit) -> Result<(), Memory>
 fn edit_len(edit: &Edit) -> usize
     requires { CanBeWritten edit.now }
     ensures len { result ≡ length (edit_spelled edit.now) }
-    ensures short { result ≤ 263 }
+    ensures short { result ≤ MOST_EDIT_BYTES }
 {
     match edit {
         Edit::Add {
