@@ -43,8 +43,9 @@ pub fn load_generated(alloc: Global, population: &Population) -> Result<Asked, E
     let mut files = hold_generated(alloc, population)?;
     let inputs = generated_inputs();
     let script = FileName::of(Input::Script.name());
-    let Scripted { census, script } = load_scripted(alloc, &mut files, &inputs, &script)?;
+    let read = load_scripted(alloc, &mut files, &inputs, &script)?;
     let population = population.copy();
+    let Scripted { census, script } = read;
     Ok(Asked::Gen {
         population,
         census,

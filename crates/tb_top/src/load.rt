@@ -265,11 +265,13 @@ pub fn load<F: Files>(alloc: Global, files: &mut F, command: &Command<'_>) -> Re
 {
     match command {
         Command::Script { inputs, script } => {
-            let Scripted { census, script } = load_scripted(alloc, files, inputs, script)?;
+            let read = load_scripted(alloc, files, inputs, script)?;
+            let Scripted { census, script } = read;
             Ok(Asked::Script { census, script })
         }
         Command::Lanes { inputs, script } => {
-            let Scripted { census, script } = load_scripted(alloc, files, inputs, script)?;
+            let read = load_scripted(alloc, files, inputs, script)?;
+            let Scripted { census, script } = read;
             Ok(Asked::Lanes { census, script })
         }
         Command::Serve { inputs, service } => {
