@@ -10,7 +10,7 @@ use Rattle.tb_model.specs.Setups.{SetupValue}
 use Rattle.tb_release.specs.Laws.{EditFits}
 use Rattle.tb_release.specs.declared.edits.Edit.{Edit}
 use Rattle.tb_lines.specs.Outputs.{ReplyValue}
-use Rattle.tb_session.specs.Replies.{IsAnswer, IsPublishReply, StateValue}
+use Rattle.tb_session.specs.Replies.{IsPublishReply, StateValue}
 use Rattle.tb_session.specs.Transcripts.{IsStep}
 use Rattle.tb_session.specs.declared.party.Party.{Party}
 use Rattle.tb_session.specs.declared.party.Party.TheVariants as party
@@ -100,12 +100,6 @@ pub record IsAnswered (setup : SetupValue) (old : Party) (line : List ℕ) (new 
   pub cost : after ≤ before + reply.price
 
 -- ---- what the functions below `answer` say
-
--- a query's line gets this text over a release, at no more than its price
-abbrev pub Answers : SetupValue → ReleaseValue → List ℕ → List ℕ → ℕ → ℕ → Type 0
-Answers setup release line text before after =
-    (price : ℕ) × IsAnswer setup release line (record { text = text; price = price })
-    × (after ≤ before + price)
 
 -- `publish` leads from one custodian and its held edits to others with this text
 pub record PublishLeads (old : CustodianValue) (held : List Edit) (text : List ℕ)

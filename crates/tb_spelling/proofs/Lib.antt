@@ -1,3 +1,4 @@
+mod Vectors
 pub mod Formats
 pub mod Edits
 pub mod Lengths

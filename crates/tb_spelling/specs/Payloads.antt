@@ -1,7 +1,7 @@
 -- Which edits have a payload, and which can be written.
 use Rattle.std.specs.Prelude.{◌≡◌, ◌≤◌, ◌<◌, ◌^◌, ℕ, List, length, map, nat_eq, All}
 use Rattle.std.specs.Prelude.{FitsSigned, Result, Ok, Err}
-use Rattle.std.specs.List.{AllByRecursion, IsDistinct}
+use Rattle.std.specs.List.{IsDistinct}
 use Rattle.std.specs.Int.{w16}
 use Rattle.tb_release.specs.declared.edits.Edit.{Edit}
 use Rattle.tb_release.specs.declared.edits.Edit.TheVariants.{Add, Drop, Amend, Pvalue, Threshold}
@@ -20,29 +20,32 @@ pub record SetsEachOnce (sets : List (ℕ × ℕ)) : Type 0 where
   pub some : 0 < length sets
   pub once : IsDistinct nat_eq (variables_set sets)
 
--- each of the codes fits two bytes
-abbrev pub AreShort : List ℕ → Type 0
-AreShort codes = AllByRecursion (λ code. code < 2 ^ 16) codes
+-- a number fits two bytes, or four
+abbrev pub InTwoBytes : ℕ → Type 0
+InTwoBytes n = n < 2 ^ 16
 
--- each number of the settings does
-abbrev pub AreSettings : List (ℕ × ℕ) → Type 0
-AreSettings sets = AllByRecursion (λ s. (s.0 < 2 ^ 16) × (s.1 < 2 ^ 16)) sets
+abbrev pub InFourBytes : ℕ → Type 0
+InFourBytes n = n < 2 ^ 32
+
+-- a setting's variable and its category fit two bytes each
+abbrev pub IsSetting : ℕ × ℕ → Type 0
+IsSetting set = InTwoBytes set.0 × InTwoBytes set.1
 
 -- each number of an edit fits its field, and an amend sets some variables and none twice
 abbrev pub IsInFormat : Edit → Type 0
 IsInFormat (Add person key codes) =
-    (person < 2 ^ 32) × (key < 2 ^ 16) × (length codes < 2 ^ 16) × AreShort codes
-IsInFormat (Drop person) = person < 2 ^ 32
+    InFourBytes person × InTwoBytes key × InTwoBytes (length codes) × All InTwoBytes codes
+IsInFormat (Drop person) = InFourBytes person
 IsInFormat (Amend person sets) =
-    (person < 2 ^ 32) × (length sets < 2 ^ 16) × AreSettings sets × SetsEachOnce sets
-IsInFormat (Pvalue row key pvalue) = (row < 2 ^ 16) × (key < 2 ^ 16) × FitsSigned w16 pvalue
-IsInFormat (Threshold value) = value < 2 ^ 32
+    InFourBytes person × InTwoBytes (length sets) × All IsSetting sets × SetsEachOnce sets
+IsInFormat (Pvalue row key pvalue) = InTwoBytes row × InTwoBytes key × FitsSigned w16 pvalue
+IsInFormat (Threshold value) = InFourBytes value
 
 -- the bytes are the payload of these edits: there are some, and not too many
 pub record IsPayload (bytes : List ℕ) (edits : List Edit) : Type 0 where
   pub some : 0 < length edits
   pub few : length edits ≤ MOST_EDITS
-  pub in_format : AllByRecursion IsInFormat edits
+  pub in_format : All IsInFormat edits
   pub is_spelled : bytes ≡ spelled edits
 
 -- an edit isn't too long to be written, and an amend sets some variables and none twice

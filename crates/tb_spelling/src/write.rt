@@ -1,10 +1,11 @@
 // Edits to bytes.
 
-ghost use Rattle.std.specs.Prelude.{◌≡◌, ◌≤◌, ◌++◌, IfOk, OnOk, length};
+ghost use Rattle.std.specs.Prelude.{◌≡◌, ◌≤◌, ◌++◌, All, IfOk, OnOk, length};
 ghost use Rattle.std.specs.Int.{w16, to_be_bytes};
-ghost use Rattle.tb_spelling.specs.declared.limits.TheConstants.{MOST_PARTS, MOST_PAYLOAD_BYTES};
-ghost use Rattle.tb_spelling.specs.Payloads.{AreSettings, AreShort, CanBeSpelled, CanBeWritten};
-ghost use Rattle.tb_spelling.specs.Payloads.{IsInFormat, IsPayload};
+ghost use Rattle.tb_spelling.specs.declared.limits.TheConstants.{MOST_EDIT_BYTES, MOST_PARTS};
+ghost use Rattle.tb_spelling.specs.declared.limits.TheConstants.{MOST_PAYLOAD_BYTES};
+ghost use Rattle.tb_spelling.specs.Payloads.{CanBeSpelled, CanBeWritten, InTwoBytes, IsInFormat};
+ghost use Rattle.tb_spelling.specs.Payloads.{IsPayload, IsSetting};
 ghost use Rattle.tb_spelling.specs.Spelling.{counted, edit_spelled, setting, spelled};
 
 use std::alloc::Global;
@@ -16,7 +17,7 @@ fn put_codes(out: &mut Vec<u8>, codes: &Codes) -> Result<(), Memory>
     requires { length codes.now ≤ MOST_PARTS }
     ensures bytes { OnOk result
         (out.new.items ≡ out.old.items ++ counted w16 (to_be_bytes w16) codes.now) }
-    ensures in_format { OnOk result (AreShort codes.now) }
+    ensures in_format { OnOk result (All InTwoBytes codes.now) }
 {
     out.extend_from_slice(&(codes.len() as u16).to_be_bytes())?;
     for i in 0..codes.len() {
@@ -29,7 +30,7 @@ fn put_codes(out: &mut Vec<u8>, codes: &Codes) -> Result<(), Memory>
 fn put_sets(out: &mut Vec<u8>, sets: &Sets) -> Result<(), Memory>
     requires { length sets.now ≤ MOST_PARTS }
     ensures bytes { OnOk result (out.new.items ≡ out.old.items ++ counted w16 setting sets.now) }
-    ensures in_format { OnOk result (AreSettings sets.now) }
+    ensures in_format { OnOk result (All IsSetting sets.now) }
 {
     out.extend_from_slice(&(sets.len() as u16).to_be_bytes())?;
     for i in 0..sets.len() {
@@ -82,7 +83,7 @@ fn put_edit(out: &mut Vec<u8>, edit: &Edit) -> Result<(), Memory>
 fn edit_len(edit: &Edit) -> usize
     requires { CanBeWritten edit.now }
     ensures len { result ≡ length (edit_spelled edit.now) }
-    ensures short { result ≤ 263 }
+    ensures short { result ≤ MOST_EDIT_BYTES }
 {
     match edit {
         Edit::Add {
