@@ -1,12 +1,18 @@
 -- What the opening of a journal finds, and what a stop in it leaves.
-use Rattle.std.proofs.Common.{◌≡◌, ◌≤◌, ◌<◌, ◌+◌, ◌==◌, ℕ, zero, suc, Bool, true, false, List, [], ◌∷◌, ◌++◌}
+use Rattle.std.proofs.Common.{◌≡◌, ◌≤◌, ◌<◌, ◌+◌, ◌==◌, ℕ, zero, suc, Bool, true, false, List, [], ◌∷◌, ◌++◌, Option}
 use Rattle.std.proofs.Common.{length, take, drop, get_or, refl, sym, ◌∙◌, ap, arith, inl, inr, length-append, length-drop, length-take, take-append-drop}
 use Rattle.std.specs.Prelude.{◌&&◌, nat_le, if◌then◌else◌}
 use Rattle.std.proofs.lemmas.Bool.{le-leb, le-ltb, lt-leb}
 use Rattle.std.proofs.lemmas.List.{drop_all, length-take-le}
-use Rattle.tb_disk.specs.Images.{Fewer, Only, Torn}
+use Rattle.tb_disk.specs.Images.{Fewer, Only, Torn, WhereTold}
+use Rattle.tb_disk.specs.Moments.{LeavesOnly}
+use Rattle.tb_disk.specs.Quiet.{IsQuiet}
+use Rattle.tb_disk.proofs.Going.{joins, weaker}
+use Rattle.tb_disk.proofs.Telling.{Leads-first}
+use Rattle.tb_journal.specs.declared.opening.JournalOpen.{JournalOpen}
+use Rattle.tb_journal.specs.declared.opening.JournalOpen.TheVariants.{DiskFault}
 use Rattle.tb_journal.specs.Records.{length_at, is_whole, payloads, payloads_before, stands_for}
-use Rattle.tb_journal.specs.Opening.{header, IsFew, IsLong, IsBegun, StandsAsOne}
+use Rattle.tb_journal.specs.Opening.{header, Begins, IsFew, IsLong, IsBegun, StandsAsOne}
 use Rattle.tb_journal.specs.Through.{IsThrough}
 
 and-false : (b : Bool) → (b && false) ≡ false
@@ -76,3 +82,28 @@ as-one-fewer old new fewer image one = record { first = one.first; left = fewer 
 
 pub as-one-few : (images : List ℕ → Type 0) (file image : List ℕ) → images file → IsFew file → IsFew image → StandsAsOne images image
 as-one-few images file image here few short = record { first = file; left = here; same = inr (few, short); stands = few-stands image short ∙ sym (few-stands file few) }
+
+module _ {D : Type 0} (content : D → Option (List ℕ)) (may_leave : D → List ℕ → Type 0) (moment : D → ℕ) (left_since : D → ℕ → List ℕ → Type 0) where
+  -- what a stop in calls that change nothing leaves
+  pub stop-quiet : (old new : D) → IsQuiet content may_leave moment left_since old new → WhereTold (content old) (λ _. LeavesOnly moment left_since old new (StandsAsOne (may_leave old)))
+  stop-quiet old new quiet = λ file told. weaker moment left_since old new (may_leave old) (StandsAsOne (may_leave old)) quiet.any_moment (as-one-now (may_leave old))
+
+  -- calls that change nothing, and then the beginning
+  pub begins-after : (old mid new : D) (result : JournalOpen) → IsQuiet content may_leave moment left_since old mid → Begins content may_leave moment left_since mid new result → Begins content may_leave moment left_since old new result
+  begins-after old mid new result quiet rest = record {
+    opens = λ is. Leads-first _ _ _ _ quiet.same (rest.opens is);
+    ours = λ is file told. rest.ours is file (quiet.same ∙ told);
+    foreign = λ is file told. rest.foreign is file (quiet.same ∙ told);
+    any_moment = λ file told.
+        joins moment left_since old mid new (StandsAsOne (may_leave old)) (stop-quiet old mid quiet file told)
+        (weaker moment left_since mid new (StandsAsOne (may_leave mid)) (StandsAsOne (may_leave old)) (rest.any_moment file (quiet.same ∙ told)) (as-one-fewer (may_leave old) (may_leave mid) quiet.stop));
+  }
+
+  -- such calls, of which the last failed
+  pub begins-not : (old new : D) (result : JournalOpen) → result ≡ DiskFault → IsQuiet content may_leave moment left_since old new → Begins content may_leave moment left_since old new result
+  begins-not old new result failed quiet = record {
+    opens = λ is. absurd (cc (is, failed));
+    ours = λ is file told. absurd (cc (is, failed));
+    foreign = λ is file told. absurd (cc (is, failed));
+    any_moment = stop-quiet old new quiet;
+  }

@@ -1,5 +1,9 @@
 -- What the opening of a journal finds, and what it leaves.
-use Rattle.std.specs.Prelude.{◌≡◌, ◌≢◌, ◌≤◌, ◌<◌, ◌^◌, ◌⊎◌, ℕ, List, [], ◌∷◌, ◌++◌, length, take, nat_le, if◌then◌else◌}
+use Rattle.std.specs.Prelude.{◌≡◌, ◌≢◌, ◌≤◌, ◌<◌, ◌^◌, ◌⊎◌, ℕ, List, [], ◌∷◌, ◌++◌, length, take, nat_le, if◌then◌else◌, Option}
+use Rattle.tb_disk.specs.Images.{Leads, WhereTold}
+use Rattle.tb_disk.specs.Moments.{LeavesOnly}
+use Rattle.tb_journal.specs.declared.opening.JournalOpen.{JournalOpen}
+use Rattle.tb_journal.specs.declared.opening.JournalOpen.TheVariants.{Open, NotJournal}
 use Rattle.tb_journal.specs.Records.{payloads_before, stands_for}
 use Rattle.tb_journal.specs.Stops.{IsOn}
 use Rattle.tb_journal.specs.States.{opened}
@@ -46,3 +50,12 @@ pub record StandsAsOne (images : List ℕ → Type 0) (file : List ℕ) : Type 0
   pub left : images first
   pub same : (file ≡ first) ⊎ (IsFew first × IsFew file)
   pub stands : stands_for file ≡ stands_for first
+
+-- how a journal begins: what is found of the file and what is left of it, and what a stop at any
+-- moment leaves
+pub record Begins {D : Type 0} (content : D → Option (List ℕ)) (may_leave : D → List ℕ → Type 0) (moment : D → ℕ) (left_since : D → ℕ → List ℕ → Type 0) (old new : D) (result : JournalOpen) : Type 0 where
+  pub opens : result ≡ Open → Leads (content old) (content new) (IsBegun (may_leave new))
+  pub ours : result ≡ Open → WhereTold (content old) IsOurs
+  pub foreign : result ≡ NotJournal → WhereTold (content old) IsForeign
+  pub any_moment : WhereTold (content old)
+      (λ _. LeavesOnly moment left_since old new (StandsAsOne (may_leave old)))

@@ -1,11 +1,9 @@
 // What stands at the head of a journal's file when it is opened.
 
-ghost use Rattle.std.specs.Prelude.{◌≡◌, ◌≢◌, ◌≤◌, ◌<◌, true, length};
+ghost use Rattle.std.specs.Prelude.{◌≡◌, ◌≢◌, ◌≤◌, true, length};
 ghost use Rattle.tb_io.specs.Faults.{HasRisen};
-ghost use Rattle.tb_disk.specs.Images.{Fewer, Leads, Only, WhereTold};
-ghost use Rattle.tb_disk.specs.Moments.{LeavesOnly};
-ghost use Rattle.tb_journal.specs.Opening.{IsBegun, IsForeign, IsOurs, IsFew, IsLong, StandsAsOne};
-ghost use Rattle.tb_journal.specs.Opening.{header};
+ghost use Rattle.tb_disk.specs.Images.{Only, WhereTold};
+ghost use Rattle.tb_journal.specs.Opening.{Begins, IsFew, IsLong, header};
 ghost use Rattle.tb_journal.specs.declared.opening.JournalOpen.TheVariants as opening;
 
 use crate::through::write_through;
@@ -31,12 +29,7 @@ const EMPTY: [u8; 9] = [84, 66, 74, 79, 85, 82, 78, 49, 0];
 pub(crate) fn begin<D: Disk>(disk: &mut D) -> JournalOpen
     requires attached { D.attached disk.old ≡ true }
     ensures attached { D.attached disk.new ≡ true }
-    ensures opened { result ≡ opening.Open →
-        Leads (D.content disk.old) (D.content disk.new) (IsBegun (D.may_leave disk.new)) }
-    ensures ours { result ≡ opening.Open → WhereTold (D.content disk.old) IsOurs }
-    ensures foreign { result ≡ opening.NotJournal → WhereTold (D.content disk.old) IsForeign }
-    ensures any_moment { WhereTold (D.content disk.old) (λ _. LeavesOnly D.moment D.left_since
-        disk.old disk.new (StandsAsOne (D.may_leave disk.old))) }
+    ensures begins { Begins D.content D.may_leave D.moment D.left_since disk.old disk.new result }
     ensures count { D.faults disk.old ≤ D.faults disk.new }
     ensures failed { result ≡ opening.DiskFault →
         HasRisen (D.faults disk.old) (D.faults disk.new) }
@@ -53,12 +46,7 @@ fn look<D: Disk>(disk: &mut D) -> JournalOpen
     requires attached { D.attached disk.old ≡ true }
     requires durable { WhereTold (D.content disk.old) (λ file. Only file (D.may_leave disk.old)) }
     ensures attached { D.attached disk.new ≡ true }
-    ensures opened { result ≡ opening.Open →
-        Leads (D.content disk.old) (D.content disk.new) (IsBegun (D.may_leave disk.new)) }
-    ensures ours { result ≡ opening.Open → WhereTold (D.content disk.old) IsOurs }
-    ensures foreign { result ≡ opening.NotJournal → WhereTold (D.content disk.old) IsForeign }
-    ensures any_moment { WhereTold (D.content disk.old) (λ _. LeavesOnly D.moment D.left_since
-        disk.old disk.new (StandsAsOne (D.may_leave disk.old))) }
+    ensures begins { Begins D.content D.may_leave D.moment D.left_since disk.old disk.new result }
     ensures count { D.faults disk.old ≤ D.faults disk.new }
     ensures failed { result ≡ opening.DiskFault →
         HasRisen (D.faults disk.old) (D.faults disk.new) }
@@ -76,12 +64,7 @@ fn start<D: Disk>(disk: &mut D, size: u64) -> JournalOpen
     requires size { WhereTold (D.content disk.old) (λ file. size ≡ length file) }
     requires durable { WhereTold (D.content disk.old) (λ file. Only file (D.may_leave disk.old)) }
     ensures attached { D.attached disk.new ≡ true }
-    ensures opened { result ≡ opening.Open →
-        Leads (D.content disk.old) (D.content disk.new) (IsBegun (D.may_leave disk.new)) }
-    ensures ours { result ≡ opening.Open → WhereTold (D.content disk.old) IsOurs }
-    ensures foreign { result ≡ opening.NotJournal → WhereTold (D.content disk.old) IsForeign }
-    ensures any_moment { WhereTold (D.content disk.old) (λ _. LeavesOnly D.moment D.left_since
-        disk.old disk.new (StandsAsOne (D.may_leave disk.old))) }
+    ensures begins { Begins D.content D.may_leave D.moment D.left_since disk.old disk.new result }
     ensures count { D.faults disk.old ≤ D.faults disk.new }
     ensures failed { result ≡ opening.DiskFault →
         HasRisen (D.faults disk.old) (D.faults disk.new) }
@@ -99,12 +82,7 @@ fn start_anew<D: Disk>(disk: &mut D) -> JournalOpen
     requires few { WhereTold (D.content disk.old) IsFew }
     requires durable { WhereTold (D.content disk.old) (λ file. Only file (D.may_leave disk.old)) }
     ensures attached { D.attached disk.new ≡ true }
-    ensures opened { result ≡ opening.Open →
-        Leads (D.content disk.old) (D.content disk.new) (IsBegun (D.may_leave disk.new)) }
-    ensures ours { result ≡ opening.Open → WhereTold (D.content disk.old) IsOurs }
-    ensures foreign { result ≡ opening.NotJournal → WhereTold (D.content disk.old) IsForeign }
-    ensures any_moment { WhereTold (D.content disk.old) (λ _. LeavesOnly D.moment D.left_since
-        disk.old disk.new (StandsAsOne (D.may_leave disk.old))) }
+    ensures begins { Begins D.content D.may_leave D.moment D.left_since disk.old disk.new result }
     ensures count { D.faults disk.old ≤ D.faults disk.new }
     ensures failed { result ≡ opening.DiskFault →
         HasRisen (D.faults disk.old) (D.faults disk.new) }
@@ -121,12 +99,7 @@ fn read_header<D: Disk>(disk: &mut D) -> JournalOpen
     requires long { WhereTold (D.content disk.old) IsLong }
     requires durable { WhereTold (D.content disk.old) (λ file. Only file (D.may_leave disk.old)) }
     ensures attached { D.attached disk.new ≡ true }
-    ensures opened { result ≡ opening.Open →
-        Leads (D.content disk.old) (D.content disk.new) (IsBegun (D.may_leave disk.new)) }
-    ensures ours { result ≡ opening.Open → WhereTold (D.content disk.old) IsOurs }
-    ensures foreign { result ≡ opening.NotJournal → WhereTold (D.content disk.old) IsForeign }
-    ensures any_moment { WhereTold (D.content disk.old) (λ _. LeavesOnly D.moment D.left_since
-        disk.old disk.new (StandsAsOne (D.may_leave disk.old))) }
+    ensures begins { Begins D.content D.may_leave D.moment D.left_since disk.old disk.new result }
     ensures count { D.faults disk.old ≤ D.faults disk.new }
     ensures failed { result ≡ opening.DiskFault →
         HasRisen (D.faults disk.old) (D.faults disk.new) }
