@@ -1,4 +1,5 @@
-//! A disk's one file, as what keeps a journal sees it: what a read gives, and what a stop may leave.
+//! A disk's one file, as what keeps a journal sees it: what a read gives, and what a stop may
+//! leave.
 //!
 //! It stands on `tb_io` for counts of faults. Its contracts cite `specs/Images` (what a write does,
 //! whole or cut short, and what a stop may leave of it) and `specs/Moments` (what stops since some

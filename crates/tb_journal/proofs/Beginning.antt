@@ -94,6 +94,7 @@ module _ {D : Type 0} (content : D → Option (List ℕ)) (may_leave : D → Lis
     opens = λ is. Leads-first _ _ _ _ quiet.same (rest.opens is);
     ours = λ is file told. rest.ours is file (quiet.same ∙ told);
     foreign = λ is file told. rest.foreign is file (quiet.same ∙ told);
+    untouched = λ is. rest.untouched is ∙ quiet.same;
     any_moment = λ file told.
         joins moment left_since old mid new (StandsAsOne (may_leave old)) (stop-quiet old mid quiet file told)
         (weaker moment left_since mid new (StandsAsOne (may_leave mid)) (StandsAsOne (may_leave old)) (rest.any_moment file (quiet.same ∙ told)) (as-one-fewer (may_leave old) (may_leave mid) quiet.stop));
@@ -105,5 +106,6 @@ module _ {D : Type 0} (content : D → Option (List ℕ)) (may_leave : D → Lis
     opens = λ is. absurd (cc (is, failed));
     ours = λ is file told. absurd (cc (is, failed));
     foreign = λ is file told. absurd (cc (is, failed));
+    untouched = λ is. absurd (cc (is, failed));
     any_moment = stop-quiet old new quiet;
   }

@@ -53,9 +53,12 @@ pub record StandsAsOne (images : List ℕ → Type 0) (file : List ℕ) : Type 0
 
 -- how a journal begins: what is found of the file and what is left of it, and what a stop at any
 -- moment leaves
-pub record Begins {D : Type 0} (content : D → Option (List ℕ)) (may_leave : D → List ℕ → Type 0) (moment : D → ℕ) (left_since : D → ℕ → List ℕ → Type 0) (old new : D) (result : JournalOpen) : Type 0 where
+pub record Begins {D : Type 0} (content : D → Option (List ℕ))
+    (may_leave : D → List ℕ → Type 0) (moment : D → ℕ) (left_since : D → ℕ → List ℕ → Type 0)
+    (old new : D) (result : JournalOpen) : Type 0 where
   pub opens : result ≡ Open → Leads (content old) (content new) (IsBegun (may_leave new))
   pub ours : result ≡ Open → WhereTold (content old) IsOurs
   pub foreign : result ≡ NotJournal → WhereTold (content old) IsForeign
+  pub untouched : result ≡ NotJournal → content new ≡ content old
   pub any_moment : WhereTold (content old)
       (λ _. LeavesOnly moment left_since old new (StandsAsOne (may_leave old)))

@@ -72,6 +72,8 @@ impl Journal {
             (λ file. IsOn file (D.may_leave disk.new) opened) }
         ensures ours { result.0 ≡ opening.Open → WhereTold (D.content disk.old) IsOurs }
         ensures foreign { result.0 ≡ opening.NotJournal → WhereTold (D.content disk.old) IsForeign }
+        ensures untouched { result.0 ≡ opening.NotJournal →
+            D.content disk.new ≡ D.content disk.old }
         ensures any_moment { WhereTold (D.content disk.old) (λ _. LeavesOnly D.moment D.left_since
             disk.old disk.new (StandsAsOne (D.may_leave disk.old))) }
         ensures count { D.faults disk.old ≤ D.faults disk.new }
@@ -184,8 +186,9 @@ impl Journal {
             Leads (D.content disk.old) (D.content disk.new) (IsKept (spelled edits.now)) }
         ensures on { result ≡ put.Kept → WhereTold (D.content disk.new)
             (λ file. IsOn file (D.may_leave disk.new) self.new) }
-        ensures any_moment { WhereTold (D.content disk.old) (λ file. LeavesOnly D.moment D.left_since
-            disk.old disk.new (EndsWithOrWithout file (spelled edits.now))) }
+        ensures any_moment { WhereTold (D.content disk.old) (λ file.
+            LeavesOnly D.moment D.left_since disk.old disk.new
+            (EndsWithOrWithout file (spelled edits.now))) }
         ensures state { result ≡ put.Kept → self.new ≡ record self.old {
           place = place_after self.old.place (length (spelled edits.now));
         } }
@@ -214,8 +217,9 @@ impl Journal {
         ensures attached { D.attached disk.new ≡ true }
         ensures kept { result ≡ put.Kept → Leads (D.content disk.old) (D.content disk.new)
             (IsKeptOn (D.may_leave disk.new) self.new (payload_behind behind.now)) }
-        ensures any_moment { WhereTold (D.content disk.old) (λ file. LeavesOnly D.moment D.left_since
-            disk.old disk.new (EndsWithOrWithout file (payload_behind behind.now))) }
+        ensures any_moment { WhereTold (D.content disk.old) (λ file.
+            LeavesOnly D.moment D.left_since disk.old disk.new
+            (EndsWithOrWithout file (payload_behind behind.now))) }
         ensures state { result ≡ put.Kept → self.new ≡ record self.old {
           place = place_after self.old.place (length (payload_behind behind.now));
         } }
