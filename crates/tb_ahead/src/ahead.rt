@@ -22,10 +22,10 @@ pub enum Put {
 
 /// What batches are written ahead into: it puts one after another while it is live.
 ///
-/// `StandsFor` is its meaning: each file that a stop now may leave stands for these batches, each as
-/// the list of its edits; or, where one further batch is given, for these, or for these and that
-/// one. Of a disk that tells nothing it is true of any. `faults` counts the disk's faults. `IsReady`
-/// is the condition under which it puts, which every call keeps.
+/// `StandsFor` is its meaning: each file that a stop now may leave stands for these batches, each
+/// as the list of its edits; or, where one further batch is given, for these, or for these and that
+/// one. Of a disk that tells nothing it is true of any. `faults` counts the disk's faults.
+/// `IsReady` is the condition under which it puts, which every call keeps.
 pub trait WriteAhead {
     ghost faults: { Self → ℕ };
 

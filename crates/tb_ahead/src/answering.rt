@@ -122,9 +122,9 @@ fn publish_ahead<C, G, P: Publisher<C, G>, W: WriteAhead, K: Sink, L: Ledger>(
 /// Writes the reply to a line of a party that writes its batches ahead. A line that doesn't ask to
 /// publish is answered as the party does. One that does has the held edits tried first: where they
 /// are refused, or memory for the next release is, that is the reply; else they are put, and once
-/// they are kept, they are published. Where nothing is put any more, or the disk fails, the reply is
-/// `unkept`: nothing is published, and the edits are held still. Where memory is refused after they
-/// were kept, nothing is put any more.
+/// they are kept, they are published. Where nothing is put any more, or the disk fails, the reply
+/// is `unkept`: nothing is published, and the edits are held still. Where memory is refused after
+/// they were kept, nothing is put any more.
 pub fn answer_ahead<C, G, P: Publisher<C, G>, W: WriteAhead, K: Sink, L: Ledger>(
     setting: &C,
     alloc: Global,

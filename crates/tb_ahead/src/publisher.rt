@@ -24,8 +24,8 @@ pub enum Trial {
     Memory,
 }
 
-/// A party whose lines are answered, in a setting `C`, past a gate `G`, and whose batch may be tried
-/// before it asks to publish it.
+/// A party whose lines are answered, in a setting `C`, past a gate `G`, and whose batch may be
+/// tried before it asks to publish it.
 ///
 /// `base` is release 0 of its chain, which stays, and `state` where it stands. `Step` says which
 /// reply to a line leads from where to where, over a release 0, and `publishes` which lines ask to
