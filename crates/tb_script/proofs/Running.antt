@@ -20,7 +20,8 @@ use Rattle.tb_script.specs.Scripts.{ScriptLine, ScriptValue, role_of_lane}
 use Rattle.tb_script.specs.declared.run.RunEnd.TheVariants as run_end
 use Rattle.tb_session.specs.Parties.{GoesOn, IsAnalystOf, IsPartyOf, role_of, seen_by, state_at, state_of}
 use Rattle.tb_session.specs.PartySessions.{with_none_held}
-use Rattle.tb_session.specs.Replies.{IsReply, StateValue}
+use Rattle.tb_ahead.specs.Publishing.{StateValue}
+use Rattle.tb_session.specs.Replies.{IsReply}
 use Rattle.tb_session.specs.Transcripts.{IsStep}
 use Rattle.tb_session.specs.declared.party.Party.{Party}
 use Rattle.tb_session.specs.declared.party.Party.TheVariants as party

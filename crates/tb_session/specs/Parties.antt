@@ -10,7 +10,7 @@ use Rattle.tb_model.specs.Setups.{SetupValue}
 use Rattle.tb_release.specs.Laws.{EditFits}
 use Rattle.tb_release.specs.declared.edits.Edit.{Edit}
 use Rattle.tb_lines.specs.Outputs.{ReplyValue}
-use Rattle.tb_session.specs.Replies.{IsPublishReply, StateValue}
+use Rattle.tb_ahead.specs.Publishing.{IsPublishReply, StateValue}
 use Rattle.tb_session.specs.Transcripts.{IsStep}
 use Rattle.tb_session.specs.declared.party.Party.{Party}
 use Rattle.tb_session.specs.declared.party.Party.TheVariants as party
