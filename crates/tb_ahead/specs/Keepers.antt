@@ -4,7 +4,7 @@ use Rattle.tb_lines.specs.Outputs.{ReplyValue}
 use Rattle.tb_model.specs.Releases.{ReleaseValue}
 use Rattle.tb_ahead.specs.Keeping.{IsKeptStep, KeptState}
 use Rattle.tb_ahead.specs.Publishing.{StateValue}
-use Rattle.tb_ahead.specs.Puts.{Standing}
+use Rattle.tb_ahead.specs.Puts.{FileStands}
 
 -- such a party: release 0 of its chain, where it stands itself, and what it writes ahead into
 pub record KeeperValue (W : Type 0) : Type 0 where
@@ -26,7 +26,7 @@ at_start one = record one { state = with_none_held one.state }
 
 -- a party of this state, with a journal that is live or not, whose file stands for this after a
 -- stop, and a disk with that count of faults, stands here
-pub record IsAt (standing : Standing) (live : Bool)
+pub record IsAt (standing : FileStands) (live : Bool)
     (faults : ℕ) (state : StateValue) (at : KeptState) : Type 0 where
   pub same : at.state ≡ state
   pub count : at.faults ≡ faults
@@ -41,7 +41,7 @@ Reaches old new Step =
 -- of what it writes into it is told whether that is live, the disk's count of faults, and what the
 -- file stands for after a stop; and of the party its own replies over a release 0
 module _ {W : Type 0} (live : W → Bool) (faults : W → ℕ)
-    (standing : W → Standing)
+    (standing : W → FileStands)
     (Own : ReleaseValue → StateValue → List ℕ → ReplyValue → StateValue → Type 0) where
   -- it stands here
   abbrev pub StandsAt : KeeperValue W → KeptState → Type 0
