@@ -41,6 +41,17 @@ abbrev pub IsAnalystOf : Name → List ℕ → Party → Type 0
 IsAnalystOf name shape (party.Analyst pass) = IsPassOf name shape pass
 IsAnalystOf name shape (party.Custodian custodian held) = ⊥
 
+-- the custodian of the front of this name, over this shape
+abbrev pub IsOwnerOf : Name → List ℕ → Party → Type 0
+IsOwnerOf name shape (party.Analyst pass) = ⊥
+IsOwnerOf name shape (party.Custodian custodian held) = IsCustodianOf name shape custodian held
+
+-- an analyst has then seen what it had, and what another holder has
+abbrev pub Learns : HolderValue → Party → Party → Type 0
+Learns seen (party.Analyst old) (party.Analyst new) = IsLater old new × IsLater seen new
+Learns seen (party.Analyst old) (party.Custodian custodian held) = ⊥
+Learns seen (party.Custodian custodian held) new = ⊥
+
 -- an analyst has seen a beginning of what the custodian's writer wrote
 abbrev pub IsBehind : HolderValue → Party → Type 0
 IsBehind writer (party.Analyst pass) = IsLater pass writer

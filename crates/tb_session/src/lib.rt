@@ -34,7 +34,7 @@ mod sessions;
 
 pub use answering::answer;
 pub use asks::Asks;
-pub use confirming::{analyst_of, confirm};
+pub use confirming::{analyst_of, confirm, tell};
 pub use limits::FIRST_CAPACITY;
 pub use party::{Party, Role};
 pub use sessions::{Setting, session};
