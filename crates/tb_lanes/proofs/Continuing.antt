@@ -13,7 +13,8 @@ use Rattle.tb_session.specs.Asks.{asks_of}
 use Rattle.tb_session.specs.declared.asks.Asks.{Asks}
 use Rattle.tb_session.specs.declared.asks.Asks.TheVariants as asks
 use Rattle.tb_lines.specs.Outputs.{ReplyValue, text_of}
-use Rattle.tb_session.specs.Replies.{IsReplyTo, StateValue}
+use Rattle.tb_ahead.specs.Publishing.{StateValue}
+use Rattle.tb_session.specs.Replies.{IsReplyTo}
 use Rattle.tb_session.specs.ReplyLines.{cleared_line, stats_line}
 use Rattle.tb_session.specs.Transcripts.{IsLegal, Sees}
 use Rattle.tb_session.specs.declared.party.Role.{Role}

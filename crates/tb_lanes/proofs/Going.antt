@@ -15,11 +15,10 @@ use Rattle.tb_session.proofs.LegalParties.{lines_legal}
 use Rattle.tb_model.specs.Releases.{ReleaseValue}
 use Rattle.tb_model.specs.Setups.{SetupValue}
 use Rattle.tb_release.specs.Batches.{BatchValue}
-use Rattle.tb_script.specs.Runs.{IsOwnerOf}
 use Rattle.tb_script.specs.Scripts.{ScriptValue, lanes_of, role_of_lane}
 use Rattle.tb_lines.specs.Outputs.{ReplyValue, text_of}
-use Rattle.tb_session.specs.Parties.{role_of, seen_by, state_of}
-use Rattle.tb_session.specs.Replies.{StateValue}
+use Rattle.tb_session.specs.Parties.{IsOwnerOf, role_of, seen_by, state_of}
+use Rattle.tb_ahead.specs.Publishing.{StateValue}
 use Rattle.tb_session.specs.Transcripts.{IsLegal}
 use Rattle.tb_session.specs.declared.party.Party.{Party}
 use Rattle.tb_session.specs.declared.party.Party.TheVariants as party

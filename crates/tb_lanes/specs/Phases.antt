@@ -11,7 +11,7 @@ use Rattle.tb_script.specs.Scripts.{ScriptLine, ScriptValue, lanes_of, role_of_l
 use Rattle.tb_script.specs.declared.run.RunEnd.{RunEnd}
 use Rattle.tb_script.specs.declared.run.RunEnd.TheVariants as run_end
 use Rattle.tb_lines.specs.Outputs.{ReplyValue, text_of}
-use Rattle.tb_session.specs.Replies.{StateValue}
+use Rattle.tb_ahead.specs.Publishing.{StateValue}
 use Rattle.tb_session.specs.Transcripts.{IsLegal}
 use Rattle.tb_session.specs.declared.party.Role.{Role}
 use Rattle.tb_session.specs.declared.party.Role.TheVariants as role

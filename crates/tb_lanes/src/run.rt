@@ -5,11 +5,10 @@ ghost use Rattle.tb_io.specs.Faults.{HasRisen};
 ghost use Rattle.tb_lanes.specs.Phases.{AreLanesRun};
 ghost use Rattle.tb_lanes.specs.Runs.{IsOwner};
 ghost use Rattle.tb_model.specs.Schemas.{shape_of};
-ghost use Rattle.tb_script.specs.Runs.{IsOwnerOf};
 ghost use Rattle.tb_script.specs.Scripts.{lanes_of};
 ghost use Rattle.tb_script.specs.declared.run.RunEnd.TheVariants as run_end;
 ghost use Rattle.tb_session.specs.Parties.{IsAnalystOf, IsCustodianOf, seen_by, state_at};
-ghost use Rattle.tb_session.specs.Parties.{state_of};
+ghost use Rattle.tb_session.specs.Parties.{IsOwnerOf, state_of};
 
 use crate::lane::Lane;
 use crate::phase::run_phase;

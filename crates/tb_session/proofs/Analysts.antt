@@ -10,7 +10,8 @@ use Rattle.tb_release.specs.Chains.{release_after}
 use Rattle.tb_lines.specs.Lines.{is_passed_over}
 use Rattle.tb_lines.specs.Outputs.{ReplyValue}
 use Rattle.tb_session.specs.Parties.{IsAnalystOf, IsBehind, IsPartyOf, seen_by}
-use Rattle.tb_session.specs.Replies.{IsReply, IsReplyTo, StateValue, table_price}
+use Rattle.tb_ahead.specs.Publishing.{StateValue}
+use Rattle.tb_session.specs.Replies.{IsReply, IsReplyTo, table_price}
 use Rattle.tb_session.specs.declared.asks.Asks.TheVariants as asks
 use Rattle.tb_session.specs.declared.party.Party.{Party}
 use Rattle.tb_session.specs.declared.party.Party.TheVariants as party

@@ -19,7 +19,8 @@ use Rattle.tb_session.specs.declared.party.Role.{Role}
 use Rattle.tb_session.specs.declared.party.Role.TheVariants as role
 use Rattle.tb_lines.specs.Lines.{is_passed_over}
 use Rattle.tb_session.specs.Parties.{Leads, PublishLeads, state_at}
-use Rattle.tb_session.specs.Replies.{IsCapacityReply, IsEditReply, IsReplyTo, IsStatsReply, StateValue, table_price}
+use Rattle.tb_ahead.specs.Publishing.{StateValue}
+use Rattle.tb_session.specs.Replies.{IsCapacityReply, IsEditReply, IsReplyTo, IsStatsReply, table_price}
 use Rattle.tb_session.specs.ReplyLines.{cleared_line}
 use Rattle.tb_session.specs.Transcripts.{Sees}
 use Rattle.tb_tables.specs.Answers.{Answers, IsAnswer, free_reply}

@@ -9,7 +9,8 @@ use Rattle.tb_session.specs.declared.asks.Asks.{Asks}
 use Rattle.tb_session.specs.declared.asks.Asks.TheVariants as asks
 use Rattle.tb_session.specs.declared.party.Role.{Role}
 use Rattle.tb_lines.specs.Outputs.{ReplyValue}
-use Rattle.tb_session.specs.Replies.{IsReply, IsReplyTo, StateValue}
+use Rattle.tb_ahead.specs.Publishing.{StateValue}
+use Rattle.tb_session.specs.Replies.{IsReply, IsReplyTo}
 use Rattle.tb_session.specs.ReplyLines.{cleared_line, stats_line}
 use Rattle.tb_tables.specs.Answers.{free_reply}
 use Rattle.tb_tables.specs.ReplyLines.{memory_line}

@@ -12,29 +12,21 @@ use Rattle.tb_revise.specs.Faults as edits
 use Rattle.tb_revise.specs.FaultNames as edit_names
 use Rattle.tb_revise.specs.declared.fault.EditTextFault.{EditTextFault}
 use Rattle.tb_rows.specs.FaultNames.{FaultNameValue}
-use Rattle.tb_release.specs.Batches.{BatchValue, CanFollow, batch_of, batch_refusal}
+use Rattle.tb_release.specs.Batches.{BatchValue}
 use Rattle.tb_release.specs.Chains.{release_after}
-use Rattle.tb_release.specs.FaultNames as batch_names
 use Rattle.tb_release.specs.declared.edits.Edit.{Edit}
-use Rattle.tb_release.specs.declared.fault.EditFaultKind.{EditFaultKind}
 use Rattle.tb_release.specs.declared.limits.TheConstants.{MOST_EDITS}
 use Rattle.tb_session.specs.Asks.{asks_of}
 use Rattle.tb_lines.specs.Outputs.{ReplyValue}
 use Rattle.tb_session.specs.ReplyLines.{held_line, edit_refusal_line}
 use Rattle.tb_revise.specs.FaultNames.{too_many}
-use Rattle.tb_session.specs.ReplyLines.{published_line, batch_refusal_line}
+use Rattle.tb_ahead.specs.Publishing.{IsPublishReply, StateValue}
 use Rattle.tb_session.specs.ReplyLines.{stats_line, cleared_line, capacity_line}
 use Rattle.tb_session.specs.declared.asks.Asks.{Asks}
 use Rattle.tb_session.specs.declared.asks.Asks.TheVariants as asks
 use Rattle.tb_session.specs.declared.party.Role.{Role}
 use Rattle.tb_tables.specs.Answers.{IsAnswer, free_reply}
 use Rattle.tb_tables.specs.ReplyLines.{memory_line}
-
--- where a party stands: the batches that it has seen, and the edits that it holds, which are the
--- custodian's alone
-pub record StateValue : Type 0 where
-  pub chain : List BatchValue
-  pub held : List Edit
 
 -- how many records the table of a plan may cost: the release's; or, where it can be counted by a
 -- cube, as many changes as led to the release, if these are more
@@ -74,27 +66,6 @@ IsEditReply setup line held text after =
     IsHeld setup line held text after
     ⊎ (after ≡ held)
     × (IsFaulty setup line text ⊎ (IsOneTooMany setup line held text ⊎ (text ≡ memory_line)))
-
--- `publish` where the held edits can follow the release: their batch is the chain's last
-abbrev pub IsPublished : ReleaseValue → StateValue → List ℕ → StateValue → Type 0
-IsPublished release state text next =
-    CanFollow release state.held
-    × (text ≡ published_line (release.number + 1))
-    × (next ≡ record { chain = state.chain ++ batch_of release state.held ∷ []; held = [] })
-
--- `publish` where they can't: the chain stays
-abbrev pub IsBatchRefusal : ReleaseValue → StateValue → List ℕ → StateValue → Type 0
-IsBatchRefusal release state text next =
-    (kind : EditFaultKind) × (edit : ℕ)
-    × (batch_refusal release state.held ≡ Some (kind, edit))
-    × (text ≡ batch_refusal_line edit (batch_names.fault_name kind))
-    × (next ≡ record { chain = state.chain; held = [] })
-
--- the reply to `publish`: no edit is held after it, but where memory was refused
-abbrev pub IsPublishReply : ReleaseValue → StateValue → List ℕ → StateValue → Type 0
-IsPublishReply release state text next =
-    IsPublished release state text next
-    ⊎ (IsBatchRefusal release state text next ⊎ (text ≡ memory_line) × (next ≡ state))
 
 -- the reply to `stats`
 abbrev pub IsStatsReply : List BatchValue → List ℕ → Type 0

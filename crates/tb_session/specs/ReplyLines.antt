@@ -1,4 +1,4 @@
--- The lines that replies may be, but for those to queries.
+-- The lines that replies may be, but for those to queries and to `publish`.
 use Rattle.std.specs.Prelude.{◌++◌, ℕ, List, codes, decimal}
 use Rattle.tb_core.specs.declared.desk.Stats.{Stats}
 use Rattle.tb_rows.specs.FaultNames.{FaultNameValue}
@@ -11,16 +11,6 @@ held_line count = codes "held " ++ decimal count ++ codes "\n"
 abbrev pub edit_refusal_line : FaultNameValue → List ℕ
 edit_refusal_line name =
     codes "refused edit " ++ decimal name.number ++ codes " " ++ name.word ++ codes "\n"
-
--- a batch that is published: the number of the release to which it leads
-abbrev pub published_line : ℕ → List ℕ
-published_line number = codes "published " ++ decimal number ++ codes "\n"
-
--- a batch that is refused: the number of the edit, and the number and the word of the refusal
-abbrev pub batch_refusal_line : ℕ → FaultNameValue → List ℕ
-batch_refusal_line edit name =
-    codes "refused batch " ++ decimal edit ++ codes " " ++ decimal name.number ++ codes " "
-    ++ name.word ++ codes "\n"
 
 -- the numbers of the desk: the current release, how often a cube was looked for and found, how many
 -- are kept, and how many may be

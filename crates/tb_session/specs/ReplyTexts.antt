@@ -1,8 +1,8 @@
 -- The text of a reply as the program keeps it.
 use Rattle.std.specs.Prelude.{ℕ, List, []}
+use Rattle.tb_ahead.specs.Publishing.{published_line, batch_refusal_line}
 use Rattle.tb_session.specs.ReplyLines.{held_line, edit_refusal_line}
-use Rattle.tb_session.specs.ReplyLines.{published_line, batch_refusal_line, stats_line}
-use Rattle.tb_session.specs.ReplyLines.{cleared_line, capacity_line}
+use Rattle.tb_session.specs.ReplyLines.{stats_line, cleared_line, capacity_line}
 use Rattle.tb_session.specs.declared.reply.Reply.{Reply}
 use Rattle.tb_session.specs.declared.reply.Reply.TheVariants as replies
 use Rattle.tb_tables.specs.ReplyLines.{memory_line}

@@ -3,13 +3,13 @@
 //! confirms.
 //!
 //! It stands on `tb_tables` (a query's line, its table and the reply to it, over a release),
-//! `tb_board` (the desk behind its lock), `tb_build` (a cube that isn't kept), `tb_core` (one that
-//! is), `tb_revise` (the custodian's edits), `tb_io` (where lines come from, and where replies go)
-//! and `tb_lines` (lines that are answered one after another: what a session did). Its contracts
-//! cite `specs/Asks` (what a line asks for), `Replies` (what the reply to it is), `Transcripts`
-//! (which replies are legal), `Parties` (who asks, and what an answer says) and `PartySessions`
-//! (whose session); `laws` cites `Laws`, and `RunWorlds` (what a reply of a run of `tb_core`'s
-//! events shows at a place of a table).
+//! `tb_ahead` (the reply to `publish`), `tb_board` (the desk behind its lock), `tb_build` (a cube
+//! that isn't kept), `tb_core` (one that is), `tb_revise` (the custodian's edits), `tb_io` (where
+//! lines come from, and where replies go) and `tb_lines` (lines that are answered one after
+//! another: what a session did). Its contracts cite `specs/Asks` (what a line asks for), `Replies`
+//! (what the reply to it is), `Transcripts` (which replies are legal), `Parties` (who asks, and
+//! what an answer says) and `PartySessions` (whose session); `laws` cites `Laws`, and `RunWorlds`
+//! (what a reply of a run of `tb_core`'s events shows at a place of a table).
 //!
 //! Of the proofs, `Leading` leads from what a line asks for to where the party stands then, and
 //! `Revising` does so for `publish`; `Texts` says how lines are put together; `Numbers` and
@@ -34,7 +34,7 @@ mod sessions;
 
 pub use answering::answer;
 pub use asks::Asks;
-pub use confirming::{analyst_of, confirm};
+pub use confirming::{analyst_of, confirm, tell};
 pub use limits::FIRST_CAPACITY;
 pub use party::{Party, Role};
 pub use sessions::{Setting, session};

@@ -1,7 +1,8 @@
 // A reply, and how it is written.
 
+ghost use Rattle.tb_ahead.specs.Publishing.{batch_refusal_line};
 ghost use Rattle.tb_io.specs.Taken.{IsWritten};
-ghost use Rattle.tb_session.specs.ReplyLines.{batch_refusal_line, stats_line};
+ghost use Rattle.tb_session.specs.ReplyLines.{stats_line};
 ghost use Rattle.tb_session.specs.ReplyTexts.{reply_text};
 
 use itoa::Buffer;

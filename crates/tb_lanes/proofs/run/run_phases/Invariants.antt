@@ -4,9 +4,8 @@ use Rattle.tb_io.specs.Taken.{Took}
 use Rattle.tb_lanes.specs.Phases.{PhasesGo, Progress, begun_with}
 use Rattle.tb_lanes.specs.Runs.{Stand}
 use Rattle.tb_model.specs.Schemas.{shape_of}
-use Rattle.tb_script.specs.Runs.{IsOwnerOf}
 use Rattle.tb_script.specs.Scripts.{lanes_of}
-use Rattle.tb_session.specs.Parties.{IsAnalystOf, seen_by, state_of}
+use Rattle.tb_session.specs.Parties.{IsAnalystOf, IsOwnerOf, seen_by, state_of}
 use Rattle.tb_lanes.proofs.run.run_phases.Given as goal
 
 -- the phases so far led to where all stand, and their text was taken
