@@ -3,8 +3,8 @@ use Rattle.std.proofs.Common.{◌≡◌, sym, subst, refl, ℕ, zero, suc, ◌+�
 use mathlib.Core.List.{IsPrefix}
 use Rattle.tb_core.specs.declared.desk.Stats.{Stats}
 use Rattle.tb_front.proofs.Prefixes.{prefix_self}
-use Rattle.tb_lanes.specs.Phases.{LaneGoes, PhaseGoes, PhasesGo, Standing, after_seeing, lane_at, lines_at, phase_text}
-use Rattle.tb_lanes.proofs.Going.{AreBehind, one_more}
+use Rattle.tb_lanes.specs.Phases.{LaneGoes, PhaseGoes, PhasesGo, Progress, Standing, after_seeing, lane_at, lines_at, phase_text}
+use Rattle.tb_lanes.proofs.Going.{AreBehind, advanced, one_more}
 use Rattle.tb_model.specs.Releases.{ReleaseValue}
 use Rattle.tb_model.specs.Setups.{SetupValue}
 use Rattle.tb_release.specs.Chains.{release_after}
@@ -13,11 +13,14 @@ use Rattle.tb_session.specs.Asks.{asks_of}
 use Rattle.tb_session.specs.declared.asks.Asks.{Asks}
 use Rattle.tb_session.specs.declared.asks.Asks.TheVariants as asks
 use Rattle.tb_lines.specs.Outputs.{ReplyValue, text_of}
-use Rattle.tb_session.specs.Replies.{IsReplyTo, StateValue, free_reply}
-use Rattle.tb_session.specs.ReplyLines.{cleared_line, memory_line, stats_line}
+use Rattle.tb_ahead.specs.Publishing.{StateValue}
+use Rattle.tb_session.specs.Replies.{IsReplyTo}
+use Rattle.tb_session.specs.ReplyLines.{cleared_line, stats_line}
 use Rattle.tb_session.specs.Transcripts.{IsLegal, Sees}
 use Rattle.tb_session.specs.declared.party.Role.{Role}
 use Rattle.tb_session.specs.declared.party.Role.TheVariants as role
+use Rattle.tb_tables.specs.Answers.{free_reply}
+use Rattle.tb_tables.specs.ReplyLines.{memory_line}
 
 -- a reply to a line after which the party stands where it stood
 reply_in_place : (what : Asks) (setup : SetupValue) (release : ReleaseValue) (state : StateValue) (line : List ℕ)
@@ -98,32 +101,32 @@ module _ (setup : SetupValue) (base : ReleaseValue) (script : ScriptValue) where
   staying_behind s n lt who = prefix_self s.custodian.chain
 
   -- so many phases more
-  pub go_on : (m n : ℕ) (first at : Standing) (text : List ℕ) → AreBehind script at → PhasesGo setup base script n first text at
-      → (more : List ℕ) × (last : Standing) × PhasesGo setup base script (n + m) first (text ++ more) last
-  go_on zero n first at text behind goes =
+  pub go_on : (m n : ℕ) (first at : Progress) → AreBehind script at.standing → PhasesGo setup base script n first at
+      → (more : List ℕ) × (last : Standing) × PhasesGo setup base script (n + m) first (advanced at more last)
+  go_on zero n first at behind goes =
       let same : n + 0 ≡ n = omega arith in (
         [],
-        at,
-        subst (λ (k : ℕ). PhasesGo setup base script k first (text ++ []) at) (sym same)
-            (subst (λ (t : List ℕ). PhasesGo setup base script n first t at) (sym (append-nil text)) goes),
+        at.standing,
+        subst (λ (k : ℕ). PhasesGo setup base script k first (advanced at [] at.standing)) (sym same)
+            (subst (λ (t : List ℕ). PhasesGo setup base script n first (record { text = t; standing = at.standing })) (sym (append-nil at.text)) goes),
       )
-  go_on (suc m) n first at text behind goes =
-      let (replies, phase) = stay_phase (n + 1) at behind in
+  go_on (suc m) n first at behind goes =
+      let (replies, phase) = stay_phase (n + 1) at.standing behind in
       let here : List ℕ = phase_text script (n + 1) (λ k. text_of (replies k)) in
-      let (more, last, all) = go_on m (n + 1) first (after_staying at) (text ++ here) (staying_behind at)
-      (one_more setup base script n first at (after_staying at) text here replies goes phase refl) in
+      let next : Standing = after_staying at.standing in
+      let (more, last, all) = go_on m (n + 1) first (advanced at here next) (staying_behind at.standing)
+      (one_more setup base script n first at next here replies goes phase refl) in
       let count : n + 1 + m ≡ n + suc m = omega arith in (
         here ++ more,
         last,
-        subst (λ (k : ℕ). PhasesGo setup base script k first (text ++ (here ++ more)) last) count
-            (subst (λ (t : List ℕ). PhasesGo setup base script (n + 1 + m) first t last) (append_assoc text here more) all),
+        subst (λ (k : ℕ). PhasesGo setup base script k first (advanced at (here ++ more) last)) count
+            (subst (λ (t : List ℕ). PhasesGo setup base script (n + 1 + m) first (record { text = t; standing = last })) (append_assoc at.text here more) all),
       )
 
   -- the first phases can be led to all
-  pub go_to_end : (n phases : ℕ) (first at : Standing) (text : List ℕ) → n ≤ phases → AreBehind script at
-      → PhasesGo setup base script n first text at → (more : List ℕ) × (last : Standing) × PhasesGo setup base script phases first
-      (text ++ more) last
-  go_to_end n phases first at text le behind goes =
+  pub go_to_end : (n phases : ℕ) (first at : Progress) → n ≤ phases → AreBehind script at.standing
+      → PhasesGo setup base script n first at → (more : List ℕ) × (last : Standing) × PhasesGo setup base script phases first (advanced at more last)
+  go_to_end n phases first at le behind goes =
       let is : n + (phases - n) ≡ phases = omega (arith, le) in
-      let (more, last, all) = go_on (phases - n) n first at text behind goes in
-      (more, last, subst (λ (k : ℕ). PhasesGo setup base script k first (text ++ more) last) is all)
+      let (more, last, all) = go_on (phases - n) n first at behind goes in
+      (more, last, subst (λ (k : ℕ). PhasesGo setup base script k first (advanced at more last)) is all)

@@ -8,18 +8,17 @@ use Rattle.tb_front.specs.Holders.{Name}
 use Rattle.tb_front.proofs.Prefixes.{prefix_self, prefix_trans}
 use Rattle.tb_lanes.specs.declared.lane.Lane.{Lane}
 use Rattle.tb_lanes.specs.Lanes.{Ran, has_some}
-use Rattle.tb_lanes.specs.Phases.{AnalystGoes, LaneGoes, PhaseGoes, PhasesGo, Standing, after_seeing, lane_at, lane_text, lanes_text, lines_at, phase_line, phase_text}
-use Rattle.tb_lanes.specs.Runs.{AnalystRan, KnowLines, LaneRan, PhaseRan, Stand, Tell, standing_of}
+use Rattle.tb_lanes.specs.Phases.{AnalystGoes, IsPhase, LaneGoes, PhaseGoes, PhasesGo, Progress, Standing, after_seeing, begun_with, lane_at, lane_text, lanes_text, lines_at, phase_line, phase_text}
+use Rattle.tb_lanes.specs.Runs.{AnalystRan, KnowLines, LaneRan, PhaseRan, Stand, Tell}
 use Rattle.tb_lanes.proofs.Lanes.{told_text}
 use Rattle.tb_session.proofs.LegalParties.{lines_legal}
 use Rattle.tb_model.specs.Releases.{ReleaseValue}
 use Rattle.tb_model.specs.Setups.{SetupValue}
 use Rattle.tb_release.specs.Batches.{BatchValue}
-use Rattle.tb_script.specs.Runs.{IsOwnerOf}
 use Rattle.tb_script.specs.Scripts.{ScriptValue, lanes_of, role_of_lane}
 use Rattle.tb_lines.specs.Outputs.{ReplyValue, text_of}
-use Rattle.tb_session.specs.Parties.{role_of, seen_by, state_of}
-use Rattle.tb_session.specs.Replies.{StateValue}
+use Rattle.tb_session.specs.Parties.{IsOwnerOf, role_of, seen_by, state_of}
+use Rattle.tb_ahead.specs.Publishing.{StateValue}
 use Rattle.tb_session.specs.Transcripts.{IsLegal}
 use Rattle.tb_session.specs.declared.party.Party.{Party}
 use Rattle.tb_session.specs.declared.party.Party.TheVariants as party
@@ -212,20 +211,26 @@ know_lines {G} setup script phase own own' lanes lanes' ran n d lt = knows (role
       knows role.Custodian h = h.had_lines
       knows role.Analyst h = h.ran.had_lines
 
+-- how far a run has come with one phase more
+abbrev pub advanced : Progress → List ℕ → Standing → Progress
+advanced at more next = record { text = at.text ++ more; standing = next }
+
 -- the phases so far, and one more
-pub one_more : (setup : SetupValue) (base : ReleaseValue) (script : ScriptValue) (n : ℕ) (first at next : Standing) (text more : List ℕ)
-    (replies : ℕ → List ReplyValue) → PhasesGo setup base script n first text at
-    → PhaseGoes setup base script (n + 1) replies at next → more ≡ phase_text script (n + 1) (λ k. text_of (replies k))
-    → PhasesGo setup base script (n + 1) first (text ++ more) next
-one_more setup base script n first at next text more replies so_far goes is =
+pub one_more : (setup : SetupValue) (base : ReleaseValue) (script : ScriptValue) (n : ℕ) (first at : Progress) (next : Standing) (more : List ℕ)
+    (replies : ℕ → List ReplyValue) → PhasesGo setup base script n first at
+    → PhaseGoes setup base script (n + 1) replies at.standing next → more ≡ phase_text script (n + 1) (λ k. text_of (replies k))
+    → PhasesGo setup base script (n + 1) first (advanced at more next)
+one_more setup base script n first at next more replies so_far goes is =
     let here : n + 1 ≡ suc n = add-one n in
-    subst (λ (k : ℕ). PhasesGo setup base script k first (text ++ more) next) (sym here) (
+    let phase : IsPhase setup base script (n + 1) at (advanced at more next) = record {
+      replies = replies;
+      goes = goes;
+      added = ap (λ (t : List ℕ). at.text ++ t) is;
+    } in
+    subst (λ (k : ℕ). PhasesGo setup base script k first (advanced at more next)) (sym here) (
       at,
-      text,
-      replies,
-      ap (λ (t : List ℕ). text ++ t) (is ∙ ap (λ (k : ℕ). phase_text script k (λ j. text_of (replies j))) here),
       so_far,
-      subst (λ (k : ℕ). PhaseGoes setup base script k replies at next) here goes,
+      subst (λ (k : ℕ). IsPhase setup base script k at (advanced at more next)) here phase,
     )
 
 pub owner_role : (name : Name) (shape : List ℕ) (p : Party) → IsOwnerOf name shape p → role_of p ≡ role.Custodian
@@ -234,7 +239,7 @@ owner_role name shape (party.Custodian c h) is = refl
 
 -- before the first phase
 pub stand_first : {G : Type 0} (script : ScriptValue) (own : Party) (lanes : List (Lane G))
-    → Stand (seen_by own).start.base script own lanes (standing_of own)
+    → Stand (seen_by own).start.base script own lanes (begun_with (state_of own)).standing
 stand_first script own lanes = record {
   over = refl;
   custodian = refl;

@@ -12,9 +12,8 @@ use Rattle.tb_board.specs.Custodians.{CustodianValue}
 use Rattle.tb_board.specs.Holders.{HolderValue}
 use Rattle.tb_board.specs.Starts.{StartValue}
 use Rattle.tb_front.specs.Holders.{IsLater, Name}
-use Rattle.tb_script.specs.Runs.{IsOwnerOf, Learns}
 use Rattle.tb_lines.specs.Outputs.{Lead, ReplyValue, text_of}
-use Rattle.tb_session.specs.Parties.{IsAnalystOf, seen_by}
+use Rattle.tb_session.specs.Parties.{IsAnalystOf, IsOwnerOf, Learns, seen_by}
 use Rattle.tb_session.specs.PartySessions.{IsPartyStep}
 use Rattle.tb_session.specs.declared.party.Party.{Party}
 use Rattle.tb_session.specs.declared.party.Party.TheVariants as party

@@ -12,11 +12,10 @@ use Rattle.tb_lanes.specs.Runs.{AnalystRan, IsOwner, IsSwapped, LaneRan, PhaseRa
 use Rattle.tb_session.proofs.LegalParties.{lines_legal}
 use Rattle.tb_lanes.proofs.Names.{same_lane}
 use Rattle.tb_model.specs.Setups.{SetupValue}
-use Rattle.tb_script.specs.Runs.{IsOwnerOf}
 use Rattle.tb_script.specs.Scripts.{ScriptValue, lanes_of, role_of_lane}
 use Rattle.tb_script.proofs.Running.{stays_owner}
 use Rattle.tb_serve.specs.Each.{Each}
-use Rattle.tb_session.specs.Parties.{GoesOn, IsAnalystOf, IsPartyOf, role_of, seen_by}
+use Rattle.tb_session.specs.Parties.{GoesOn, IsAnalystOf, IsOwnerOf, IsPartyOf, role_of, seen_by}
 use Rattle.tb_session.specs.declared.party.Party.{Party}
 use Rattle.tb_session.specs.declared.party.Party.TheVariants as party
 use Rattle.tb_session.specs.declared.party.Role.{Role}

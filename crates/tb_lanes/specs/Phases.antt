@@ -1,14 +1,17 @@
 -- What is written for a script whose lanes are answered at the same time, phase by phase. Nothing
 -- here speaks of the program.
-use Rattle.std.specs.Prelude.{◌≡◌, ◌==◌, ◌&&◌, ◌<◌, ◌++◌, ℕ, zero, suc, Bool, List, [], ◌∷◌, length}
-use Rattle.std.specs.Prelude.{bytes_eq, codes, decimal, filter, map, slice_index_or}
+use Rattle.std.specs.Prelude.{◌≡◌, ◌==◌, ◌&&◌, ◌<◌, ◌≤◌, ◌++◌, ℕ, zero, suc, Bool, List, [], ◌∷◌}
+use Rattle.std.specs.Prelude.{bytes_eq, codes, decimal, filter, length, map, slice_index_or, Option}
 use mathlib.Core.List.{IsPrefix}
+use Rattle.tb_io.specs.Taken.{Took, TookPart}
 use Rattle.tb_model.specs.Releases.{ReleaseValue}
 use Rattle.tb_model.specs.Setups.{SetupValue}
 use Rattle.tb_release.specs.Batches.{BatchValue}
 use Rattle.tb_script.specs.Scripts.{ScriptLine, ScriptValue, lanes_of, role_of_lane}
+use Rattle.tb_script.specs.declared.run.RunEnd.{RunEnd}
+use Rattle.tb_script.specs.declared.run.RunEnd.TheVariants as run_end
 use Rattle.tb_lines.specs.Outputs.{ReplyValue, text_of}
-use Rattle.tb_session.specs.Replies.{StateValue}
+use Rattle.tb_ahead.specs.Publishing.{StateValue}
 use Rattle.tb_session.specs.Transcripts.{IsLegal}
 use Rattle.tb_session.specs.declared.party.Role.{Role}
 use Rattle.tb_session.specs.declared.party.Role.TheVariants as role
@@ -102,16 +105,43 @@ pub record PhaseGoes (setup : SetupValue) (base : ReleaseValue) (script : Script
   pub none : ((n : ℕ) → n < length (lanes_of script.lines)
       → role_of_lane (lane_at script n) ≡ role.Analyst) → new.custodian ≡ old.custodian
 
--- the first phases of a script lead from where all stand to where they stand then, with this text
-abbrev pub PhasesGo : SetupValue → ReleaseValue → ScriptValue → ℕ → Standing → List ℕ → Standing
-    → Type 0
-PhasesGo setup base script zero old text new = (text ≡ []) × (new ≡ old)
-PhasesGo setup base script (suc n) old text new =
-    (at : Standing) × (before : List ℕ) × (replies : ℕ → List ReplyValue)
-    × (text ≡ before ++ phase_text script (suc n) (λ k. text_of (replies k)))
-    × PhasesGo setup base script n old before at
-    × PhaseGoes setup base script (suc n) replies at new
+-- how far a run has come: what was written, and where all stand
+pub record Progress : Type 0 where
+  pub text : List ℕ
+  pub standing : Standing
 
--- where all stand at first: the custodian holds no edits, and no analyst has seen anything
-abbrev pub at_first : List BatchValue → Standing
-at_first chain = record { custodian = after_seeing chain; seen = λ _. [] }
+-- one phase more was answered and written
+pub record IsPhase (setup : SetupValue) (base : ReleaseValue) (script : ScriptValue) (phase : ℕ)
+    (old new : Progress) : Type 0 where
+  pub replies : ℕ → List ReplyValue
+  pub goes : PhaseGoes setup base script phase replies old.standing new.standing
+  pub added : new.text ≡ old.text ++ phase_text script phase (λ n. text_of (replies n))
+
+-- the first phases of a script, one after another, lead from how far a run had come to how far it
+-- has come then
+abbrev pub PhasesGo : SetupValue → ReleaseValue → ScriptValue → ℕ → Progress → Progress → Type 0
+PhasesGo setup base script zero first last = last ≡ first
+PhasesGo setup base script (suc n) first last =
+    (at : Progress)
+    × PhasesGo setup base script n first at × IsPhase setup base script (suc n) at last
+
+-- at first nothing was written, and no analyst has seen anything
+abbrev pub begun_with : StateValue → Progress
+begun_with custodian =
+    record { text = []; standing = record { custodian = custodian; seen = λ _. [] } }
+
+-- what a run wrote from there, by how it ended: the text of all phases, a part of it where a write
+-- failed, or that of some first phases where it was out of memory
+abbrev pub AreLanesRun : SetupValue → ReleaseValue → ScriptValue → RunEnd → StateValue
+    → Option (List ℕ) → Option (List ℕ) → Type 0
+AreLanesRun setup base script run_end.Done custodian before after =
+    (last : Progress)
+    × PhasesGo setup base script script.phases (begun_with custodian) last
+    × Took before after last.text
+AreLanesRun setup base script run_end.WriteFault custodian before after =
+    (last : Progress)
+    × PhasesGo setup base script script.phases (begun_with custodian) last
+    × TookPart before after last.text
+AreLanesRun setup base script run_end.Memory custodian before after =
+    (n : ℕ) × (last : Progress) × (n ≤ script.phases)
+    × PhasesGo setup base script n (begun_with custodian) last × Took before after last.text

@@ -83,7 +83,3 @@ pub record Stand {G : Type 0} (base : ReleaseValue) (script : ScriptValue) (own 
   pub analysts : (n : ℕ) (d : Lane G) → n < length lanes
       → role_of_lane (lane_at script n) ≡ role.Analyst
       → IsPrefix (standing.seen n) (seen_by (slice_index_or lanes n d).party).list
-
--- where all stand before the first phase: no analyst has seen anything
-abbrev pub standing_of : Party → Standing
-standing_of own = record { custodian = state_of own; seen = λ _. [] }

@@ -4,10 +4,9 @@ ghost use Rattle.std.specs.Prelude.{◌≡◌, ◌<◌, ◌≤◌, ◌+◌, All,
 ghost use Rattle.tb_lanes.specs.Lanes.{HasRun};
 ghost use Rattle.tb_lanes.specs.Runs.{IsOwner, IsSwapped, PhaseRan};
 ghost use Rattle.tb_model.specs.Schemas.{shape_of};
-ghost use Rattle.tb_script.specs.Runs.{IsOwnerOf};
 ghost use Rattle.tb_script.specs.Scripts.{lanes_of};
 ghost use Rattle.tb_serve.specs.Each.{Each};
-ghost use Rattle.tb_session.specs.Parties.{IsAnalystOf, IsPartyOf};
+ghost use Rattle.tb_session.specs.Parties.{IsAnalystOf, IsOwnerOf, IsPartyOf};
 
 use crate::lane::{Lane, run_lane};
 use crate::telling::{confirm_all, tell_all};

@@ -1,15 +1,14 @@
 // All phases of a script.
 
-ghost use Rattle.std.specs.Prelude.{◌≡◌, ◌<◌, ◌≤◌, ◌+◌, [], ℕ, All, IfOk, List, length, vec_len};
+ghost use Rattle.std.specs.Prelude.{◌≡◌, ◌≤◌, [], All, IfOk, length, vec_len};
 ghost use Rattle.tb_io.specs.Faults.{HasRisen};
-ghost use Rattle.tb_io.specs.Taken.{Took, TookPart};
-ghost use Rattle.tb_lanes.specs.Phases.{PhasesGo, Standing, at_first};
-ghost use Rattle.tb_lanes.specs.Runs.{IsOwner, standing_of};
+ghost use Rattle.tb_lanes.specs.Phases.{AreLanesRun};
+ghost use Rattle.tb_lanes.specs.Runs.{IsOwner};
 ghost use Rattle.tb_model.specs.Schemas.{shape_of};
-ghost use Rattle.tb_script.specs.Runs.{IsOwnerOf};
 ghost use Rattle.tb_script.specs.Scripts.{lanes_of};
 ghost use Rattle.tb_script.specs.declared.run.RunEnd.TheVariants as run_end;
-ghost use Rattle.tb_session.specs.Parties.{IsAnalystOf, IsCustodianOf, seen_by};
+ghost use Rattle.tb_session.specs.Parties.{IsAnalystOf, IsCustodianOf, seen_by, state_at};
+ghost use Rattle.tb_session.specs.Parties.{IsOwnerOf, state_of};
 
 use crate::lane::Lane;
 use crate::phase::run_phase;
@@ -98,19 +97,8 @@ fn run_phases<B: Named + Send + Sync, R: Threads + Wait + Sync, G: Gate + Send, 
     ensures count { K.faults sink.old ≤ K.faults sink.new }
     ensures failed { result ≡ run_end.WriteFault
         → HasRisen (K.faults sink.old) (K.faults sink.new) }
-    ensures memory { result ≡ run_end.Memory → (k : ℕ) × (text : List ℕ) × (last : Standing)
-        × (k < script.now.phases)
-        × PhasesGo setup.now (seen_by own.old).start.base script.now k (standing_of own.old)
-        text last
-        × Took (K.taken sink.old) (K.taken sink.new) text }
-    ensures done { result ≡ run_end.Done → (text : List ℕ) × (last : Standing)
-        × PhasesGo setup.now (seen_by own.old).start.base script.now script.now.phases
-        (standing_of own.old) text last
-        × Took (K.taken sink.old) (K.taken sink.new) text }
-    ensures part { result ≡ run_end.WriteFault → (text : List ℕ) × (last : Standing)
-        × PhasesGo setup.now (seen_by own.old).start.base script.now script.now.phases
-        (standing_of own.old) text last
-        × TookPart (K.taken sink.old) (K.taken sink.new) text }
+    ensures run { AreLanesRun setup.now (seen_by own.old).start.base script.now result
+        (state_of own.old) (K.taken sink.old) (K.taken sink.new) }
 {
     let owner = owner_of(script);
     for before in 0..script.phases() {
@@ -150,22 +138,8 @@ pub fn run_lanes<B: Named + Send + Sync, K: Sink, G: Gate + Send + Drop>(
     ensures count { K.faults sink.old ≤ K.faults sink.new }
     ensures failed { result ≡ run_end.WriteFault
         → HasRisen (K.faults sink.old) (K.faults sink.new) }
-    // The text of the first phases was taken, and nothing of the next.
-    ensures memory { result ≡ run_end.Memory → (k : ℕ) × (text : List ℕ) × (last : Standing)
-        × (k ≤ script.now.phases)
-        × PhasesGo setup.now custodian.writer.start.base script.now k
-        (at_first custodian.writer.list) text last
-        × Took (K.taken sink.old) (K.taken sink.new) text }
-    // The text of all phases was taken.
-    ensures done { result ≡ run_end.Done → (text : List ℕ) × (last : Standing)
-        × PhasesGo setup.now custodian.writer.start.base script.now script.now.phases
-        (at_first custodian.writer.list) text last
-        × Took (K.taken sink.old) (K.taken sink.new) text }
-    // Or a part of it.
-    ensures part { result ≡ run_end.WriteFault → (text : List ℕ) × (last : Standing)
-        × PhasesGo setup.now custodian.writer.start.base script.now script.now.phases
-        (at_first custodian.writer.list) text last
-        × TookPart (K.taken sink.old) (K.taken sink.new) text }
+    ensures run { AreLanesRun setup.now custodian.writer.start.base script.now result
+        (state_at custodian.writer []) (K.taken sink.old) (K.taken sink.new) }
 {
     let Ok(mut lanes) = lanes_of(rt, alloc, board, &mut custodian, gates) else {
         return RunEnd::Memory;

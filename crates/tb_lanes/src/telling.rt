@@ -2,14 +2,12 @@
 
 ghost use Rattle.std.specs.Prelude.{◌≡◌, ℕ, List, All};
 ghost use Rattle.tb_lanes.specs.Lanes.{IsConfirmed, IsTold};
-ghost use Rattle.tb_script.specs.Runs.{IsOwnerOf};
 ghost use Rattle.tb_serve.specs.Each.{Each};
-ghost use Rattle.tb_session.specs.Parties.{IsAnalystOf, seen_by};
+ghost use Rattle.tb_session.specs.Parties.{IsAnalystOf, IsOwnerOf, seen_by};
 
 use crate::lane::Lane;
 use tb_board::{Board, Custodian, Named};
-use tb_script::tell;
-use tb_session::{Party, confirm};
+use tb_session::{Party, confirm, tell};
 
 // The analyst of a lane learns what the custodian has seen.
 fn tell_lane<B: Named, G>(board: &Board<B>, custodian: &mut Custodian, lane: &mut Lane<G>)

@@ -15,12 +15,13 @@ use Rattle.tb_model.specs.Releases.{ReleaseValue}
 use Rattle.tb_model.specs.Setups.{SetupValue}
 use Rattle.tb_release.specs.Batches.{BatchValue}
 use Rattle.tb_release.specs.declared.edits.Edit.{Edit}
-use Rattle.tb_script.specs.Runs.{IsAskedStep, IsLaneReply, IsOwnerOf, IsRun, Learns}
+use Rattle.tb_script.specs.Runs.{IsAskedStep, IsLaneReply, IsRun}
 use Rattle.tb_script.specs.Scripts.{ScriptLine, ScriptValue, role_of_lane}
 use Rattle.tb_script.specs.declared.run.RunEnd.TheVariants as run_end
-use Rattle.tb_session.specs.Parties.{GoesOn, IsAnalystOf, IsPartyOf, role_of, seen_by, state_at, state_of}
+use Rattle.tb_session.specs.Parties.{GoesOn, IsAnalystOf, IsOwnerOf, IsPartyOf, Learns, role_of, seen_by, state_at, state_of}
 use Rattle.tb_session.specs.PartySessions.{with_none_held}
-use Rattle.tb_session.specs.Replies.{IsReply, StateValue}
+use Rattle.tb_ahead.specs.Publishing.{StateValue}
+use Rattle.tb_session.specs.Replies.{IsReply}
 use Rattle.tb_session.specs.Transcripts.{IsStep}
 use Rattle.tb_session.specs.declared.party.Party.{Party}
 use Rattle.tb_session.specs.declared.party.Party.TheVariants as party

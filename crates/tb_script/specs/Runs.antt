@@ -2,8 +2,7 @@
 -- custodian has published by then.
 use Rattle.std.specs.Prelude.{◌≡◌, ◌<◌, ℕ, List, All, Option, length}
 use Rattle.tb_board.specs.Custodians.{CustodianValue}
-use Rattle.tb_board.specs.Holders.{HolderValue}
-use Rattle.tb_front.specs.Holders.{IsLater, Name}
+use Rattle.tb_front.specs.Holders.{Name}
 use Rattle.tb_lines.specs.Lists.{AreAnswered, AreCutShort, StepBy}
 use Rattle.tb_lines.specs.Outputs.{AtPrice, Charged, Lead, ReplyValue, charged}
 use Rattle.tb_model.specs.Releases.{ReleaseValue}
@@ -13,10 +12,10 @@ use Rattle.tb_script.specs.Scripts.{ScriptLine, ScriptValue, lanes_of, role_of_l
 use Rattle.tb_script.specs.declared.asker.Asker.{Asker}
 use Rattle.tb_script.specs.declared.run.RunEnd.{RunEnd}
 use Rattle.tb_script.specs.declared.run.RunEnd.TheVariants as run_end
-use Rattle.tb_session.specs.Parties.{IsAnalystOf, IsCustodianOf, seen_by, state_at, state_of}
-use Rattle.tb_session.specs.Replies.{IsReply, StateValue}
+use Rattle.tb_ahead.specs.Publishing.{StateValue}
+use Rattle.tb_session.specs.Parties.{IsAnalystOf, IsOwnerOf, seen_by, state_at, state_of}
+use Rattle.tb_session.specs.Replies.{IsReply}
 use Rattle.tb_session.specs.declared.party.Party.{Party}
-use Rattle.tb_session.specs.declared.party.Party.TheVariants as party
 use Rattle.tb_session.specs.declared.party.Role.{Role}
 use Rattle.tb_session.specs.declared.party.Role.TheVariants as role
 
@@ -48,17 +47,6 @@ pub record Asks (script : ScriptValue) (line : ScriptLine) (who : Asker) : Type 
   pub role : who.role ≡ role_of_lane line.lane
 
 -- ---- what the functions of a run say
-
--- the custodian of the front of this name, over this shape
-abbrev pub IsOwnerOf : Name → List ℕ → Party → Type 0
-IsOwnerOf name shape (party.Analyst pass) = ⊥
-IsOwnerOf name shape (party.Custodian custodian held) = IsCustodianOf name shape custodian held
-
--- an analyst has then seen what it had, and what another holder has
-abbrev pub Learns : HolderValue → Party → Party → Type 0
-Learns seen (party.Analyst old) (party.Analyst new) = IsLater old new × IsLater seen new
-Learns seen (party.Analyst old) (party.Custodian custodian held) = ⊥
-Learns seen (party.Custodian custodian held) new = ⊥
 
 -- an analyst's line is answered over what the custodian wrote, whatever edits are held, and changes
 -- nothing

@@ -7,9 +7,9 @@ ghost use Rattle.tb_io.specs.declared.limits.TheConstants.{MOST_LINE_BYTES};
 ghost use Rattle.tb_lines.specs.Moments.{IsReplied, moment};
 ghost use Rattle.tb_lines.specs.Outputs.{charged};
 ghost use Rattle.tb_model.specs.Schemas.{shape_of};
-ghost use Rattle.tb_script.specs.Runs.{IsLaneStep, IsOwnerOf, IsRun, IsStepBeside, Learns};
+ghost use Rattle.tb_script.specs.Runs.{IsLaneStep, IsRun, IsStepBeside};
 ghost use Rattle.tb_script.specs.declared.run.RunEnd.TheVariants as run_end;
-ghost use Rattle.tb_session.specs.Parties.{IsAnalystOf, IsCustodianOf, state_at};
+ghost use Rattle.tb_session.specs.Parties.{IsAnalystOf, IsCustodianOf, IsOwnerOf, state_at};
 
 use crate::asker::Asker;
 use crate::script::Script;
@@ -23,7 +23,7 @@ use tb_build::{Gate, Open};
 use tb_io::{Sink, Wrote};
 use tb_lines::{Answerer, answer_list};
 use tb_release::Edits;
-use tb_session::{Party, Role, analyst_of, answer, confirm};
+use tb_session::{Party, Role, analyst_of, answer, confirm, tell};
 use tb_text::Setup;
 
 /// How the run of a script ends: each line was answered, a write failed, or it is out of memory.
@@ -32,22 +32,6 @@ pub enum RunEnd {
     Done,
     WriteFault,
     Memory,
-}
-
-/// An analyst's pass learns what the custodian's has seen.
-pub fn tell<B: Named>(board: &Board<B>, custodian: &mut Custodian, party: &mut Party)
-    requires front { custodian.old.pass.name ≡ B.name }
-    requires analyst { IsAnalystOf B.name custodian.old.writer.start.shape party.old }
-    ensures same { custodian.new ≡ custodian.old }
-    ensures learns { Learns custodian.old.pass party.old party.new }
-{
-    match party {
-        Party::Analyst(pass) => {
-            let note = board.note(custodian.pass());
-            board.learn(pass, note);
-        }
-        Party::Custodian(_, _) => {}
-    }
 }
 
 // Answers an analyst's line over the custodian's release: its pass learns what the custodian's has

@@ -10,11 +10,13 @@ use Rattle.tb_release.specs.Chains.{release_after}
 use Rattle.tb_lines.specs.Lines.{is_passed_over}
 use Rattle.tb_lines.specs.Outputs.{ReplyValue}
 use Rattle.tb_session.specs.Parties.{IsAnalystOf, IsBehind, IsPartyOf, seen_by}
-use Rattle.tb_session.specs.Replies.{IsAnswer, IsReply, IsReplyTo, StateValue}
+use Rattle.tb_ahead.specs.Publishing.{StateValue}
+use Rattle.tb_session.specs.Replies.{IsReply, IsReplyTo, table_price}
 use Rattle.tb_session.specs.declared.asks.Asks.TheVariants as asks
 use Rattle.tb_session.specs.declared.party.Party.{Party}
 use Rattle.tb_session.specs.declared.party.Party.TheVariants as party
 use Rattle.tb_session.specs.declared.party.Role.TheVariants as role
+use Rattle.tb_tables.specs.Answers.{IsAnswer}
 
 -- an analyst's reply changes nothing, and is one wherever the same batches were seen
 over_any : (over : Bool) (setup : SetupValue) (base : ReleaseValue) (at after state : StateValue) (line : List ℕ) (reply : ReplyValue) → at.chain ≡ state.chain
@@ -22,7 +24,7 @@ over_any : (over : Bool) (setup : SetupValue) (base : ReleaseValue) (at after st
     → (after ≡ at) × IsReplyTo (if over then asks.Nothing else asks.Table) setup (release_after base state.chain) state line reply state
 over_any true setup base at after state line reply same (is, goes) = (goes, (is, refl))
 over_any false setup base at after state line reply same (is, goes) =
-    (goes, (subst (λ (chain : List BatchValue). IsAnswer setup (release_after base chain) line reply) same is, refl))
+    (goes, (subst (λ (chain : List BatchValue). IsAnswer setup (release_after base chain) (table_price setup (release_after base chain)) line reply) same is, refl))
 
 -- so it changes nothing
 pub analyst_stays : (setup : SetupValue) (base : ReleaseValue) (at after : StateValue) (line : List ℕ) (reply : ReplyValue) → IsReply role.Analyst setup base at line reply after → after ≡ at

@@ -2,10 +2,6 @@ pub mod SomeReplies
 pub mod Analysts
 pub mod LegalParties
 mod Texts
-mod Pieces
-mod Cubed
-mod Counts
-mod QueryAnswers
 mod Revising
 mod Leading
 mod Numbers

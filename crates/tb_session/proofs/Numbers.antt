@@ -16,7 +16,8 @@ use Rattle.tb_release.specs.Chains.{after_batch, release_after}
 use Rattle.tb_session.specs.Asks.{asks_of}
 use Rattle.tb_session.specs.Laws.{NumbersNeverFall, TablesNameTheirList}
 use Rattle.tb_lines.specs.Outputs.{ReplyValue}
-use Rattle.tb_session.specs.Replies.{IsPublishReply, IsReplyTo, StateValue}
+use Rattle.tb_ahead.specs.Publishing.{IsPublishReply, StateValue}
+use Rattle.tb_session.specs.Replies.{IsReplyTo}
 use Rattle.tb_session.specs.Transcripts.{IsLegal, IsStep, Sees}
 use Rattle.tb_session.specs.declared.asks.Asks.{Asks}
 use Rattle.tb_session.specs.declared.asks.Asks.TheVariants as asks

@@ -11,8 +11,8 @@ use Rattle.tb_release.specs.Chains.{release_after}
 use Rattle.tb_session.specs.Asks.{asks_of}
 use Rattle.tb_session.specs.Laws.{PublishedStays}
 use Rattle.tb_lines.specs.Outputs.{ReplyValue}
-use Rattle.tb_session.specs.Replies.{IsPublishReply, IsReplyTo, StateValue}
-use Rattle.tb_session.specs.ReplyLines.{published_line}
+use Rattle.tb_ahead.specs.Publishing.{IsPublishReply, StateValue, published_line}
+use Rattle.tb_session.specs.Replies.{IsReplyTo}
 use Rattle.tb_session.specs.Transcripts.{IsLegal}
 use Rattle.tb_session.proofs.Numbers.{number_after}
 use Rattle.tb_session.specs.declared.asks.Asks.{Asks}

@@ -8,7 +8,8 @@ use Rattle.tb_release.specs.FaultNames.{fault_name}
 use Rattle.tb_release.specs.declared.edits.Edit.{Edit}
 use Rattle.tb_release.specs.declared.fault.EditFaultKind.{EditFaultKind}
 use Rattle.tb_session.specs.Parties.{PublishLeads, state_at}
-use Rattle.tb_session.specs.ReplyLines.{memory_line, published_line, batch_refusal_line}
+use Rattle.tb_ahead.specs.Publishing.{published_line, batch_refusal_line}
+use Rattle.tb_tables.specs.ReplyLines.{memory_line}
 
 module _ (old new : CustodianValue) (held after : List Edit) where
   -- the batch was published

@@ -9,8 +9,11 @@ use Rattle.tb_session.specs.declared.asks.Asks.{Asks}
 use Rattle.tb_session.specs.declared.asks.Asks.TheVariants as asks
 use Rattle.tb_session.specs.declared.party.Role.{Role}
 use Rattle.tb_lines.specs.Outputs.{ReplyValue}
-use Rattle.tb_session.specs.Replies.{IsReply, IsReplyTo, StateValue, free_reply}
-use Rattle.tb_session.specs.ReplyLines.{cleared_line, memory_line, stats_line}
+use Rattle.tb_ahead.specs.Publishing.{StateValue}
+use Rattle.tb_session.specs.Replies.{IsReply, IsReplyTo}
+use Rattle.tb_session.specs.ReplyLines.{cleared_line, stats_line}
+use Rattle.tb_tables.specs.Answers.{free_reply}
+use Rattle.tb_tables.specs.ReplyLines.{memory_line}
 
 reply_to_any : (what : Asks) (setup : SetupValue) (release : ReleaseValue) (state : StateValue) (line : List ℕ) → (reply : ReplyValue) × (next : StateValue) × IsReplyTo what setup release state line reply next
 reply_to_any asks.Nothing setup release state line = (free_reply [], state, (refl, refl))

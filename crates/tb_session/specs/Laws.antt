@@ -10,8 +10,7 @@ use Rattle.tb_release.specs.Batches.{BatchValue}
 use Rattle.tb_release.specs.Chains.{release_after}
 use Rattle.tb_session.specs.Asks.{asks_of}
 use Rattle.tb_lines.specs.Outputs.{ReplyValue}
-use Rattle.tb_session.specs.Replies.{StateValue}
-use Rattle.tb_session.specs.ReplyLines.{published_line}
+use Rattle.tb_ahead.specs.Publishing.{StateValue, published_line}
 use Rattle.tb_session.specs.Transcripts.{IsLegal, IsStep}
 use Rattle.tb_session.specs.declared.asks.Asks.TheVariants as asks
 use Rattle.tb_session.specs.declared.party.Role.{Role}

@@ -5,6 +5,5 @@ pub mod Transcripts
 pub mod Laws
 pub mod RunWorlds
 pub mod ReplyTexts
-pub mod Counting
 pub mod Parties
 pub mod PartySessions

@@ -10,7 +10,7 @@ use Rattle.tb_model.specs.Setups.{SetupValue}
 use Rattle.tb_release.specs.Laws.{EditFits}
 use Rattle.tb_release.specs.declared.edits.Edit.{Edit}
 use Rattle.tb_lines.specs.Outputs.{ReplyValue}
-use Rattle.tb_session.specs.Replies.{IsAnswer, IsPublishReply, StateValue}
+use Rattle.tb_ahead.specs.Publishing.{IsPublishReply, StateValue}
 use Rattle.tb_session.specs.Transcripts.{IsStep}
 use Rattle.tb_session.specs.declared.party.Party.{Party}
 use Rattle.tb_session.specs.declared.party.Party.TheVariants as party
@@ -40,6 +40,17 @@ IsPartyOf name shape (party.Custodian custodian held) = IsCustodianOf name shape
 abbrev pub IsAnalystOf : Name → List ℕ → Party → Type 0
 IsAnalystOf name shape (party.Analyst pass) = IsPassOf name shape pass
 IsAnalystOf name shape (party.Custodian custodian held) = ⊥
+
+-- the custodian of the front of this name, over this shape
+abbrev pub IsOwnerOf : Name → List ℕ → Party → Type 0
+IsOwnerOf name shape (party.Analyst pass) = ⊥
+IsOwnerOf name shape (party.Custodian custodian held) = IsCustodianOf name shape custodian held
+
+-- an analyst has then seen what it had, and what another holder has
+abbrev pub Learns : HolderValue → Party → Party → Type 0
+Learns seen (party.Analyst old) (party.Analyst new) = IsLater old new × IsLater seen new
+Learns seen (party.Analyst old) (party.Custodian custodian held) = ⊥
+Learns seen (party.Custodian custodian held) new = ⊥
 
 -- an analyst has seen a beginning of what the custodian's writer wrote
 abbrev pub IsBehind : HolderValue → Party → Type 0
@@ -100,12 +111,6 @@ pub record IsAnswered (setup : SetupValue) (old : Party) (line : List ℕ) (new 
   pub cost : after ≤ before + reply.price
 
 -- ---- what the functions below `answer` say
-
--- a query's line gets this text over a release, at no more than its price
-abbrev pub Answers : SetupValue → ReleaseValue → List ℕ → List ℕ → ℕ → ℕ → Type 0
-Answers setup release line text before after =
-    (price : ℕ) × IsAnswer setup release line (record { text = text; price = price })
-    × (after ≤ before + price)
 
 -- `publish` leads from one custodian and its held edits to others with this text
 pub record PublishLeads (old : CustodianValue) (held : List Edit) (text : List ℕ)

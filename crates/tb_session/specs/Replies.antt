@@ -4,39 +4,29 @@ use Rattle.std.specs.Prelude.{Some, if◌then◌else◌, is_none}
 use Rattle.tb_model.specs.Releases.{ReleaseValue}
 use Rattle.tb_model.specs.Setups.{SetupValue}
 use Rattle.tb_model.specs.Queries.{QueryValue}
-use Rattle.tb_model.specs.Texts.{table_text}
 use Rattle.tb_core.specs.Turns.{AreStats}
 use Rattle.tb_core.specs.Takes.{cube_price}
 use Rattle.tb_core.specs.declared.desk.Stats.{Stats}
 use Rattle.tb_plan.specs.Plans.{PlanValue, cube_cells_of, plan_of}
-use Rattle.tb_query.specs.Faults as queries
-use Rattle.tb_query.specs.FaultNames as query_names
-use Rattle.tb_query.specs.declared.fault.QueryFault.{QueryFault}
 use Rattle.tb_revise.specs.Faults as edits
 use Rattle.tb_revise.specs.FaultNames as edit_names
 use Rattle.tb_revise.specs.declared.fault.EditTextFault.{EditTextFault}
 use Rattle.tb_rows.specs.FaultNames.{FaultNameValue}
-use Rattle.tb_release.specs.Batches.{BatchValue, CanFollow, batch_of, batch_refusal}
+use Rattle.tb_release.specs.Batches.{BatchValue}
 use Rattle.tb_release.specs.Chains.{release_after}
-use Rattle.tb_release.specs.FaultNames as batch_names
 use Rattle.tb_release.specs.declared.edits.Edit.{Edit}
-use Rattle.tb_release.specs.declared.fault.EditFaultKind.{EditFaultKind}
 use Rattle.tb_release.specs.declared.limits.TheConstants.{MOST_EDITS}
 use Rattle.tb_session.specs.Asks.{asks_of}
 use Rattle.tb_lines.specs.Outputs.{ReplyValue}
-use Rattle.tb_session.specs.ReplyLines.{memory_line, refusal_line, held_line, edit_refusal_line}
+use Rattle.tb_session.specs.ReplyLines.{held_line, edit_refusal_line}
 use Rattle.tb_revise.specs.FaultNames.{too_many}
-use Rattle.tb_session.specs.ReplyLines.{published_line, batch_refusal_line}
+use Rattle.tb_ahead.specs.Publishing.{IsPublishReply, StateValue}
 use Rattle.tb_session.specs.ReplyLines.{stats_line, cleared_line, capacity_line}
 use Rattle.tb_session.specs.declared.asks.Asks.{Asks}
 use Rattle.tb_session.specs.declared.asks.Asks.TheVariants as asks
 use Rattle.tb_session.specs.declared.party.Role.{Role}
-
--- where a party stands: the batches that it has seen, and the edits that it holds, which are the
--- custodian's alone
-pub record StateValue : Type 0 where
-  pub chain : List BatchValue
-  pub held : List Edit
+use Rattle.tb_tables.specs.Answers.{IsAnswer, free_reply}
+use Rattle.tb_tables.specs.ReplyLines.{memory_line}
 
 -- how many records the table of a plan may cost: the release's; or, where it can be counted by a
 -- cube, as many changes as led to the release, if these are more
@@ -47,38 +37,6 @@ plan_price plan release =
 -- how many the table of a query may
 abbrev pub table_price : SetupValue → ReleaseValue → QueryValue → ℕ
 table_price setup release query = plan_price (plan_of setup.schema query) release
-
--- a query's table over a release
-abbrev pub table_reply : SetupValue → ReleaseValue → QueryValue → ReplyValue
-table_reply setup release query =
-    record { text = table_text setup release query; price = table_price setup release query }
-
--- a reply that costs nothing
-abbrev pub free_reply : List ℕ → ReplyValue
-free_reply text = record { text = text; price = 0 }
-
--- the reply to a line that reads as a query: its table, or that memory was refused, and then the
--- release's records may have been lent
-abbrev pub IsTable : SetupValue → ReleaseValue → List ℕ → ReplyValue → Type 0
-IsTable setup release line reply =
-    (query : QueryValue)
-    × queries.Reads setup.schema line query
-    × ((reply ≡ table_reply setup release query)
-    ⊎ (reply ≡ record (table_reply setup release query) { text = memory_line }))
-
--- the reply to a line with a fault
-abbrev pub IsRefusal : SetupValue → List ℕ → List ℕ → Type 0
-IsRefusal setup line text =
-    (fault : QueryFault) × (name : FaultNameValue)
-    × queries.IsRefused setup.schema line fault × (query_names.fault_name fault ≡ Some name)
-    × (text ≡ refusal_line name (query_names.fault_position fault))
-
--- a reply to a query's line over a release: its table, the line of its first fault, or that memory
--- was refused
-abbrev pub IsAnswer : SetupValue → ReleaseValue → List ℕ → ReplyValue → Type 0
-IsAnswer setup release line reply =
-    IsTable setup release line reply
-    ⊎ (reply.price ≡ 0) × (IsRefusal setup line reply.text ⊎ (reply.text ≡ memory_line))
 
 -- an edit is held, as the last
 abbrev pub IsHeld : SetupValue → List ℕ → List Edit → List ℕ → List Edit → Type 0
@@ -109,27 +67,6 @@ IsEditReply setup line held text after =
     ⊎ (after ≡ held)
     × (IsFaulty setup line text ⊎ (IsOneTooMany setup line held text ⊎ (text ≡ memory_line)))
 
--- `publish` where the held edits can follow the release: their batch is the chain's last
-abbrev pub IsPublished : ReleaseValue → StateValue → List ℕ → StateValue → Type 0
-IsPublished release state text next =
-    CanFollow release state.held
-    × (text ≡ published_line (release.number + 1))
-    × (next ≡ record { chain = state.chain ++ batch_of release state.held ∷ []; held = [] })
-
--- `publish` where they can't: the chain stays
-abbrev pub IsBatchRefusal : ReleaseValue → StateValue → List ℕ → StateValue → Type 0
-IsBatchRefusal release state text next =
-    (kind : EditFaultKind) × (edit : ℕ)
-    × (batch_refusal release state.held ≡ Some (kind, edit))
-    × (text ≡ batch_refusal_line edit (batch_names.fault_name kind))
-    × (next ≡ record { chain = state.chain; held = [] })
-
--- the reply to `publish`: no edit is held after it, but where memory was refused
-abbrev pub IsPublishReply : ReleaseValue → StateValue → List ℕ → StateValue → Type 0
-IsPublishReply release state text next =
-    IsPublished release state text next
-    ⊎ (IsBatchRefusal release state text next ⊎ (text ≡ memory_line) × (next ≡ state))
-
 -- the reply to `stats`
 abbrev pub IsStatsReply : List BatchValue → List ℕ → Type 0
 IsStatsReply chain text =
@@ -146,7 +83,7 @@ abbrev pub IsReplyTo : Asks → SetupValue → ReleaseValue → StateValue → L
 IsReplyTo asks.Nothing setup release state line reply next =
     (reply ≡ free_reply []) × (next ≡ state)
 IsReplyTo asks.Table setup release state line reply next =
-    IsAnswer setup release line reply × (next ≡ state)
+    IsAnswer setup release (table_price setup release) line reply × (next ≡ state)
 IsReplyTo asks.Edit setup release state line reply next =
     (reply.price ≡ 0) × (next.chain ≡ state.chain)
     × IsEditReply setup line state.held reply.text next.held

@@ -1,22 +1,7 @@
--- The lines that replies may be, but for tables.
-use Rattle.std.specs.Prelude.{◌++◌, ℕ, List, [], codes, decimal, Option, Some, None}
+-- The lines that replies may be, but for those to queries and to `publish`.
+use Rattle.std.specs.Prelude.{◌++◌, ℕ, List, codes, decimal}
 use Rattle.tb_core.specs.declared.desk.Stats.{Stats}
 use Rattle.tb_rows.specs.FaultNames.{FaultNameValue}
-
--- where memory is refused
-abbrev pub memory_line : List ℕ
-memory_line = codes "memory\n"
-
-abbrev pub position_text : Option ℕ → List ℕ
-position_text None = []
-position_text (Some i) = codes " " ++ decimal i
-
--- a query that is refused: the number and the word of its first fault, and the position, if the
--- fault has one
-abbrev pub refusal_line : FaultNameValue → Option ℕ → List ℕ
-refusal_line name position =
-    codes "refused " ++ decimal name.number ++ codes " " ++ name.word ++ position_text position
-    ++ codes "\n"
 
 -- an edit that is held: how many are
 abbrev pub held_line : ℕ → List ℕ
@@ -26,16 +11,6 @@ held_line count = codes "held " ++ decimal count ++ codes "\n"
 abbrev pub edit_refusal_line : FaultNameValue → List ℕ
 edit_refusal_line name =
     codes "refused edit " ++ decimal name.number ++ codes " " ++ name.word ++ codes "\n"
-
--- a batch that is published: the number of the release to which it leads
-abbrev pub published_line : ℕ → List ℕ
-published_line number = codes "published " ++ decimal number ++ codes "\n"
-
--- a batch that is refused: the number of the edit, and the number and the word of the refusal
-abbrev pub batch_refusal_line : ℕ → FaultNameValue → List ℕ
-batch_refusal_line edit name =
-    codes "refused batch " ++ decimal edit ++ codes " " ++ decimal name.number ++ codes " "
-    ++ name.word ++ codes "\n"
 
 -- the numbers of the desk: the current release, how often a cube was looked for and found, how many
 -- are kept, and how many may be

@@ -1,15 +1,16 @@
 -- The text of a reply as the program keeps it.
 use Rattle.std.specs.Prelude.{ℕ, List, []}
-use Rattle.tb_session.specs.ReplyLines.{memory_line, refusal_line, held_line, edit_refusal_line}
-use Rattle.tb_session.specs.ReplyLines.{published_line, batch_refusal_line, stats_line}
-use Rattle.tb_session.specs.ReplyLines.{cleared_line, capacity_line}
+use Rattle.tb_ahead.specs.Publishing.{published_line, batch_refusal_line}
+use Rattle.tb_session.specs.ReplyLines.{held_line, edit_refusal_line}
+use Rattle.tb_session.specs.ReplyLines.{stats_line, cleared_line, capacity_line}
 use Rattle.tb_session.specs.declared.reply.Reply.{Reply}
 use Rattle.tb_session.specs.declared.reply.Reply.TheVariants as replies
+use Rattle.tb_tables.specs.ReplyLines.{memory_line}
+use Rattle.tb_tables.specs.ReplyTexts.{table_reply_text}
 
 abbrev pub reply_text : Reply → List ℕ
 reply_text replies.Nothing = []
-reply_text (replies.Table text) = text
-reply_text (replies.Refused fault position) = refusal_line fault position
+reply_text (replies.Query reply) = table_reply_text reply
 reply_text (replies.Held count) = held_line count
 reply_text (replies.EditRefused fault) = edit_refusal_line fault
 reply_text (replies.Published number) = published_line number

@@ -5,7 +5,8 @@ use mathlib.Core.List.{IsPrefix}
 use Rattle.tb_model.specs.Releases.{ReleaseValue}
 use Rattle.tb_model.specs.Setups.{SetupValue}
 use Rattle.tb_lines.specs.Outputs.{Lead, ReplyValue}
-use Rattle.tb_session.specs.Replies.{IsReply, StateValue}
+use Rattle.tb_ahead.specs.Publishing.{StateValue}
+use Rattle.tb_session.specs.Replies.{IsReply}
 use Rattle.tb_session.specs.declared.party.Role.{Role}
 use Rattle.tb_session.specs.declared.party.Role.TheVariants as role
 

@@ -5,13 +5,15 @@ ghost use Rattle.tb_cache.specs.declared.TheConstants.{MOST_ENTRIES};
 ghost use Rattle.tb_front.specs.Holders.{IsLater};
 ghost use Rattle.tb_io.specs.declared.limits.TheConstants.{MOST_LINE_BYTES};
 ghost use Rattle.tb_model.specs.Schemas.{shape_of};
-ghost use Rattle.tb_session.specs.Parties.{Answers, IsAnswered, IsCustodianOf, IsPartyOf};
+ghost use Rattle.tb_session.specs.Parties.{IsAnswered, IsCustodianOf, IsPartyOf};
 ghost use Rattle.tb_session.specs.Parties.{GoesOn, HasSeen, IsPassOf, Leads, SawTurn, role_of};
 ghost use Rattle.tb_session.specs.Parties.{seen_by, state_at, state_of};
-ghost use Rattle.tb_session.specs.Replies.{IsCapacityReply};
+ghost use Rattle.tb_session.specs.Replies.{IsCapacityReply, table_price};
 ghost use Rattle.tb_session.specs.ReplyLines.{cleared_line};
 ghost use Rattle.tb_session.specs.ReplyTexts.{reply_text};
 ghost use Rattle.tb_session.specs.declared.party.Role.TheVariants as roles;
+ghost use Rattle.tb_tables.specs.Answers.{Answers};
+ghost use Rattle.tb_tables.specs.ReplyTexts.{table_reply_text};
 
 use crate::asks::{Asks, asks_of};
 use crate::party::{Party, Role};
@@ -29,6 +31,7 @@ use tb_front::Pass;
 use tb_io::{Sink, Wrote};
 use tb_lines::is_passed_over;
 use tb_release::Edits;
+use tb_tables::TableReply;
 use tb_text::Setup;
 
 // Lets the board keep so many cubes.
@@ -72,7 +75,7 @@ fn reply_to_analyst<'a, B: Named, R: Threads + Wait + Sync, G: Gate, L: Ledger>(
     if is_passed_over(line) {
         return Reply::Nothing;
     }
-    answer_query(rt, alloc, setup, board, pass, line, gate, steps)
+    Reply::Query(answer_query(rt, alloc, setup, board, pass, line, gate, steps))
 }
 
 // The reply to the custodian's query. Its pass is lent to the turns of it, which can't tell it more
@@ -86,14 +89,15 @@ fn answer_own<'a, B: Named, R: Threads + Wait + Sync, G: Gate, L: Ledger>(
     line: &[u8],
     gate: &mut G,
     steps: &mut Steps<L>,
-) -> Reply<'a>
+) -> TableReply<'a>
     requires few { length line.now ≤ MOST_LINE_BYTES }
     requires front { custodian.old.writer.name ≡ B.name }
     requires fits { custodian.old.writer.start.shape ≡ shape_of setup.now.schema }
     requires whole { IsWhole custodian.old }
     ensures same { custodian.new ≡ custodian.old }
-    ensures answer { Answers setup.now (release_seen custodian.old.writer) line.now
-        (reply_text result) steps.old steps.new }
+    ensures answer { Answers setup.now (release_seen custodian.old.writer)
+        (table_price setup.now (release_seen custodian.old.writer)) line.now
+        (table_reply_text result) steps.old steps.new }
 {
     let reply = answer_query(rt, alloc, setup, board, custodian.pass(), line, gate, steps);
     board.settle(custodian);
@@ -122,7 +126,9 @@ fn reply_to_custodian<'a, B: Named, R: Threads + Wait + Sync, G: Gate, L: Ledger
 {
     match asks_of(Role::Custodian, line) {
         Asks::Nothing => Reply::Nothing,
-        Asks::Table => answer_own(rt, alloc, setup, board, custodian, line, gate, steps),
+        Asks::Table => Reply::Query(answer_own(
+            rt, alloc, setup, board, custodian, line, gate, steps,
+        )),
         Asks::Edit => hold(alloc, setup, held, line),
         Asks::Publish => publish(rt, alloc, board, custodian, held),
         Asks::Stats => Reply::Stats(board.stats(rt, custodian)),

@@ -1,7 +1,6 @@
 // A query's table over the release that a pass takes.
 
 ghost use Rattle.std.specs.Prelude.{◌≡◌, ◌≢◌, ◌+◌, ◌≤◌, IfOk, OnOk, List, None, length};
-ghost use Rattle.tb_base.specs.Records.{AllFit};
 ghost use Rattle.tb_base.specs.declared.var_set.TheConstants.{VARIABLES_IN_PLACE};
 ghost use Rattle.tb_board.specs.Holders.{release_seen, IsChainSeen};
 ghost use Rattle.tb_core.specs.Desks.{HasCube};
@@ -10,23 +9,21 @@ ghost use Rattle.tb_core.specs.Takes.{cost_of, cube_price, release_in, IsTaken};
 ghost use Rattle.tb_cube.specs.Cubes.{cube_over, unpacked};
 ghost use Rattle.tb_core.specs.Desks.{IsCubeAt};
 ghost use Rattle.tb_front.specs.Holders.{IsLater};
-ghost use Rattle.tb_model.specs.Places.{cells_of};
-ghost use Rattle.tb_model.specs.Queries.{QueryValue};
 ghost use Rattle.tb_model.specs.Releases.{ReleaseValue};
-ghost use Rattle.tb_model.specs.Schemas.{SchemaValue, shape_of};
+ghost use Rattle.tb_model.specs.Schemas.{shape_of};
 ghost use Rattle.tb_model.specs.Texts.{table_text as text_of_table};
-ghost use Rattle.tb_plan.specs.Plans.{cube_cells_of, plan_of, vars_of};
+ghost use Rattle.tb_plan.specs.Plans.{cube_cells_of};
 ghost use Rattle.tb_query.specs.Over.{IsOver};
 ghost use Rattle.tb_release.specs.Batches.{BatchValue};
-ghost use Rattle.tb_session.specs.Counting.{IsCounted};
 ghost use Rattle.tb_session.specs.Parties.{IsPassOf, SawTurn};
 ghost use Rattle.tb_session.specs.Replies.{plan_price, table_price};
+ghost use Rattle.tb_tables.specs.Counting.{IsCounted};
 
 use std::alloc::Global;
 use std::sync::ledger::Ledger;
 use std::sync::{Arc, Wait};
 use std::thread::Threads;
-use tb_base::{Cell, Memory, Rules, Shape, Steps, VarSet};
+use tb_base::{Memory, Shape, Steps, VarSet};
 use tb_board::{Board, Named, Step};
 use tb_build::{Gate, build};
 use tb_core::{CubeFor, Offer, Taken, lead_on};
@@ -34,47 +31,8 @@ use tb_cube::Cube;
 use tb_front::Pass;
 use tb_plan::Plan;
 use tb_query::Query;
-use tb_release::Release;
-use tb_rollup::roll_into;
-use tb_scan::{empty_cells, put_all, put_totals};
+use tb_tables::{Counted, count_records, plan_for, roll_up, shape_in};
 use tb_text::{PreparedTable, Setup};
-
-// The cells of a plan's table over a release, rolled up from the cube of the plan's variables.
-fn roll_up(alloc: Global, cube: &Cube, plan: &Plan, release: &Release) -> Result<Vec<Cell>, Memory>
-    requires cube { unpacked cube.now
-        ≡ cube_over plan.now.shape (vars_of plan.now) release.now.records }
-    requires fit { AllFit plan.now.shape release.now.records }
-    ensures cells { (schema : SchemaValue) (query : QueryValue) → plan.now ≡ plan_of schema query
-        → IfOk result (λ cells. cells.items ≡ cells_of schema query release.now.records) }
-{
-    release.soundness();
-    let mut cells = empty_cells(alloc, plan)?;
-    roll_into(cube, plan, &mut cells);
-    Ok(cells)
-}
-
-// The same cells, counted from the records one by one. They are lent once.
-fn scan<L: Ledger>(
-    alloc: Global,
-    plan: &Plan,
-    release: &Release,
-    steps: &mut Steps<L>,
-) -> Result<Vec<Cell>, Memory>
-    requires fit { AllFit plan.now.shape release.now.records }
-    ensures price { steps.new ≤ steps.old + length release.now.records }
-    ensures cost { OnOk result (steps.new ≡ steps.old + length release.now.records) }
-    ensures cells { (schema : SchemaValue) (query : QueryValue) → plan.now ≡ plan_of schema query
-        → IfOk result (λ cells. cells.items ≡ cells_of schema query release.now.records) }
-{
-    release.soundness();
-    let mut cells = empty_cells(alloc, plan)?;
-    let lent = release.lend(steps);
-    for i in 0..lent.pieces() {
-        put_all(plan, lent.piece(i), &mut cells);
-    }
-    put_totals(plan, &mut cells);
-    Ok(cells)
-}
 
 // The cube over some variables of the release that was taken: what is made of the one that was
 // found, for which the changes that it is behind are lent, or one that is built, for which the
@@ -137,15 +95,6 @@ fn offer<B: Named>(
     }
 }
 
-// The cells of a table, with the number of the release over which they were counted, and the rules
-// by which it is shown.
-#[derive(Drop)]
-struct Counted {
-    number: u32,
-    rules: Arc<Rules>,
-    cells: Vec<Cell>,
-}
-
 // The cells of a plan's table over the release that the pass takes, from a cube that the board
 // keeps, or from one that is made and offered to it.
 fn count_by_cube<B: Named, R: Threads + Wait + Sync, G: Gate, L: Ledger>(
@@ -167,19 +116,14 @@ fn count_by_cube<B: Named, R: Threads + Wait + Sync, G: Gate, L: Ledger>(
     ensures counted { IfOk result (IsCounted plan.now (release_seen pass.new)) }
 {
     let taken = board.take(rt, pass, Some(plan.vars()))?;
-    let rules = taken.release.shared_rules()?;
     let got = cube_of(rt, alloc, shape, plan.vars(), &taken, gate, steps)?;
-    let cells = roll_up(alloc, got.cube(), plan, &taken.release)?;
+    let counted = roll_up(alloc, got.cube(), plan, &taken.release)?;
     let number = taken.release.number();
     match got {
         CubeFor::Kept(_cube) => {}
         CubeFor::Made(cube) => offer(rt, alloc, board, pass, plan.vars(), number, cube),
     }
-    Ok(Counted {
-        number,
-        rules,
-        cells,
-    })
+    Ok(counted)
 }
 
 // The same where the cube would have too many cells, counted from the records.
@@ -198,13 +142,7 @@ fn count_by_records<B: Named, R: Wait, L: Ledger>(
     ensures counted { IfOk result (IsCounted plan.now (release_seen pass.new)) }
 {
     let taken = board.take(rt, pass, None)?;
-    let rules = taken.release.shared_rules()?;
-    let cells = scan(alloc, plan, &taken.release, steps)?;
-    Ok(Counted {
-        number: taken.release.number(),
-        rules,
-        cells,
-    })
+    count_records(alloc, plan, &taken.release, steps)
 }
 
 // The cells of a plan's table over the release that the pass takes.
@@ -232,28 +170,13 @@ fn count<B: Named, R: Threads + Wait + Sync, G: Gate, L: Ledger>(
     }
 }
 
-// The plan of a query.
-fn plan_for(alloc: Global, setup: &Setup, query: &Query) -> Result<Plan, Memory>
-    requires { IsOver setup.now.schema query.now }
-    ensures { IfOk result (λ plan. plan ≡ plan_of setup.now.schema query.now) }
-{
-    Plan::of(alloc, &setup.schema, query)
-}
-
-// The shape that all records fit.
-fn shape_in(setup: &Setup) -> &Shape
-    ensures { result.now ≡ shape_of setup.now.schema }
-{
-    setup.schema.shape()
-}
-
 /// A query's table over the release that the pass takes. It is rolled up from the cube of its
 /// variables: the one that the board keeps, narrowed where it has more variables and advanced where
 /// it is of an earlier release, or a new one, for which the records are lent once; a cube that is
 /// made is packed where that pays and offered to the board. Where a cube would have too many cells,
 /// the table is counted from the records, which are lent once. It takes memory for the plan, a cube
 /// that is made, the cells, and all that the writing needs.
-pub(crate) fn print_table<'a, B: Named, R: Threads + Wait + Sync, G: Gate, L: Ledger>(
+pub(crate) fn table_over_board<'a, B: Named, R: Threads + Wait + Sync, G: Gate, L: Ledger>(
     rt: &R,
     alloc: Global,
     setup: &'a Setup,
@@ -275,12 +198,5 @@ pub(crate) fn print_table<'a, B: Named, R: Threads + Wait + Sync, G: Gate, L: Le
     let plan = plan_for(alloc, setup, query)?;
     let shape = shape_in(setup);
     let counted = count(rt, alloc, board, shape, &plan, pass, gate, steps)?;
-    PreparedTable::of(
-        alloc,
-        setup,
-        counted.rules,
-        query,
-        counted.number,
-        counted.cells,
-    )
+    counted.prepare(alloc, setup, query)
 }

@@ -2,18 +2,17 @@
 //! asks for; and a session, the lines that come from a source. Analysts, whose passes the custodian
 //! confirms.
 //!
-//! It stands on `tb_board` (the desk behind its lock), `tb_build` (a cube that isn't kept),
-//! `tb_core` (one that is), `tb_query`, `tb_plan`, `tb_rollup` and `tb_scan` (a table's cells),
-//! `tb_revise` (the custodian's edits), `tb_text` (the table), `tb_io` (where lines come from, and
-//! where replies go) and `tb_lines` (lines that are answered one after another: what a session
-//! did). Its contracts cite `specs/Asks` (what a line asks for), `Replies` (what the reply to it
-//! is), `Transcripts` (which replies are legal), `Parties` (who asks, and what an answer says) and
-//! `PartySessions` (whose session); `laws` cites `Laws`, and `RunWorlds` (what a reply of a run of
-//! `tb_core`'s events shows at a place of a table).
+//! It stands on `tb_tables` (a query's line, its table and the reply to it, over a release),
+//! `tb_ahead` (the reply to `publish`), `tb_board` (the desk behind its lock), `tb_build` (a cube
+//! that isn't kept), `tb_core` (one that is), `tb_revise` (the custodian's edits), `tb_io` (where
+//! lines come from, and where replies go) and `tb_lines` (lines that are answered one after
+//! another: what a session did). Its contracts cite `specs/Asks` (what a line asks for), `Replies`
+//! (what the reply to it is), `Transcripts` (which replies are legal), `Parties` (who asks, and
+//! what an answer says) and `PartySessions` (whose session); `laws` cites `Laws`, and `RunWorlds`
+//! (what a reply of a run of `tb_core`'s events shows at a place of a table).
 //!
-//! Of the proofs, `Leading` leads from what a line asks for to where the party stands then,
-//! `Revising` does so for `publish` and `QueryAnswers` for a query; `Cubed`, `Counts` and `Pieces`
-//! say what a caller of counting owes, `Texts` how lines are put together; `Numbers` and
+//! Of the proofs, `Leading` leads from what a line asks for to where the party stands then, and
+//! `Revising` does so for `publish`; `Texts` says how lines are put together; `Numbers` and
 //! `Publishing` prove the laws of transcripts. Those of runs are proved by `RunSteps` (what an
 //! event may do), `TakeRuns` (a reply's cells), `ReplyTakes` (the take that it answers), `OwnCells`
 //! (a table from a cube over its plan's variables) and `RunLaws`. For scripts, `SomeReplies` and
@@ -35,7 +34,7 @@ mod sessions;
 
 pub use answering::answer;
 pub use asks::Asks;
-pub use confirming::{analyst_of, confirm};
+pub use confirming::{analyst_of, confirm, tell};
 pub use limits::FIRST_CAPACITY;
 pub use party::{Party, Role};
 pub use sessions::{Setting, session};

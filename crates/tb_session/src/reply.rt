@@ -1,8 +1,8 @@
 // A reply, and how it is written.
 
-ghost use Rattle.std.specs.Prelude.{◌++◌, codes, decimal};
+ghost use Rattle.tb_ahead.specs.Publishing.{batch_refusal_line};
 ghost use Rattle.tb_io.specs.Taken.{IsWritten};
-ghost use Rattle.tb_session.specs.ReplyLines.{batch_refusal_line, refusal_line, stats_line};
+ghost use Rattle.tb_session.specs.ReplyLines.{stats_line};
 ghost use Rattle.tb_session.specs.ReplyTexts.{reply_text};
 
 use itoa::Buffer;
@@ -10,17 +10,15 @@ use tb_base::print_number;
 use tb_core::Stats;
 use tb_io::{Sink, Wrote, write_all};
 use tb_rows::FaultName;
-use tb_text::PreparedTable;
+use tb_tables::{TableReply, write_fault, write_number};
 
 /// The reply to a line.
 #[derive(Drop)]
 pub(crate) enum Reply<'a> {
     /// There is none.
     Nothing,
-    /// A query's table.
-    Table(PreparedTable<'a>),
-    /// A query is refused by its first fault, at a position where it has one.
-    Refused(FaultName, Option<u32>),
+    /// The reply to a query's line.
+    Query(TableReply<'a>),
     /// So many edits are held, with this one.
     Held(u32),
     /// An edit is refused by its first fault.
@@ -37,46 +35,6 @@ pub(crate) enum Reply<'a> {
     Capacity(u32),
     /// The memory for it is refused.
     Memory,
-}
-
-// Writes a line of some text and a number.
-fn write_number<O: Sink>(out: &mut O, before: &'static [u8], number: u32) -> Wrote
-    ensures written { IsWritten result (O.faults out.old) (O.faults out.new) (O.taken out.old)
-        (O.taken out.new) (before.now ++ decimal number ++ codes "\n") }
-{
-    let mut digits = [0; 10];
-    let len = print_number(number, &mut digits);
-    write_all(out, &[before, &digits[..len], b"\n"])
-}
-
-// Writes a line of some text, and the number and the word of a fault.
-fn write_fault<O: Sink>(out: &mut O, before: &'static [u8], fault: &FaultName) -> Wrote
-    ensures written { IsWritten result (O.faults out.old) (O.faults out.new) (O.taken out.old)
-        (O.taken out.new)
-        (before.now ++ decimal fault.now.number ++ codes " " ++ fault.now.word ++ codes "\n") }
-{
-    let mut digits = [0; 10];
-    let len = print_number(u32::from(fault.number()), &mut digits);
-    let word = fault.word().as_bytes();
-    write_all(out, &[before, &digits[..len], b" ", word, b"\n"])
-}
-
-// Writes the line of a query that is refused.
-fn write_refusal<O: Sink>(out: &mut O, fault: &FaultName, position: Option<u32>) -> Wrote
-    ensures written { IsWritten result (O.faults out.old) (O.faults out.new) (O.taken out.old)
-        (O.taken out.new) (refusal_line fault.now position) }
-{
-    let Some(at) = position else {
-        return write_fault(out, b"refused ", fault);
-    };
-    let mut first = [0; 10];
-    let mut second = [0; 10];
-    let number_len = print_number(u32::from(fault.number()), &mut first);
-    let at_len = print_number(at, &mut second);
-    let number = &first[..number_len];
-    let word = fault.word().as_bytes();
-    let place = &second[..at_len];
-    write_all(out, &[b"refused ", number, b" ", word, b" ", place, b"\n"])
 }
 
 // Writes the line of a batch that is refused.
@@ -139,8 +97,7 @@ impl<'a> Reply<'a> {
     {
         match self {
             Reply::Nothing => Wrote::All,
-            Reply::Table(text) => text.write(out),
-            Reply::Refused(fault, position) => write_refusal(out, &fault, position),
+            Reply::Query(reply) => reply.write(out),
             Reply::Held(count) => write_number(out, b"held ", count),
             Reply::EditRefused(fault) => write_fault(out, b"refused edit ", &fault),
             Reply::Published(number) => write_number(out, b"published ", number),

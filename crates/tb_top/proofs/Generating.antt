@@ -14,20 +14,21 @@ use Rattle.tb_gen_laws.specs.Perturbations.{generated_table}
 use Rattle.tb_gen.specs.Generated.{generated_classes, generated_people, generated_ptable, generated_recodes, generated_script}
 use Rattle.tb_io.specs.Faults.{HasRisen}
 use Rattle.tb_io.specs.HeldFiles.{HasHeld, HeldFiles, bytes_or_none}
-use Rattle.tb_top.specs.declared.command.Command.TheVariants as command
 use Rattle.tb_top.specs.declared.command.Inputs.{Inputs}
 use Rattle.tb_top.specs.declared.load.Asked.{Asked}
+use Rattle.tb_top.specs.declared.load.Asked.TheVariants as asked
+use Rattle.tb_top.specs.declared.load.Scripted.{Scripted}
 use Rattle.tb_top.specs.declared.endings.Input.{Input}
 use Rattle.tb_top.specs.declared.endings.Input.TheVariants as input
 use Rattle.tb_top.specs.declared.endings.End.{End}
 use Rattle.tb_top.specs.declared.endings.End.TheVariants as end
-use Rattle.tb_top.specs.Asking.{AskedValue, CensusValue, Contents, Gen, bytes_in, generated_asked, most_bytes, people_in, perturbation_in, schema_in, script_in, script_over}
-use Rattle.tb_top.specs.Commands.{NamedFile, command_files}
+use Rattle.tb_top.specs.Asking.{AskedValue, CensusValue, Contents, Gen, bytes_in, generated_asked, most_bytes, people_in, perturbation_in, schema_in, script_in, script_over, scripted_in}
+use Rattle.tb_top.specs.Commands.{NamedFile, scripted_files}
 use Rattle.tb_top.specs.Endings.{input_name}
 use Rattle.tb_top.specs.GeneratedFiles.{HoldGenerated, generated_contents, generated_inputs}
-use Rattle.tb_top.specs.Loading.{Hold, Loads, Makes, Reading, asked_value}
+use Rattle.tb_top.specs.Loading.{Hold, Loads, Makes, Reading, asked_value, census_value, scripted_value}
 use Rattle.tb_top.specs.Populations.{HasPersons, Population}
-use Rattle.tb_top.proofs.LoadSteps.{contents_same}
+use Rattle.tb_top.proofs.LoadSteps.{Loads-ends, Loads-fails, contents_same}
 use Rattle.tb_top.proofs.Telling.{always_told}
 
 -- texts that the test tells apart
@@ -67,7 +68,7 @@ hold-all a b c d e f p one two three four five input.Script =
 
 -- so they are the contents of the script that runs over them
 pub holds-generated : (p : Population) (files : HeldFiles) → HoldGenerated p files
-    → Hold (λ name. Some (bytes_or_none files name)) (command_files (command.Script generated_inputs (input_name input.Script)))
+    → Hold (λ name. Some (bytes_or_none files name)) (scripted_files generated_inputs (input_name input.Script))
     (generated_contents p)
 holds-generated p files held =
     let at : (file : Input) → Some (unwrap_or (generated_contents p file) []) ≡ Some (bytes_or_none files (input_name file)) =
@@ -116,15 +117,31 @@ loads-none view defined (Err e) saw content faults readings (usage, unread, give
   all = λ y k. cc;
 }
 
--- files under the same names
-pub loads-as : (p : Population) (inputs inputs' : Inputs) (name name' : List ℕ) (result : Result Asked End) {saw : Reading}
-    → inputs ≡ inputs' → name ≡ name'
-    → Loads saw 0 (command_files (command.Script inputs name)) asked_value (script_over (Gen p) inputs) result
-    → Loads saw 0 (command_files (command.Script inputs' name')) asked_value (script_over (Gen p) inputs') result
-loads-as p inputs inputs' name name' result {saw} one two h =
-    let P : Inputs → Type 0 = λ i. Loads saw 0 (command_files (command.Script i name)) asked_value (script_over (Gen p) i) result in
-    let Q : List ℕ → Type 0 = λ n. Loads saw 0 (command_files (command.Script inputs' n)) asked_value (script_over (Gen p) inputs') result in
-    subst Q two (subst P one h)
+-- what a census and a script are asked for, as those of a population
+abbrev pub gen_of : Population → Result Scripted End → Result Asked End
+gen_of p (Ok read) = Ok (asked.Gen p read.census read.script)
+gen_of p (Err e) = Err e
+
+-- where they are read from files
+gen_read : (p q : Population) (inputs : Inputs) (read : Result Scripted End) {saw : Reading} {files : List NamedFile} → q ≡ p
+    → Loads saw 0 files scripted_value (scripted_in inputs) read
+    → Loads saw 0 files asked_value (script_over (Gen p) inputs) (gen_of q read)
+gen_read p q inputs (Ok read) {saw} {files} is h =
+    Loads-ends scripted_value asked_value (scripted_in inputs) (λ contents (r : CensusValue × ScriptValue). Ok (Gen p r.0 r.1)) read
+    (asked.Gen q read.census read.script) (λ contents. ap (λ (k : Population). Ok (Gen k (census_value read.census) read.script)) (sym is)) h
+gen_read p q inputs (Err e) {saw} {files} is h =
+    Loads-fails scripted_value asked_value (scripted_in inputs) (λ contents (r : CensusValue × ScriptValue). Ok (Gen p r.0 r.1)) h
+
+-- under the names that the generated files have
+pub loads-gen : (p q : Population) (inputs inputs' : Inputs) (name name' : List ℕ) (read : Result Scripted End) {saw : Reading}
+    → q ≡ p → inputs ≡ inputs' → name ≡ name'
+    → Loads saw 0 (scripted_files inputs name) scripted_value (scripted_in inputs) read
+    → Loads saw 0 (scripted_files inputs' name') asked_value (script_over (Gen p) inputs') (gen_of q read)
+loads-gen p q inputs inputs' name name' read {saw} is one two h =
+    let result : Result Asked End = gen_of q read in
+    let P : Inputs → Type 0 = λ i. Loads saw 0 (scripted_files i name) asked_value (script_over (Gen p) i) result in
+    let Q : List ℕ → Type 0 = λ n. Loads saw 0 (scripted_files inputs' n) asked_value (script_over (Gen p) inputs') result in
+    subst Q two (subst P one (gen_read p q inputs read is h))
 
 -- ---- the files are accepted
 

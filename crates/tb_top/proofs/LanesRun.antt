@@ -7,10 +7,11 @@ use Rattle.tb_board.specs.Custodians.{CustodianValue, OpeningValue, first_custod
 use Rattle.tb_io.proofs.FaultLemmas.{HasRisen-earlier}
 use Rattle.tb_io.proofs.TakenLemmas.{Took-append, TookPart-append}
 use Rattle.tb_io.specs.Taken.{Took}
-use Rattle.tb_lanes.specs.Phases.{PhasesGo, Standing, at_first}
+use Rattle.tb_lanes.specs.Phases.{PhasesGo, Progress, after_seeing, begun_with}
 use Rattle.tb_model.specs.Releases.{ReleaseValue}
 use Rattle.tb_model.specs.Setups.{SetupValue}
 use Rattle.tb_script.specs.Scripts.{ScriptValue}
+use Rattle.tb_session.specs.Parties.{state_at}
 use Rattle.tb_serve.specs.Serves.{output}
 use Rattle.tb_serve.specs.Serves as serves
 use Rattle.tb_serve.specs.Stages.{IsFresh}
@@ -55,15 +56,15 @@ keeps_by_lanes call command census script s named told free fresh same (final, t
 
 -- ---- over a new board
 
--- phases from what its custodian had seen are those of the census
-pub phases-on-board : (setup : SetupValue) (opening : OpeningValue) (custodian : CustodianValue) (script : ScriptValue) (n : ℕ) (text : List ℕ)
-    (last : Standing) → custodian ≡ first_custodian opening → IsBase opening.start.base
-    → PhasesGo setup custodian.writer.start.base script n (at_first custodian.writer.list) text last
-    → IsTextOfPhases (census_over setup opening.start.base) script n text
-phases-on-board setup opening custodian script n text last made first go =
-    let P : CustodianValue → Type 0 = λ c. PhasesGo setup c.writer.start.base script n (at_first c.writer.list) text last in
-    let Q : ReleaseValue → Type 0 = λ base. PhasesGo setup base script n (at_first []) text last in
-    (last, subst Q first (subst P made go))
+-- phases from where its custodian stood are those of the census
+pub phases-on-board : (setup : SetupValue) (opening : OpeningValue) (custodian : CustodianValue) (script : ScriptValue) (n : ℕ) (last : Progress)
+    → custodian ≡ first_custodian opening → IsBase opening.start.base
+    → PhasesGo setup custodian.writer.start.base script n (begun_with (state_at custodian.writer [])) last
+    → IsTextOfPhases (census_over setup opening.start.base) script n last.text
+phases-on-board setup opening custodian script n last made first go =
+    let P : CustodianValue → Type 0 = λ c. PhasesGo setup c.writer.start.base script n (begun_with (state_at c.writer [])) last in
+    let Q : ReleaseValue → Type 0 = λ base. PhasesGo setup base script n (begun_with (after_seeing [])) last in
+    (last, subst Q first (subst P made go), refl)
 
 -- the line that tells that memory ran out, after a text
 pub ended-after : (s : Status) (f between f' : ℕ) (t mid t' : Option (List ℕ)) (before : List ℕ) → f ≤ between → between ≤ f' → Took t mid before

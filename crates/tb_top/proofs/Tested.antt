@@ -13,7 +13,7 @@ use Rattle.tb_top.specs.declared.command.Inputs.{Inputs}
 use Rattle.tb_base.specs.declared.people.TheConstants.{MOST_PERSONS}
 use Rattle.tb_base.specs.declared.limits.TheConstants.{MOST_THRESHOLD}
 use Rattle.tb_top.specs.declared.service.TheConstants.{MOST_PORT, MOST_SESSIONS, MOST_WORKERS}
-use Rattle.tb_top.specs.Commands.{command_of, gen_named, gen_words, inputs_named, inputs_with, is_file_name, lanes_named, lanes_words, may_name_recodes, script_named, script_words, serve_named, serve_words, threshold_in, word_at}
+use Rattle.tb_top.specs.Commands.{command_of, gen_named, gen_words, inputs_named, inputs_with, is_file_name, lanes_words, may_name_recodes, script_words, serve_named, serve_words, threshold_in, with_script, word_at, words_with_script}
 use Rattle.tb_top.specs.Numbers.{number_within}
 use Rattle.tb_top.specs.Populations.{Population, population_named, population_with}
 use Rattle.tb_top.specs.ServicePorts.{Service, service_named, service_with}
@@ -104,54 +104,41 @@ handed_at a b c rest = go (bytes_eq c (codes "-"))
     go true = refl
     go false = refl
 
+-- the words after that of a command with a script pass, put on to the word
+abbrev AreTestedAfter : List ℕ → List (List ℕ) → Type 0
+AreTestedAfter word words =
+    (values : List (List ℕ)) × (handed_on words ≡ word ∷ values) × (length values ≡ 6) × (list_all is_plain values ≡ true)
+
 -- the words of each command, one by one
-script_list : (words : List (List ℕ)) (k : Command) → length words ≡ 7 → bytes_eq (word_at words 0) (codes "script") ≡ true
-    → script_named (word_at words 1) (word_at words 2) (word_at words 3) (word_at words 4) (word_at words 5) (word_at words 6) ≡ Some k → AreTested words
-script_list [] k len name named = absurd (omega (arith, len))
-script_list (a ∷ []) k len name named = absurd (omega (arith, len))
-script_list (a ∷ b ∷ []) k len name named = absurd (omega (arith, len))
-script_list (a ∷ b ∷ c ∷ []) k len name named = absurd (omega (arith, len))
-script_list (a ∷ b ∷ c ∷ d ∷ []) k len name named = absurd (omega (arith, len))
-script_list (a ∷ b ∷ c ∷ d ∷ e ∷ []) k len name named = absurd (omega (arith, len))
-script_list (a ∷ b ∷ c ∷ d ∷ e ∷ f ∷ []) k len name named = absurd (omega (arith, len))
-script_list (a ∷ b ∷ c ∷ d ∷ e ∷ f ∷ g ∷ []) k len name named =
-    let (script, inner) = if_some (is_file_name g) (option_map (λ (inputs : Inputs). command.Script inputs g) (inputs_named b c d e f)) k named in
-    let (inputs, read) = map_some (λ (inputs : Inputs). command.Script inputs g) (inputs_named b c d e f) k inner in
+with_script_list : (word : List ℕ) (words : List (List ℕ)) (named : Inputs × List ℕ) → length words ≡ 7 → bytes_eq (word_at words 0) word ≡ true
+    → with_script (word_at words 1) (word_at words 2) (word_at words 3) (word_at words 4) (word_at words 5) (word_at words 6) ≡ Some named
+    → AreTestedAfter word words
+with_script_list word [] k len name named = absurd (omega (arith, len))
+with_script_list word (a ∷ []) k len name named = absurd (omega (arith, len))
+with_script_list word (a ∷ b ∷ []) k len name named = absurd (omega (arith, len))
+with_script_list word (a ∷ b ∷ c ∷ []) k len name named = absurd (omega (arith, len))
+with_script_list word (a ∷ b ∷ c ∷ d ∷ []) k len name named = absurd (omega (arith, len))
+with_script_list word (a ∷ b ∷ c ∷ d ∷ e ∷ []) k len name named = absurd (omega (arith, len))
+with_script_list word (a ∷ b ∷ c ∷ d ∷ e ∷ f ∷ []) k len name named = absurd (omega (arith, len))
+with_script_list word (a ∷ b ∷ c ∷ d ∷ e ∷ f ∷ g ∷ []) k len name named =
+    let (script, inner) = if_some (is_file_name g) (option_map (λ (inputs : Inputs). (inputs, g)) (inputs_named b c d e f)) k named in
+    let (inputs, read) = map_some (λ (inputs : Inputs). (inputs, g)) (inputs_named b c d e f) k inner in
     let plain = plain_inputs b c d e f inputs read in
     let values = b ∷ handed c ∷ d ∷ e ∷ f ∷ g ∷ [] in
-    let first : a ≡ codes "script" = (bytes_eq-Decides a (codes "script")).0 name in
-    inl (
+    let first : a ≡ word = (bytes_eq-Decides a word).0 name in (
       values,
-      handed_at a b c (d ∷ e ∷ f ∷ g ∷ []) ∙ ap (λ (word : List ℕ). word ∷ values) first,
+      handed_at a b c (d ∷ e ∷ f ∷ g ∷ []) ∙ ap (λ (one : List ℕ). one ∷ values) first,
       refl,
       all_true _ _ plain.classes (all_true _ _ (plain_handed c plain.recodes) (all_true _ _ plain.ptable (all_true _ _ plain.people
           (all_true _ _ plain.threshold (all_true _ _ (plain_name g script) refl))))),
     )
-script_list (a ∷ b ∷ c ∷ d ∷ e ∷ f ∷ g ∷ x ∷ rest) k len name named = absurd (omega (arith, len))
+with_script_list word (a ∷ b ∷ c ∷ d ∷ e ∷ f ∷ g ∷ x ∷ rest) k len name named = absurd (omega (arith, len))
 
-lanes_list : (words : List (List ℕ)) (k : Command) → length words ≡ 7 → bytes_eq (word_at words 0) (codes "lanes") ≡ true
-    → lanes_named (word_at words 1) (word_at words 2) (word_at words 3) (word_at words 4) (word_at words 5) (word_at words 6) ≡ Some k → AreTested words
-lanes_list [] k len name named = absurd (omega (arith, len))
-lanes_list (a ∷ []) k len name named = absurd (omega (arith, len))
-lanes_list (a ∷ b ∷ []) k len name named = absurd (omega (arith, len))
-lanes_list (a ∷ b ∷ c ∷ []) k len name named = absurd (omega (arith, len))
-lanes_list (a ∷ b ∷ c ∷ d ∷ []) k len name named = absurd (omega (arith, len))
-lanes_list (a ∷ b ∷ c ∷ d ∷ e ∷ []) k len name named = absurd (omega (arith, len))
-lanes_list (a ∷ b ∷ c ∷ d ∷ e ∷ f ∷ []) k len name named = absurd (omega (arith, len))
-lanes_list (a ∷ b ∷ c ∷ d ∷ e ∷ f ∷ g ∷ []) k len name named =
-    let (script, inner) = if_some (is_file_name g) (option_map (λ (inputs : Inputs). command.Lanes inputs g) (inputs_named b c d e f)) k named in
-    let (inputs, read) = map_some (λ (inputs : Inputs). command.Lanes inputs g) (inputs_named b c d e f) k inner in
-    let plain = plain_inputs b c d e f inputs read in
-    let values = b ∷ handed c ∷ d ∷ e ∷ f ∷ g ∷ [] in
-    let first : a ≡ codes "lanes" = (bytes_eq-Decides a (codes "lanes")).0 name in
-    inr (inl (
-      values,
-      handed_at a b c (d ∷ e ∷ f ∷ g ∷ []) ∙ ap (λ (word : List ℕ). word ∷ values) first,
-      refl,
-      all_true _ _ plain.classes (all_true _ _ (plain_handed c plain.recodes) (all_true _ _ plain.ptable (all_true _ _ plain.people
-          (all_true _ _ plain.threshold (all_true _ _ (plain_name g script) refl))))),
-    ))
-lanes_list (a ∷ b ∷ c ∷ d ∷ e ∷ f ∷ g ∷ x ∷ rest) k len name named = absurd (omega (arith, len))
+with_script_tested : (word : List ℕ) (words : List (List ℕ)) (named : Inputs × List ℕ) → words_with_script word words ≡ Some named → AreTestedAfter word words
+with_script_tested word words k h =
+    let (test, named) = if_some ((length words == 7) && bytes_eq (word_at words 0) word) (with_script (word_at words 1) (word_at words 2) (word_at words 3) (word_at words 4) (word_at words 5) (word_at words 6)) k h in
+    let (len, name) = both (length words == 7) (bytes_eq (word_at words 0) word) test in
+    with_script_list word words k (eqb-true (length words) 7 len) name named
 
 serve_list : (words : List (List ℕ)) (k : Command) → length words ≡ 9 → bytes_eq (word_at words 0) (codes "serve") ≡ true
     → serve_named (word_at words 1) (word_at words 2) (word_at words 3) (word_at words 4) (word_at words 5) (word_at words 6) (word_at words 7) (word_at words 8) ≡ Some k → AreTested words
@@ -212,15 +199,13 @@ gen_list (a ∷ b ∷ c ∷ x ∷ rest) k len name named = absurd (omega (arith,
 
 script_tested : (words : List (List ℕ)) (k : Command) → script_words words ≡ Some k → AreTested words
 script_tested words k h =
-    let (test, named) = if_some ((length words == 7) && bytes_eq (word_at words 0) (codes "script")) (script_named (word_at words 1) (word_at words 2) (word_at words 3) (word_at words 4) (word_at words 5) (word_at words 6)) k h in
-    let (len, name) = both (length words == 7) (bytes_eq (word_at words 0) (codes "script")) test in
-    script_list words k (eqb-true (length words) 7 len) name named
+    let (named, is) = map_some (λ (named : Inputs × List ℕ). command.Script named.0 named.1) (words_with_script (codes "script") words) k h in
+    inl (with_script_tested (codes "script") words named is)
 
 lanes_tested : (words : List (List ℕ)) (k : Command) → lanes_words words ≡ Some k → AreTested words
 lanes_tested words k h =
-    let (test, named) = if_some ((length words == 7) && bytes_eq (word_at words 0) (codes "lanes")) (lanes_named (word_at words 1) (word_at words 2) (word_at words 3) (word_at words 4) (word_at words 5) (word_at words 6)) k h in
-    let (len, name) = both (length words == 7) (bytes_eq (word_at words 0) (codes "lanes")) test in
-    lanes_list words k (eqb-true (length words) 7 len) name named
+    let (named, is) = map_some (λ (named : Inputs × List ℕ). command.Lanes named.0 named.1) (words_with_script (codes "lanes") words) k h in
+    inr (inl (with_script_tested (codes "lanes") words named is))
 
 serve_tested : (words : List (List ℕ)) (k : Command) → serve_words words ≡ Some k → AreTested words
 serve_tested words k h =

@@ -145,12 +145,17 @@ is_service (Lanes census script) = false
 is_service (Serve census service) = true
 is_service (Gen population census script) = false
 
--- what is asked for over the census and the script that the files hold
+-- the census and the script that the files hold
+abbrev pub scripted_in : Inputs → Contents → Result (CensusValue × ScriptValue) End
+scripted_in inputs contents =
+    census_in inputs contents >>= (λ census.
+    script_in contents >>= (λ script. Ok (census, script)))
+
+-- what is asked for over them
 abbrev pub script_over : (CensusValue → ScriptValue → AskedValue) → Inputs → Contents
     → Result AskedValue End
 script_over task inputs contents =
-    census_in inputs contents >>= (λ census.
-    script_in contents >>= (λ script. Ok (task census script)))
+    scripted_in inputs contents >>= (λ read. Ok (task read.0 read.1))
 
 -- what a generated population asks for: what a script would over the generated files
 abbrev pub generated_asked : Population → Result AskedValue End

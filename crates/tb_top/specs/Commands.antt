@@ -43,19 +43,12 @@ inputs_named classes recodes ptable people threshold =
     && is_file_name people
     then option_map (inputs_with classes recodes ptable people) (threshold_in threshold) else None
 
--- a command of the inputs and the task's argument, the script's name
-abbrev pub script_named : (classes recodes ptable people threshold script : List ℕ) → Option Command
-script_named classes recodes ptable people threshold script =
+-- the inputs and the script's name that six arguments name, the last being that name
+abbrev pub with_script : (classes recodes ptable people threshold script : List ℕ)
+    → Option (Inputs × List ℕ)
+with_script classes recodes ptable people threshold script =
     if is_file_name script
-    then option_map (λ inputs. command.Script inputs script)
-    (inputs_named classes recodes ptable people threshold)
-    else None
-
--- the same for a script whose lanes are answered at the same time
-abbrev pub lanes_named : (classes recodes ptable people threshold script : List ℕ) → Option Command
-lanes_named classes recodes ptable people threshold script =
-    if is_file_name script
-    then option_map (λ inputs. command.Lanes inputs script)
+    then option_map (λ inputs. (inputs, script))
     (inputs_named classes recodes ptable people threshold)
     else None
 
@@ -75,21 +68,25 @@ gen_named persons start = option_map command.Gen (population_named persons start
 abbrev pub word_at : List (List ℕ) → ℕ → List ℕ
 word_at words i = get_or words i []
 
--- what `script CLASSES RECODES PTABLE PEOPLE THRESHOLD SCRIPT` asks for
-abbrev pub script_words : List (List ℕ) → Option Command
-script_words words =
-    if (length words == 7) && bytes_eq (word_at words 0) (codes "script")
-    then script_named (word_at words 1) (word_at words 2) (word_at words 3) (word_at words 4)
+-- the inputs and the script's name after a command's word,
+-- `CLASSES RECODES PTABLE PEOPLE THRESHOLD SCRIPT`
+abbrev pub words_with_script : List ℕ → List (List ℕ) → Option (Inputs × List ℕ)
+words_with_script word words =
+    if (length words == 7) && bytes_eq (word_at words 0) word
+    then with_script (word_at words 1) (word_at words 2) (word_at words 3) (word_at words 4)
     (word_at words 5) (word_at words 6)
     else None
 
--- what `lanes CLASSES RECODES PTABLE PEOPLE THRESHOLD SCRIPT` asks for
+-- what `script` asks for, one line after another, and `lanes`, whose lanes are answered at the same
+-- time
+abbrev pub script_words : List (List ℕ) → Option Command
+script_words words =
+    option_map (λ named. command.Script named.0 named.1)
+    (words_with_script (codes "script") words)
+
 abbrev pub lanes_words : List (List ℕ) → Option Command
 lanes_words words =
-    if (length words == 7) && bytes_eq (word_at words 0) (codes "lanes")
-    then lanes_named (word_at words 1) (word_at words 2) (word_at words 3) (word_at words 4)
-    (word_at words 5) (word_at words 6)
-    else None
+    option_map (λ named. command.Lanes named.0 named.1) (words_with_script (codes "lanes") words)
 
 -- what `serve CLASSES RECODES PTABLE PEOPLE THRESHOLD PORT WORKERS SESSIONS` asks for
 abbrev pub serve_words : List (List ℕ) → Option Command
@@ -135,13 +132,15 @@ input_files inputs =
     class_files inputs
     ++ (named input.Ptable inputs.ptable ∷ named input.People inputs.people ∷ [])
 
+-- those of all inputs and a script
+abbrev pub scripted_files : Inputs → List ℕ → List NamedFile
+scripted_files inputs script = input_files inputs ++ (named input.Script script ∷ [])
+
 -- the files of a command, in the order in which they are read: those of its inputs, then its
 -- task's; a generated population has none
 abbrev pub command_files : Command → List NamedFile
-command_files (command.Script inputs script) =
-    input_files inputs ++ (named input.Script script ∷ [])
-command_files (command.Lanes inputs script) =
-    input_files inputs ++ (named input.Script script ∷ [])
+command_files (command.Script inputs script) = scripted_files inputs script
+command_files (command.Lanes inputs script) = scripted_files inputs script
 command_files (command.Serve inputs service) = input_files inputs
 command_files (command.Gen population) = []
 

@@ -2,7 +2,7 @@
 use Rattle.std.specs.Prelude.{◌≡◌, ◌⊎◌, ◌≤◌, ℕ, List, [], ◌++◌, Option}
 use Rattle.tb_base.specs.declared.status.Status.{Status}
 use Rattle.tb_base.specs.declared.status.Status.TheVariants as status
-use Rattle.tb_lanes.specs.Phases.{PhasesGo, Standing, at_first}
+use Rattle.tb_lanes.specs.Phases.{PhasesGo, Progress, after_seeing, begun_with}
 use Rattle.tb_script.specs.Scripts.{ScriptValue}
 use Rattle.tb_serve.specs.Serves.{IsEnded, output}
 use Rattle.tb_top.specs.Asking.{CensusValue, base_of}
@@ -12,7 +12,9 @@ use Rattle.tb_top.specs.declared.endings.End.TheVariants as end
 -- a text is that of the first so many phases, from release 0 of the microdata on
 abbrev pub IsTextOfPhases : CensusValue → ScriptValue → ℕ → List ℕ → Type 0
 IsTextOfPhases census script n text =
-    (last : Standing) × PhasesGo census.setup (base_of census) script n (at_first []) text last
+    (last : Progress)
+    × PhasesGo census.setup (base_of census) script n (begun_with (after_seeing [])) last
+    × (text ≡ last.text)
 
 -- a text is that of some first phases, and then the line that tells that memory ran out
 abbrev pub IsTextToMemory : CensusValue → ScriptValue → List ℕ → Type 0

@@ -11,6 +11,8 @@ use Rattle.tb_top.specs.declared.endings.End.TheVariants as end
 use Rattle.tb_top.specs.declared.load.Asked.{Asked}
 use Rattle.tb_top.specs.declared.load.Asked.TheVariants as asked
 use Rattle.tb_top.specs.declared.load.Census.{Census}
+use Rattle.tb_top.specs.declared.load.Scripted.{Scripted}
+use Rattle.tb_script.specs.Scripts.{ScriptValue}
 use Rattle.tb_top.specs.Asking.{AskedValue, CensusValue, Contents, Gen, Lanes, Script, Serve, contents_for, input_place}
 use Rattle.tb_top.specs.Calls.{IsReadTo, readings_more}
 use Rattle.tb_top.specs.Commands.{NamedFile}
@@ -79,9 +81,12 @@ abbrev pub census_over : SetupValue → ReleaseValue → CensusValue
 census_over setup base =
     record { setup = setup; threshold = base.rules.threshold; records = base.records }
 
--- a census and what is asked for over it, as the definitions see them
+-- a census, a script over it, and what is asked for, as the definitions see them
 abbrev pub census_value : Census → CensusValue
 census_value c = census_over c.setup c.release
+
+abbrev pub scripted_value : Scripted → CensusValue × ScriptValue
+scripted_value read = (census_value read.census, read.script)
 
 abbrev pub asked_value : Asked → AskedValue
 asked_value (asked.Script census script) = Script (census_value census) script

@@ -3,13 +3,12 @@
 ghost use Rattle.std.specs.Prelude.{◌≡◌, None, Some, if◌then◌else◌, map, string_bytes};
 ghost use Rattle.tb_top.specs.Commands.{command_of, gen_named, gen_words, inputs_named};
 ghost use Rattle.tb_top.specs.Commands.{is_file_name as names_a_file};
-ghost use Rattle.tb_top.specs.Commands.{may_name_recodes};
-ghost use Rattle.tb_top.specs.Commands.{recodes_name as name_of_recodes, script_named};
-ghost use Rattle.tb_top.specs.Commands.{script_words, serve_named, serve_words};
+ghost use Rattle.tb_top.specs.Commands.{lanes_words, may_name_recodes};
+ghost use Rattle.tb_top.specs.Commands.{recodes_name as name_of_recodes, script_words};
+ghost use Rattle.tb_top.specs.Commands.{serve_named, serve_words, with_script, words_with_script};
 ghost use Rattle.tb_top.specs.GeneratedFiles.{generated_inputs as inputs_of_generated};
 
 use crate::endings::Input;
-use crate::lanes_words::read_lanes_words;
 use crate::numbers::read_within;
 use crate::population::{Population, read_population};
 use crate::service::{Service, read_service};
@@ -83,7 +82,7 @@ impl<'a> FileName<'a> {
 }
 
 // Whether an argument may be a file's name.
-pub(crate) fn is_file_name(word: &str) -> bool
+fn is_file_name(word: &str) -> bool
     ensures { result ≡ names_a_file word.now }
 {
     match word.as_bytes() {
@@ -112,7 +111,7 @@ fn recodes_name(word: &str) -> Option<FileName<'_>>
 
 // The inputs that the arguments `CLASSES RECODES PTABLE PEOPLE THRESHOLD` name, RECODES being a
 // file's name or `-`.
-pub(crate) fn read_inputs<'a>(
+fn read_inputs<'a>(
     classes: &'a str,
     recodes: &'a str,
     ptable: &'a str,
@@ -137,26 +136,24 @@ pub(crate) fn read_inputs<'a>(
     })
 }
 
-// The command `script` with the arguments after it.
-fn read_script<'a>(
+// The inputs and the script's name that the arguments `CLASSES RECODES PTABLE PEOPLE THRESHOLD
+// SCRIPT` name.
+fn read_script_inputs<'a>(
     classes: &'a str,
     recodes: &'a str,
     ptable: &'a str,
     people: &'a str,
     threshold: &str,
     script: &'a str,
-) -> Option<Command<'a>>
+) -> Option<(Inputs<'a>, FileName<'a>)>
     ensures { result
-        ≡ script_named classes.now recodes.now ptable.now people.now threshold.now script.now }
+        ≡ with_script classes.now recodes.now ptable.now people.now threshold.now script.now }
 {
     if !is_file_name(script) {
         return None;
     }
     match read_inputs(classes, recodes, ptable, people, threshold) {
-        Some(inputs) => Some(Command::Script {
-            inputs,
-            script: FileName::of(script),
-        }),
+        Some(inputs) => Some((inputs, FileName::of(script))),
         None => None,
     }
 }
@@ -195,17 +192,17 @@ fn read_gen<'a>(persons: &str, start: &str) -> Option<Command<'a>>
     }
 }
 
-// What the arguments `script CLASSES RECODES PTABLE PEOPLE THRESHOLD SCRIPT` ask for.
-fn read_script_words(words: &[String]) -> Option<Command<'_>>
-    ensures { result ≡ script_words (map string_bytes words.now) }
+// The inputs and the script's name after this word of a command.
+fn read_with_script<'a>(word: &str, words: &'a [String]) -> Option<(Inputs<'a>, FileName<'a>)>
+    ensures { result ≡ words_with_script word.now (map string_bytes words.now) }
 {
     let [command, classes, recodes, ptable, people, threshold, script] = words else {
         return None;
     };
-    if command.as_str() != "script" {
+    if command.as_str() != word {
         return None;
     }
-    read_script(
+    read_script_inputs(
         classes.as_str(),
         recodes.as_str(),
         ptable.as_str(),
@@ -213,6 +210,26 @@ fn read_script_words(words: &[String]) -> Option<Command<'_>>
         threshold.as_str(),
         script.as_str(),
     )
+}
+
+// What the arguments `script CLASSES RECODES PTABLE PEOPLE THRESHOLD SCRIPT` ask for.
+fn read_script_words(words: &[String]) -> Option<Command<'_>>
+    ensures { result ≡ script_words (map string_bytes words.now) }
+{
+    match read_with_script("script", words) {
+        Some((inputs, script)) => Some(Command::Script { inputs, script }),
+        None => None,
+    }
+}
+
+// What the arguments `lanes` with the same after it ask for.
+fn read_lanes_words(words: &[String]) -> Option<Command<'_>>
+    ensures { result ≡ lanes_words (map string_bytes words.now) }
+{
+    match read_with_script("lanes", words) {
+        Some((inputs, script)) => Some(Command::Lanes { inputs, script }),
+        None => None,
+    }
 }
 
 // What the arguments `serve CLASSES RECODES PTABLE PEOPLE THRESHOLD PORT WORKERS SESSIONS` ask for.

@@ -2,22 +2,20 @@
 // generated files, which stand in memory and are read like any others.
 
 ghost use Rattle.std.specs.Prelude.{◌≡◌, IfErr, IfOk, false};
-ghost use Rattle.tb_top.specs.declared.command.Command.TheVariants as command;
 ghost use Rattle.tb_top.specs.declared.endings.End.TheVariants as end;
-ghost use Rattle.tb_top.specs.Asking.{Gen, generated_asked, is_service, script_over};
-ghost use Rattle.tb_top.specs.Commands.{command_files};
+ghost use Rattle.tb_top.specs.Asking.{generated_asked, is_service};
 ghost use Rattle.tb_top.specs.GeneratedFiles.{HoldGenerated};
-ghost use Rattle.tb_top.specs.Loading.{AskedIsFirst, Loads, Makes, asked_value, reading};
+ghost use Rattle.tb_top.specs.Loading.{AskedIsFirst, Makes, asked_value};
 ghost use Rattle.tb_top.specs.Populations.{HasPersons};
 
-use crate::command::{FileName, Inputs, generated_inputs};
+use crate::command::{FileName, generated_inputs};
 use crate::endings::{End, Input};
-use crate::load::{Asked, load_census, load_script};
+use crate::load::{Asked, Scripted, load_scripted};
 use crate::population::Population;
 use std::alloc::Global;
 use tb_base::Memory;
 use tb_gen::files_of;
-use tb_io::{Files, SureFiles};
+use tb_io::SureFiles;
 
 // The generated files in memory, each under the name that it has in a last line.
 fn hold_generated(alloc: Global, population: &Population) -> Result<SureFiles, Memory>
@@ -34,33 +32,6 @@ fn hold_generated(alloc: Global, population: &Population) -> Result<SureFiles, M
     Ok(files)
 }
 
-// What files under these names ask for, as those of a population.
-fn load_from<F: Files>(
-    alloc: Global,
-    files: &mut F,
-    inputs: &Inputs<'_>,
-    script: &FileName<'_>,
-    population: &Population,
-) -> Result<Asked, End>
-    ensures first { IfOk result AskedIsFirst }
-    ensures kind { IfOk result (λ asked. is_service (asked_value asked) ≡ false) }
-    ensures loads { Loads
-        (reading F.content F.faults F.readings files.old files.new)
-        0
-        (command_files (command.Script inputs.now script.now))
-        asked_value
-        (script_over (Gen population.now) inputs.now) result }
-{
-    let census = load_census(alloc, files, inputs)?;
-    let script = load_script(alloc, files, script)?;
-    let population = population.copy();
-    Ok(Asked::Gen {
-        population,
-        census,
-        script,
-    })
-}
-
 /// What is asked for over the generated files of a population, which are accepted. It takes memory
 /// for the files, for each while it is read, and for what it says.
 pub fn load_generated(alloc: Global, population: &Population) -> Result<Asked, End>
@@ -72,5 +43,12 @@ pub fn load_generated(alloc: Global, population: &Population) -> Result<Asked, E
     let mut files = hold_generated(alloc, population)?;
     let inputs = generated_inputs();
     let script = FileName::of(Input::Script.name());
-    load_from(alloc, &mut files, &inputs, &script, population)
+    let read = load_scripted(alloc, &mut files, &inputs, &script)?;
+    let population = population.copy();
+    let Scripted { census, script } = read;
+    Ok(Asked::Gen {
+        population,
+        census,
+        script,
+    })
 }

@@ -23,7 +23,6 @@ mod command;
 mod endings;
 mod generated;
 mod lanes;
-mod lanes_words;
 pub mod laws;
 mod load;
 mod numbers;

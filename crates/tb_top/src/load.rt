@@ -1,20 +1,20 @@
 // The files of a run, read in their order.
 
-ghost use Rattle.std.specs.Prelude.{◌≡◌, ◌≤◌, [], ◌∷◌, ◌++◌, Option, Some, true, false, length};
+ghost use Rattle.std.specs.Prelude.{◌≡◌, ◌≤◌, [], ◌∷◌, Some, true, length};
 ghost use Rattle.std.specs.Prelude.{IfErr, IfOk, option_map};
 ghost use Rattle.tb_base.specs.declared.people.TheConstants.{MOST_PERSONS};
 ghost use Rattle.tb_base.specs.Records.{AllFit};
 ghost use Rattle.tb_model.specs.Schemas.{shape_of};
-ghost use Rattle.tb_top.specs.declared.command.Command.TheVariants as command;
 ghost use Rattle.tb_top.specs.declared.endings.End.TheVariants as end;
 ghost use Rattle.tb_top.specs.declared.endings.Input.TheVariants as input;
 ghost use Rattle.tb_top.specs.Asking.{asked_over, bytes_in, census_in, input_place, is_service};
 ghost use Rattle.tb_top.specs.Asking.{most_bytes, people_in, perturbation_in, recodes_in};
-ghost use Rattle.tb_top.specs.Asking.{schema_in, script_in};
+ghost use Rattle.tb_top.specs.Asking.{schema_in, script_in, scripted_in};
 ghost use Rattle.tb_top.specs.Commands.{asks_to_generate, asks_to_serve, class_files};
 ghost use Rattle.tb_top.specs.Commands.{command_files, input_files, named, recodes_files};
+ghost use Rattle.tb_top.specs.Commands.{scripted_files};
 ghost use Rattle.tb_top.specs.Loading.{AskedIsFirst, IsFirst, Loads, asked_value, census_value};
-ghost use Rattle.tb_top.specs.Loading.{reading};
+ghost use Rattle.tb_top.specs.Loading.{reading, scripted_value};
 
 use crate::command::{Command, FileName, Inputs};
 use crate::endings::{End, Input};
@@ -39,6 +39,13 @@ pub const MOST_BYTES: u64 = 268_435_456;
 pub struct Census {
     pub setup: Setup,
     pub release: Release,
+}
+
+/// A census, and a script over it.
+#[derive(Drop)]
+pub struct Scripted {
+    pub census: Census,
+    pub script: Script,
 }
 
 /// What a run is asked for over a census: to answer the lines of a script, or its lanes at the same
@@ -184,11 +191,7 @@ fn load_people<F: Files>(
 }
 
 // The setup and release 0, which is made when no file's bytes are held any more.
-pub(crate) fn load_census<F: Files>(
-    alloc: Global,
-    files: &mut F,
-    inputs: &Inputs<'_>,
-) -> Result<Census, End>
+fn load_census<F: Files>(alloc: Global, files: &mut F, inputs: &Inputs<'_>) -> Result<Census, End>
     ensures first { IfOk result IsFirst }
     ensures loads { Loads
         (reading F.content F.faults F.readings files.old files.new)
@@ -206,11 +209,8 @@ pub(crate) fn load_census<F: Files>(
     Ok(Census { setup, release })
 }
 
-pub(crate) fn load_script<F: Files>(
-    alloc: Global,
-    files: &mut F,
-    name: &FileName<'_>,
-) -> Result<Script, End>
+// The script of that name.
+fn load_script<F: Files>(alloc: Global, files: &mut F, name: &FileName<'_>) -> Result<Script, End>
     ensures loads { Loads
         (reading F.content F.faults F.readings files.old files.new)
         4
@@ -226,67 +226,24 @@ pub(crate) fn load_script<F: Files>(
     }
 }
 
-// The census and the script of that name, which is read last.
-fn load_for_script<F: Files>(
+/// The census and the script of that name, which is read last.
+pub(crate) fn load_scripted<F: Files>(
     alloc: Global,
     files: &mut F,
     inputs: &Inputs<'_>,
     script: &FileName<'_>,
-) -> Result<Asked, End>
-    ensures first { IfOk result AskedIsFirst }
-    ensures kind { IfOk result (λ asked. is_service (asked_value asked) ≡ false) }
+) -> Result<Scripted, End>
+    ensures first { IfOk result (λ read. IsFirst read.census) }
     ensures loads { Loads
         (reading F.content F.faults F.readings files.old files.new)
         0
-        (command_files (command.Script inputs.now script.now))
-        asked_value
-        (asked_over (command.Script inputs.now script.now)) result }
+        (scripted_files inputs.now script.now)
+        scripted_value
+        (scripted_in inputs.now) result }
 {
     let census = load_census(alloc, files, inputs)?;
     let script = load_script(alloc, files, script)?;
-    Ok(Asked::Script { census, script })
-}
-
-// The same for a script whose lanes are answered at the same time.
-fn load_for_lanes<F: Files>(
-    alloc: Global,
-    files: &mut F,
-    inputs: &Inputs<'_>,
-    script: &FileName<'_>,
-) -> Result<Asked, End>
-    ensures first { IfOk result AskedIsFirst }
-    ensures kind { IfOk result (λ asked. is_service (asked_value asked) ≡ false) }
-    ensures loads { Loads
-        (reading F.content F.faults F.readings files.old files.new)
-        0
-        (command_files (command.Lanes inputs.now script.now))
-        asked_value
-        (asked_over (command.Lanes inputs.now script.now)) result }
-{
-    let census = load_census(alloc, files, inputs)?;
-    let script = load_script(alloc, files, script)?;
-    Ok(Asked::Lanes { census, script })
-}
-
-// The census alone, over which sessions are served.
-fn load_for_service<F: Files>(
-    alloc: Global,
-    files: &mut F,
-    inputs: &Inputs<'_>,
-    service: &Service,
-) -> Result<Asked, End>
-    ensures first { IfOk result AskedIsFirst }
-    ensures kind { IfOk result (λ asked. is_service (asked_value asked) ≡ true) }
-    ensures loads { Loads
-        (reading F.content F.faults F.readings files.old files.new)
-        0
-        (command_files (command.Serve inputs.now service.now))
-        asked_value
-        (asked_over (command.Serve inputs.now service.now)) result }
-{
-    let census = load_census(alloc, files, inputs)?;
-    let service = service.copy();
-    Ok(Asked::Serve { census, service })
+    Ok(Scripted { census, script })
 }
 
 /// Reads the files of a command: CLASSES and RECODES, both before either is checked, then PTABLE,
@@ -307,9 +264,21 @@ pub fn load<F: Files>(alloc: Global, files: &mut F, command: &Command<'_>) -> Re
         (asked_over command.now) result }
 {
     match command {
-        Command::Script { inputs, script } => load_for_script(alloc, files, inputs, script),
-        Command::Lanes { inputs, script } => load_for_lanes(alloc, files, inputs, script),
-        Command::Serve { inputs, service } => load_for_service(alloc, files, inputs, service),
+        Command::Script { inputs, script } => {
+            let read = load_scripted(alloc, files, inputs, script)?;
+            let Scripted { census, script } = read;
+            Ok(Asked::Script { census, script })
+        }
+        Command::Lanes { inputs, script } => {
+            let read = load_scripted(alloc, files, inputs, script)?;
+            let Scripted { census, script } = read;
+            Ok(Asked::Lanes { census, script })
+        }
+        Command::Serve { inputs, service } => {
+            let census = load_census(alloc, files, inputs)?;
+            let service = service.copy();
+            Ok(Asked::Serve { census, service })
+        }
         Command::Gen { population } => load_generated(alloc, population),
     }
 }

@@ -4,7 +4,7 @@ use Rattle.tb_lanes.specs.Runs.{IsSwapped, PhaseRan}
 use Rattle.tb_lanes.proofs.Phasing.{analysts_as_seen, analysts_back, analysts_over_setup, confirmed_analysts, owner_as_seen, owner_back, phase_ran, swapped_parties}
 use Rattle.tb_lanes.proofs.Swapping.{owner_within}
 use Rattle.tb_model.specs.Schemas.{shape_of}
-use Rattle.tb_script.specs.Runs.{IsOwnerOf}
+use Rattle.tb_session.specs.Parties.{IsOwnerOf}
 use Rattle.tb_session.specs.declared.party.Party.{Party}
 use Rattle.tb_lanes.proofs.phase.run_phase.Goals as goal
 

@@ -1,12 +1,11 @@
-use Rattle.std.proofs.Common.{◌≡◌, ◌≤◌, ℕ, List, length}
+use Rattle.std.proofs.Common.{◌≡◌, ◌≤◌, length}
 use Rattle.std.specs.Prelude.{All}
 use Rattle.tb_io.specs.Taken.{Took}
-use Rattle.tb_lanes.specs.Phases.{PhasesGo, Standing}
-use Rattle.tb_lanes.specs.Runs.{Stand, standing_of}
+use Rattle.tb_lanes.specs.Phases.{PhasesGo, Progress, begun_with}
+use Rattle.tb_lanes.specs.Runs.{Stand}
 use Rattle.tb_model.specs.Schemas.{shape_of}
-use Rattle.tb_script.specs.Runs.{IsOwnerOf}
 use Rattle.tb_script.specs.Scripts.{lanes_of}
-use Rattle.tb_session.specs.Parties.{IsAnalystOf, seen_by}
+use Rattle.tb_session.specs.Parties.{IsAnalystOf, IsOwnerOf, seen_by, state_of}
 use Rattle.tb_lanes.proofs.run.run_phases.Given as goal
 
 -- the phases so far led to where all stand, and their text was taken
@@ -16,8 +15,8 @@ invariant-loop-before g l = record {
   analysts : All (λ lane. IsAnalystOf g.B.Named.name (shape_of l.setup.schema) lane.party) l.lanes;
   all : length l.lanes ≡ length (lanes_of l.script.lines);
   count : g.K.Sink.faults l.fn.sink ≤ g.K.Sink.faults l.sink;
-  so_far : (text : List ℕ) × (at : Standing)
-      × PhasesGo l.setup (seen_by l.fn.own).start.base l.script l.before (standing_of l.fn.own) text at
-      × Stand (seen_by l.fn.own).start.base l.script l.own l.lanes at
-      × Took (g.K.Sink.taken l.fn.sink) (g.K.Sink.taken l.sink) text;
+  so_far : (at : Progress)
+      × PhasesGo l.setup (seen_by l.fn.own).start.base l.script l.before (begun_with (state_of l.fn.own)) at
+      × Stand (seen_by l.fn.own).start.base l.script l.own l.lanes at.standing
+      × Took (g.K.Sink.taken l.fn.sink) (g.K.Sink.taken l.sink) at.text;
 }

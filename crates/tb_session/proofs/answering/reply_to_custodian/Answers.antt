@@ -1,5 +1,6 @@
 use Rattle.std.proofs.Common.{◌∙◌, refl, sym, []}
 use Rattle.tb_session.specs.ReplyTexts.{reply_text}
+use Rattle.tb_tables.specs.ReplyTexts.{table_reply_text}
 use Rattle.tb_session.proofs.Leading.{leads_to_capacity, leads_to_clear, leads_to_edit, leads_to_nothing, leads_to_publish, leads_to_stats, leads_to_table, own_stats}
 use Rattle.tb_session.proofs.answering.reply_to_custodian.Goals as goal
 
@@ -10,7 +11,7 @@ returns-in-Nothing-clause-leads g c =
 
 pub returns-in-Table-clause-leads : goal.returns-in-Table-clause-leads
 returns-in-Table-clause-leads g c =
-    leads_to_table c.args.setup.now c.args.custodian.now c.answer_own.new.custodian c.args.held.now c.args.held.now c.args.line.now (reply_text c.answer_own.result) c.args.steps.now c.answer_own.new.steps
+    leads_to_table c.args.setup.now c.args.custodian.now c.answer_own.new.custodian c.args.held.now c.args.held.now c.args.line.now (table_reply_text c.answer_own.result) c.args.steps.now c.answer_own.new.steps
     (sym c.asks_of.ensures.asks ∙ c.in-Table.is) c.answer_own.ensures.same refl c.answer_own.ensures.answer
 
 pub returns-in-Edit-clause-leads : goal.returns-in-Edit-clause-leads

@@ -4,7 +4,7 @@ use Rattle.tb_board.proofs.Taking.{may_offer, taken_for}
 use Rattle.tb_core.specs.Got.{cube_got}
 use Rattle.tb_core.specs.Takes.{number_of, release_in}
 use Rattle.tb_cube.specs.Cubes.{cube_over, unpacked}
-use Rattle.tb_session.proofs.Cubed.{has-cube}
+use Rattle.tb_tables.proofs.Cubed.{has-cube}
 use Rattle.tb_session.proofs.count.count_by_cube.Goals as goal
 
 pub cube_of-requires-clause-has : goal.cube_of-requires-clause-has
@@ -24,7 +24,7 @@ offer-requires-clause-cube g c =
     let taken = c.in_ok-taken.taken in
     let shape : seen.start.shape ≡ c.args.shape.now = ap (λ (s : StartValue). s.shape) c.in_ok-taken.ensures.later.base ∙ c.requires.own.fits in
     let vars : c.vars-2.result.now ≡ c.vars-in-Made.result.now = c.vars-2.ensures.vars ∙ sym c.vars-in-Made.ensures.vars in
-    let number : c.number-number.result ≡ number_of taken = c.number-number.ensures ∙ ap (λ r. r.number) c.deref-3.ensures in
+    let number : c.number-number.result ≡ number_of taken = c.number-number.ensures ∙ ap (λ r. r.number) c.deref-2.ensures in
     let cube : unpacked c.in-Made.cube ≡ cube_over seen.start.shape c.vars-in-Made.result.now (release_in taken).records =
     sym (ap cube_got c.in-Made.is)
     ∙ c.in_ok-got.ensures.cube

@@ -1,28 +1,50 @@
-use Rattle.std.proofs.Common.{◌∙◌, refl, Some}
+use Rattle.std.proofs.Common.{◌≡◌, ◌∙◌, refl, ℕ, List, Some, Ok, Err, Result}
+use Rattle.std.proofs.lemmas.Result.{err_from_is_err_and}
 use Rattle.tb_io.proofs.FaultLemmas.{HasRisen-zero}
-use Rattle.tb_io.specs.HeldFiles.{bytes_or_none}
-use Rattle.tb_top.specs.declared.command.Command.TheVariants as command
+use Rattle.tb_io.specs.Faults.{HasRisen}
+use Rattle.tb_io.specs.HeldFiles.{HeldFiles, bytes_or_none}
+use Rattle.tb_top.specs.declared.command.Inputs.{Inputs}
+use Rattle.tb_top.specs.declared.endings.End.{End}
+use Rattle.tb_top.specs.declared.load.Scripted.{Scripted}
 use Rattle.tb_top.specs.declared.endings.Input.TheVariants as input
-use Rattle.tb_top.specs.Asking.{Gen, script_over}
-use Rattle.tb_top.specs.Commands.{command_files}
+use Rattle.tb_top.specs.Asking.{Gen, generated_asked, script_over, scripted_in}
+use Rattle.tb_top.specs.Commands.{scripted_files}
 use Rattle.tb_top.specs.Endings.{input_name}
-use Rattle.tb_top.specs.GeneratedFiles.{generated_contents, generated_inputs}
-use Rattle.tb_top.specs.Loading.{asked_value}
-use Rattle.tb_top.proofs.Generating.{accepted-made, holds-generated, loads-as, makes-of}
+use Rattle.tb_top.specs.GeneratedFiles.{HoldGenerated, generated_contents, generated_inputs}
+use Rattle.tb_top.specs.Loading.{Loads, Makes, Reading, asked_value, scripted_value}
+use Rattle.tb_top.specs.Populations.{Population}
+use Rattle.tb_top.proofs.Generating.{accepted-made, gen_of, holds-generated, loads-gen, makes-of}
 use Rattle.tb_top.proofs.generated.load_generated.Goals as goal
 
-pub returns : goal.returns
-returns c =
-    let p = c.args.population.now in
-    let files = c.in_ok-files.files in
-    let made = makes-of asked_value (script_over (Gen p) generated_inputs) (generated_contents p) (λ name. Some (bytes_or_none files name))
-    (command_files (command.Script generated_inputs (input_name input.Script))) 0 c.load_from.result refl HasRisen-zero
-    (holds-generated p files c.in_ok-files.ensures.held)
-    (loads-as p _ generated_inputs _ (input_name input.Script) c.load_from.result c.generated_inputs-inputs.ensures
-    (c.of-script.ensures ∙ c.name.ensures) c.load_from.ensures.loads) in
-    record {
-      first = c.load_from.ensures.first;
-      kind = c.load_from.ensures.kind;
-      makes = made;
-      accepted = accepted-made p c.hold_generated.ensures.some asked_value c.load_from.result made;
-    }
+-- what is made of a census and a script that were read, or weren't
+made_of : (p q : Population) (files : HeldFiles) (inputs : Inputs) (name : List ℕ) (read : Result Scripted End) {saw : Reading}
+    → saw.content ≡ Some (λ name. Some (bytes_or_none files name)) → (HasRisen saw.faults saw.faults_after → ⊥)
+    → HoldGenerated p files → q ≡ p → inputs ≡ generated_inputs → name ≡ input_name input.Script
+    → Loads saw 0 (scripted_files inputs name) scripted_value (scripted_in inputs) read
+    → Makes asked_value (generated_asked p) (gen_of q read)
+made_of p q files inputs name read content sure held is one two h =
+    makes-of asked_value (script_over (Gen p) generated_inputs) (generated_contents p) (λ name. Some (bytes_or_none files name))
+    (scripted_files generated_inputs (input_name input.Script)) 0 (gen_of q read) content sure (holds-generated p files held)
+    (loads-gen p q inputs generated_inputs name (input_name input.Script) read is one two h)
+
+pub returns-clause-makes : goal.returns-clause-makes
+returns-clause-makes c =
+    made_of c.args.population.now c.copy-population.result c.in_ok-files.files _ _ (Ok c.in_ok-read.read) refl HasRisen-zero
+    c.in_ok-files.ensures.held c.copy-population.ensures c.generated_inputs-inputs.ensures (c.of-script.ensures ∙ c.name.ensures)
+    c.in_ok-read.ensures.loads
+
+pub returns-in_err-read-clause-makes : goal.returns-in_err-read-clause-makes
+returns-in_err-read-clause-makes c =
+    let p = err_from_is_err_and c.from_residual-in_err-read.result c.from_residual-in_err-read.ensures.1 in
+    let made = made_of c.args.population.now c.args.population.now c.in_ok-files.files _ _ (Err _) refl HasRisen-zero
+    c.in_ok-files.ensures.held refl c.generated_inputs-inputs.ensures (c.of-script.ensures ∙ c.name.ensures)
+    c.in_err-read.ensures.loads in
+    rw (p.1, p.2) made
+
+pub returns-in_err-read-clause-accepted : goal.returns-in_err-read-clause-accepted
+returns-in_err-read-clause-accepted c =
+    let p = err_from_is_err_and c.from_residual-in_err-read.result c.from_residual-in_err-read.ensures.1 in
+    let made = made_of c.args.population.now c.args.population.now c.in_ok-files.files _ _ (Err _) refl HasRisen-zero
+    c.in_ok-files.ensures.held refl c.generated_inputs-inputs.ensures (c.of-script.ensures ∙ c.name.ensures)
+    c.in_err-read.ensures.loads in
+    rw (p.1, p.2) (accepted-made c.args.population.now c.hold_generated.ensures.some asked_value (Err _) made)

@@ -1,7 +1,7 @@
 use Rattle.std.proofs.Common.{refl, [], inr, ◌++◌, arith}
 use Rattle.tb_base.specs.declared.status.Status.TheVariants as status
 use Rattle.tb_io.proofs.TakenLemmas.{Took-nothing}
-use Rattle.tb_lanes.specs.Phases.{at_first}
+use Rattle.tb_lanes.specs.Phases.{after_seeing, begun_with}
 use Rattle.tb_top.specs.Endings.{last_line}
 use Rattle.tb_top.specs.declared.endings.End.TheVariants as end
 use Rattle.tb_top.proofs.LanesRun.{ended-after}
@@ -11,6 +11,6 @@ pub returns : goal.returns
 returns g c = (
   status.Memory,
   [] ++ last_line end.Memory,
-  inr (refl, (0, [], omega arith, (at_first [], (refl, refl)), refl)),
+  inr (refl, (0, [], omega arith, (begun_with (after_seeing []), refl, refl), refl)),
   ended-after _ _ _ _ _ _ _ [] (omega arith) c.end_by.ensures.count (Took-nothing _) c.end_by.ensures.ended,
 )

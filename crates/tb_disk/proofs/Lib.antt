@@ -1,0 +1,4 @@
+pub mod Going
+pub mod Quietly
+pub mod Tearing
+pub mod Telling

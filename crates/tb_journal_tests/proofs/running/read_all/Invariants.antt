@@ -1,0 +1,5 @@
+use Rattle.tb_journal_tests.specs.Ready.{IsReady}
+use Rattle.tb_journal_tests.proofs.running.read_all.Given as goal
+
+abbrev pub invariant-loop-i : goal.invariant-loop-i
+invariant-loop-i l = IsReady l.disk l.journal l._i

@@ -1,0 +1,4 @@
+pub mod Calls
+pub mod HeldDisk
+pub mod Laws
+pub mod Writes

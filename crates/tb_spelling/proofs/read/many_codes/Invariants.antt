@@ -1,0 +1,8 @@
+use Rattle.std.proofs.Common.{◌≡◌, ◌-◌}
+use Rattle.std.specs.Int.{w16}
+use Rattle.tb_spelling.specs.Fields.{number_at, many_at}
+use Rattle.tb_spelling.proofs.Rereading.{with_front}
+use Rattle.tb_spelling.proofs.read.many_codes.Given as goal
+
+abbrev pub invariant-loop : goal.invariant-loop
+invariant-loop l = with_front (number_at w16) l.codes.items (many_at (number_at w16) (l.count - l.counter) l.rest) ≡ many_at (number_at w16) l.count l.bytes

@@ -1,0 +1,4 @@
+pub mod Cubed
+mod FewCells
+mod Counts
+pub mod QueryAnswers

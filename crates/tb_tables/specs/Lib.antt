@@ -1,0 +1,4 @@
+pub mod Answers
+pub mod ReplyLines
+pub mod ReplyTexts
+pub mod Counting
