@@ -33,8 +33,8 @@ EndsAt role.Custodian seen chain = seen ≡ chain
 EndsAt role.Analyst seen chain = IsPrefix seen chain
 
 -- the sessions of a port, where it is given which replies to which lines are legal, and at which
--- state a session begins: the first that were to come at its listener came back, in order, and there
--- were enough of them; they led its party from a state to another
+-- state a session begins: the first that were to come at its listener came back, in order, and
+-- there were enough of them; they led its party from a state to another
 pub record IsVisited {S : Type 0} (Legal : S → List (List ℕ) → List ReplyValue → S → Type 0)
     (fresh : S → S) (most : ℕ) (from to : S) (before after : PortValue) : Type 0 where
   pub visits : List Visit

@@ -30,9 +30,9 @@ use tb_session::Setting;
 /// sessions, one after another, until none is to come or its accept failed; a session that ends by
 /// a fault ends no other. An analyst's port has one pass for all its sessions.
 ///
-/// `out` takes, in writes that need no memory, `worker I sessions N` for each port, `release R` with
-/// the number of the custodian's release, and `fault net` last where an accept failed. Memory is
-/// taken for the replies alone. At the return no port has a party or a reader of lines.
+/// `out` takes, in writes that need no memory, `worker I sessions N` for each port, `release R`
+/// with the number of the custodian's release, and `fault net` last where an accept failed. Memory
+/// is taken for the replies alone. At the return no port has a party or a reader of lines.
 pub fn serve_from<
     C,
     B: Named + Send + Sync,

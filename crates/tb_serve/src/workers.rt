@@ -121,13 +121,7 @@ pub(crate) fn work_all<
     W: Owner<C, B>,
     N: Listen + Send,
     R: Threads + Wait + Sync,
->(
-    setting: &Setting<'_, B, R>,
-    own_setting: &C,
-    sessions: u32,
-    owner: &mut W,
-    ports: &mut [Port<N>],
-)
+>(setting: &Setting<'_, B, R>, own_setting: &C, sessions: u32, owner: &mut W, ports: &mut [Port<N>])
     requires ready { W.IsReady own_setting.now owner.old }
     requires may { W.MayAsk own_setting.now tt }
     requires some { 0 < length ports.old }
