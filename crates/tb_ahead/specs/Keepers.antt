@@ -1,9 +1,9 @@
 -- A party that writes its batches ahead, beside what it writes them into, and where its lines lead.
-use Rattle.std.specs.Prelude.{◌≡◌, ℕ, Bool, List, [], is_none}
+use Rattle.std.specs.Prelude.{◌≡◌, ℕ, Bool, List, is_none}
 use Rattle.tb_lines.specs.Outputs.{ReplyValue}
 use Rattle.tb_model.specs.Releases.{ReleaseValue}
 use Rattle.tb_ahead.specs.Keeping.{IsKeptStep, KeptState}
-use Rattle.tb_ahead.specs.Publishing.{StateValue}
+use Rattle.tb_ahead.specs.Publishing.{StateValue, let_go}
 use Rattle.tb_ahead.specs.Puts.{FileStands}
 
 -- such a party: release 0 of its chain, where it stands itself, and what it writes ahead into
@@ -16,13 +16,9 @@ pub record KeeperValue (W : Type 0) : Type 0 where
 abbrev pub keeper : {W : Type 0} → ReleaseValue → StateValue → W → KeeperValue W
 keeper base state ahead = record { base = base; state = state; ahead = ahead }
 
--- a state without its edits
-abbrev pub with_none_held : StateValue → StateValue
-with_none_held state = record state { held = [] }
-
 -- the same party as it begins: it holds no edits
 abbrev pub at_start : {W : Type 0} → KeeperValue W → KeeperValue W
-at_start one = record one { state = with_none_held one.state }
+at_start one = record one { state = let_go one.state }
 
 -- a party of this state, with a journal that is live or not, whose file stands for this after a
 -- stop, and a disk with that count of faults, stands here

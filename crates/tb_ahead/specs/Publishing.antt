@@ -14,6 +14,14 @@ pub record StateValue : Type 0 where
   pub chain : List BatchValue
   pub held : List Edit
 
+-- where one stands that has seen these batches, and holds no edits
+abbrev pub after_seeing : List BatchValue → StateValue
+after_seeing batches = record { chain = batches; held = [] }
+
+-- where a party stands that begins a session: it lets go of the edits that it held
+abbrev pub let_go : StateValue → StateValue
+let_go state = after_seeing state.chain
+
 -- a batch that is published: the number of the release to which it leads
 abbrev pub published_line : ℕ → List ℕ
 published_line number = codes "published " ++ decimal number ++ codes "\n"

@@ -1,8 +1,7 @@
 // A party whose batches are written ahead.
 
 ghost use Rattle.std.specs.Prelude.{◌≡◌, ◌≤◌, ◌+◌, ℕ, Bool, true, List, All, length};
-ghost use Rattle.tb_ahead.specs.Keepers.{with_none_held};
-ghost use Rattle.tb_ahead.specs.Publishing.{IsPublishReply, StateValue};
+ghost use Rattle.tb_ahead.specs.Publishing.{IsPublishReply, StateValue, let_go};
 ghost use Rattle.tb_ahead.specs.Trials.{IsTried};
 ghost use Rattle.tb_io.specs.declared.limits.TheConstants.{MOST_LINE_BYTES};
 ghost use Rattle.tb_lines.specs.Moments.{IsReplied, moment};
@@ -46,7 +45,7 @@ pub trait Publisher<C, G> {
         requires { IsReady setting.now self.old }
         ensures ready { IsReady setting.now self.new }
         ensures base { base self.new ≡ base self.old }
-        ensures state { state self.new ≡ with_none_held (state self.old) };
+        ensures state { state self.new ≡ let_go (state self.old) };
 
     /// Whether a line asks to publish.
     fn asks_to_publish(&self, line: &[u8]) -> bool

@@ -3,7 +3,7 @@ use Rattle.std.proofs.Common.{◌≡◌, sym, subst, refl, ℕ, zero, suc, ◌+�
 use mathlib.Core.List.{IsPrefix}
 use Rattle.tb_core.specs.declared.desk.Stats.{Stats}
 use Rattle.tb_front.proofs.Prefixes.{prefix_self}
-use Rattle.tb_lanes.specs.Phases.{LaneGoes, PhaseGoes, PhasesGo, Progress, Standing, after_seeing, lane_at, lines_at, phase_text}
+use Rattle.tb_lanes.specs.Phases.{LaneGoes, PhaseGoes, PhasesGo, Progress, Standing, lane_at, lines_at, phase_text}
 use Rattle.tb_lanes.proofs.Going.{AreBehind, advanced, one_more}
 use Rattle.tb_model.specs.Releases.{ReleaseValue}
 use Rattle.tb_model.specs.Setups.{SetupValue}
@@ -13,7 +13,7 @@ use Rattle.tb_session.specs.Asks.{asks_of}
 use Rattle.tb_session.specs.declared.asks.Asks.{Asks}
 use Rattle.tb_session.specs.declared.asks.Asks.TheVariants as asks
 use Rattle.tb_lines.specs.Outputs.{ReplyValue, text_of}
-use Rattle.tb_ahead.specs.Publishing.{StateValue}
+use Rattle.tb_ahead.specs.Publishing.{StateValue, after_seeing}
 use Rattle.tb_session.specs.Replies.{IsReplyTo}
 use Rattle.tb_session.specs.ReplyLines.{cleared_line, stats_line}
 use Rattle.tb_session.specs.Transcripts.{IsLegal, Sees}

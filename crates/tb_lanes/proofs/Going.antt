@@ -8,7 +8,7 @@ use Rattle.tb_front.specs.Holders.{Name}
 use Rattle.tb_front.proofs.Prefixes.{prefix_self, prefix_trans}
 use Rattle.tb_lanes.specs.declared.lane.Lane.{Lane}
 use Rattle.tb_lanes.specs.Lanes.{Ran, has_some}
-use Rattle.tb_lanes.specs.Phases.{AnalystGoes, IsPhase, LaneGoes, PhaseGoes, PhasesGo, Progress, Standing, after_seeing, begun_with, lane_at, lane_text, lanes_text, lines_at, phase_line, phase_text}
+use Rattle.tb_lanes.specs.Phases.{AnalystGoes, IsPhase, LaneGoes, PhaseGoes, PhasesGo, Progress, Standing, begun_with, lane_at, lane_text, lanes_text, lines_at, phase_line, phase_text}
 use Rattle.tb_lanes.specs.Runs.{AnalystRan, KnowLines, LaneRan, PhaseRan, Stand, Tell}
 use Rattle.tb_lanes.proofs.Lanes.{told_text}
 use Rattle.tb_session.proofs.LegalParties.{lines_legal}
@@ -18,7 +18,7 @@ use Rattle.tb_release.specs.Batches.{BatchValue}
 use Rattle.tb_script.specs.Scripts.{ScriptValue, lanes_of, role_of_lane}
 use Rattle.tb_lines.specs.Outputs.{ReplyValue, text_of}
 use Rattle.tb_session.specs.Parties.{IsOwnerOf, role_of, seen_by, state_of}
-use Rattle.tb_ahead.specs.Publishing.{StateValue}
+use Rattle.tb_ahead.specs.Publishing.{StateValue, after_seeing}
 use Rattle.tb_session.specs.Transcripts.{IsLegal}
 use Rattle.tb_session.specs.declared.party.Party.{Party}
 use Rattle.tb_session.specs.declared.party.Party.TheVariants as party

@@ -11,7 +11,7 @@ use Rattle.tb_script.specs.Scripts.{ScriptLine, ScriptValue, lanes_of, role_of_l
 use Rattle.tb_script.specs.declared.run.RunEnd.{RunEnd}
 use Rattle.tb_script.specs.declared.run.RunEnd.TheVariants as run_end
 use Rattle.tb_lines.specs.Outputs.{ReplyValue, text_of}
-use Rattle.tb_ahead.specs.Publishing.{StateValue}
+use Rattle.tb_ahead.specs.Publishing.{StateValue, after_seeing}
 use Rattle.tb_session.specs.Transcripts.{IsLegal}
 use Rattle.tb_session.specs.declared.party.Role.{Role}
 use Rattle.tb_session.specs.declared.party.Role.TheVariants as role
@@ -68,10 +68,6 @@ phase_text script phase texts =
 pub record Standing : Type 0 where
   pub custodian : StateValue
   pub seen : ℕ → List BatchValue
-
--- where an analyst stands that has seen some batches
-abbrev pub after_seeing : List BatchValue → StateValue
-after_seeing batches = record { chain = batches; held = [] }
 
 -- an analyst's replies in a phase are legal from batches that begin with all that the custodian had
 -- published when the phase began, and with all that the analyst had seen; and what it has then seen

@@ -4,7 +4,7 @@ use Rattle.tb_board.specs.Starts.{StartValue}
 use Rattle.tb_lines.specs.Outputs.{Lead, ReplyValue}
 use Rattle.tb_model.specs.Releases.{ReleaseValue}
 use Rattle.tb_model.specs.Setups.{SetupValue}
-use Rattle.tb_serve.specs.Serves.{let_go}
+use Rattle.tb_ahead.specs.Publishing.{let_go}
 use Rattle.tb_session.specs.Parties.{role_of, seen_by, state_of}
 use Rattle.tb_session.specs.PartySessions.{IsPartyStep, with_none_held}
 use Rattle.tb_session.specs.Transcripts.{IsLegal}

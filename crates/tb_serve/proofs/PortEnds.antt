@@ -13,7 +13,8 @@ use Rattle.tb_model.specs.Schemas.{shape_of}
 use Rattle.tb_model.specs.Setups.{SetupValue}
 use Rattle.tb_release.specs.Batches.{BatchValue}
 use Rattle.tb_serve.specs.Ports.{PortValue}
-use Rattle.tb_serve.specs.Serves.{HasServed, IsPortServed, IsVisited, let_go, role_at, seen_alone}
+use Rattle.tb_ahead.specs.Publishing.{after_seeing, let_go}
+use Rattle.tb_serve.specs.Serves.{HasServed, IsPortServed, IsVisited, role_at}
 use Rattle.tb_serve.specs.Stages.{GetsReady, HasLines, IsBoundAt, IsCleared, IsConfirmed, IsFresh, IsLeft, IsOfFront, IsReady, IsSameButLines, IsSeated, IsUntouched}
 use Rattle.tb_serve.specs.Workers.{CanWork, HasWorkedAs, HasWorkedAt}
 use Rattle.tb_serve.proofs.Parties.{IsOne, party_visits}
@@ -160,7 +161,7 @@ custodian_served setup most custodian from to p t is empty visited =
         given = visited.given;
         counted = visited.counted;
         enough = visited.enough;
-        lead = subst (λ (chain : List BatchValue). AreVisits (IsLegal role.Custodian setup custodian.writer.start.base) let_go (seen_alone chain) visited.visits (state_of to)) empty lead;
+        lead = subst (λ (chain : List BatchValue). AreVisits (IsLegal role.Custodian setup custodian.writer.start.base) let_go (after_seeing chain) visited.visits (state_of to)) empty lead;
       };
       ends = refl;
     }
@@ -198,7 +199,7 @@ port_served setup base first most chain i o p t ready x left = record {
   port = left.port ∙ ready.bound.port;
   sessions = record {
     last = x.last;
-    visited = visited_before (IsLegal (role_at i) setup base) let_go first most i (seen_alone []) x.last o p t ready x.visited;
+    visited = visited_before (IsLegal (role_at i) setup base) let_go first most i (after_seeing []) x.last o p t ready x.visited;
     ends = x.ends;
   };
   party = left.party;

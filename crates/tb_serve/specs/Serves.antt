@@ -14,7 +14,7 @@ use Rattle.tb_serve.specs.Each.{Each}
 use Rattle.tb_serve.specs.Ports.{PortValue}
 use Rattle.tb_serve.specs.Reports.{memory_line, net_line, report, some_failed}
 use Rattle.tb_serve.specs.Stages.{HasRisenSome, IsUntouched}
-use Rattle.tb_ahead.specs.Publishing.{StateValue}
+use Rattle.tb_ahead.specs.Publishing.{StateValue, after_seeing, let_go}
 use Rattle.tb_session.specs.Transcripts.{IsLegal}
 use Rattle.tb_session.specs.declared.party.Role.{Role}
 use Rattle.tb_session.specs.declared.party.Role.TheVariants as role
@@ -43,20 +43,12 @@ pub record IsVisited {S : Type 0} (Legal : S → List (List ℕ) → List ReplyV
   pub enough : IsEnough most before.listener after.listener after.served after.failed
   pub lead : AreVisits Legal fresh from visits to
 
--- where one stands that has seen these batches and holds no edits
-abbrev pub seen_alone : List BatchValue → StateValue
-seen_alone chain = record { chain = chain; held = [] }
-
--- where a session of a party begins: it lets go of the edits that it holds
-abbrev pub let_go : StateValue → StateValue
-let_go state = seen_alone state.chain
-
 -- the sessions of port i led its party from the batches of a start, with no edits held, to the
 -- chain, or to a beginning of it
 pub record HasServed (setup : SetupValue) (base : ReleaseValue) (most : ℕ)
     (start chain : List BatchValue) (i : ℕ) (before after : PortValue) : Type 0 where
   pub last : StateValue
-  pub visited : IsVisited (IsLegal (role_at i) setup base) let_go most (seen_alone start) last
+  pub visited : IsVisited (IsLegal (role_at i) setup base) let_go most (after_seeing start) last
       before after
   pub ends : EndsAt (role_at i) last.chain chain
 

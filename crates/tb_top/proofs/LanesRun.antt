@@ -7,7 +7,8 @@ use Rattle.tb_board.specs.Custodians.{CustodianValue, OpeningValue, first_custod
 use Rattle.tb_io.proofs.FaultLemmas.{HasRisen-earlier}
 use Rattle.tb_io.proofs.TakenLemmas.{Took-append, TookPart-append}
 use Rattle.tb_io.specs.Taken.{Took}
-use Rattle.tb_lanes.specs.Phases.{PhasesGo, Progress, after_seeing, begun_with}
+use Rattle.tb_ahead.specs.Publishing.{after_seeing}
+use Rattle.tb_lanes.specs.Phases.{PhasesGo, Progress, begun_with}
 use Rattle.tb_model.specs.Releases.{ReleaseValue}
 use Rattle.tb_model.specs.Setups.{SetupValue}
 use Rattle.tb_script.specs.Scripts.{ScriptValue}

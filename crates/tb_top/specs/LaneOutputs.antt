@@ -2,7 +2,8 @@
 use Rattle.std.specs.Prelude.{◌≡◌, ◌⊎◌, ◌≤◌, ℕ, List, [], ◌++◌, Option}
 use Rattle.tb_base.specs.declared.status.Status.{Status}
 use Rattle.tb_base.specs.declared.status.Status.TheVariants as status
-use Rattle.tb_lanes.specs.Phases.{PhasesGo, Progress, after_seeing, begun_with}
+use Rattle.tb_ahead.specs.Publishing.{after_seeing}
+use Rattle.tb_lanes.specs.Phases.{PhasesGo, Progress, begun_with}
 use Rattle.tb_script.specs.Scripts.{ScriptValue}
 use Rattle.tb_serve.specs.Serves.{IsEnded, output}
 use Rattle.tb_top.specs.Asking.{CensusValue, base_of}

@@ -7,6 +7,7 @@ use Rattle.tb_io.specs.Taken.{Took, TookPart}
 use Rattle.tb_script.specs.Runs.{IsLaneReply}
 use Rattle.tb_script.specs.Scripts.{ScriptValue}
 use Rattle.tb_serve.specs.Ports.{PortValue}
+use Rattle.tb_ahead.specs.Publishing.{after_seeing}
 use Rattle.tb_lines.specs.Outputs.{AreReplies, ReplyValue, price_of, text_of}
 use Rattle.tb_top.specs.declared.endings.End.TheVariants as end
 use Rattle.tb_top.specs.Asking.{AskedValue, CensusValue, Gen, Lanes, Script, Serve, base_of}
@@ -21,7 +22,7 @@ use Rattle.tb_top.specs.Summing.{most_counted}
 abbrev pub AreScriptReplies : CensusValue → ScriptValue → List ReplyValue → Type 0
 AreScriptReplies census script replies =
     AreReplies (IsLaneReply census.setup (base_of census))
-    (record { chain = []; held = [] }) script.lines replies
+    (after_seeing []) script.lines replies
 
 -- the same of what is asked for, which may be a summary of them; lanes that are answered at the
 -- same time and sessions get their replies elsewhere

@@ -1,7 +1,8 @@
 use Rattle.std.proofs.Common.{refl, [], inr, ◌++◌, arith}
 use Rattle.tb_base.specs.declared.status.Status.TheVariants as status
 use Rattle.tb_io.proofs.TakenLemmas.{Took-nothing}
-use Rattle.tb_lanes.specs.Phases.{after_seeing, begun_with}
+use Rattle.tb_ahead.specs.Publishing.{after_seeing}
+use Rattle.tb_lanes.specs.Phases.{begun_with}
 use Rattle.tb_top.specs.Endings.{last_line}
 use Rattle.tb_top.specs.declared.endings.End.TheVariants as end
 use Rattle.tb_top.proofs.LanesRun.{ended-after}
