@@ -113,87 +113,8 @@ fn work_at_all<B: Named + Send + Sync, N: Listen + Send, R: Threads + Wait + Syn
     thread::for_each_mut(setting.rt, ports, threads, &worker);
 }
 
-// Serves the sessions of the first port as the owner, and those of the others as the parties that
+// Serves the sessions of all ports, of the first as the owner and of the others as the parties that
 // they have, each in a thread of its own where one can be made.
-fn work_b1<C, B: Named + Send + Sync, W: Owner<C, B>, N: Listen + Send, R: Threads + Wait + Sync>(
-    setting: &Setting<'_, B, R>,
-    own_setting: &C,
-    sessions: u32,
-    owner: &mut W,
-    first: &mut Port<N>,
-    others: &mut [Port<N>],
-)
-    requires ready { W.IsReady own_setting.now owner.old }
-    requires may { W.MayAsk own_setting.now tt }
-    requires first { IsReady first.old }
-    requires others { All (CanWork B.name setting.now.setup.now) others.old }
-    ensures ready { W.IsReady own_setting.now owner.new }
-    ensures first { HasWorkedAs (Lead (W.Step own_setting.now tt)) W.fresh sessions
-        (W.state owner.old) (W.state owner.new) first.old first.new }
-    ensures others { Each (λ _. HasWorkedAt B.name setting.now.setup.now sessions) others.old
-        others.new }
-{
-    let most = sessions;
-    let rt = setting.rt;
-    thread::join_mut(
-        rt,
-        &mut ||
-            requires { All (CanWork B.name setting.now.setup.now) others.now }
-            ensures { Each (λ _. HasWorkedAt B.name setting.entry.now.setup.now sessions)
-                others.entry.now others.exit.now }
-        { work_at_all(setting, sessions, others) },
-        &mut ||
-            requires { W.IsReady own_setting.now owner.now × W.MayAsk own_setting.now tt
-                × IsReady first.now }
-            ensures { W.IsReady own_setting.entry.now owner.exit.now
-                × HasWorkedAs (Lead (W.Step own_setting.entry.now tt)) W.fresh most
-                (W.state owner.entry.now) (W.state owner.exit.now) first.entry.now
-                first.exit.now }
-        { work_as(own_setting, most, owner, first) },
-    );
-}
-
-// Serves the sessions of the first port as the owner, and those of the others as the parties that
-// they have, each in a thread of its own where one can be made.
-fn work_b2<C, B: Named + Send + Sync, W: Owner<C, B>, N: Listen + Send, R: Threads + Wait + Sync>(
-    rt: &R,
-    setting: &Setting<'_, B, R>,
-    own_setting: &C,
-    sessions: u32,
-    owner: &mut W,
-    first: &mut Port<N>,
-    others: &mut [Port<N>],
-)
-    requires ready { W.IsReady own_setting.now owner.old }
-    requires may { W.MayAsk own_setting.now tt }
-    requires first { IsReady first.old }
-    requires others { All (CanWork B.name setting.now.setup.now) others.old }
-    ensures ready { W.IsReady own_setting.now owner.new }
-    ensures first { HasWorkedAs (Lead (W.Step own_setting.now tt)) W.fresh sessions
-        (W.state owner.old) (W.state owner.new) first.old first.new }
-    ensures others { Each (λ _. HasWorkedAt B.name setting.now.setup.now sessions) others.old
-        others.new }
-{
-    let most = sessions;
-    thread::join_mut(
-        rt,
-        &mut ||
-            requires { All (CanWork B.name setting.now.setup.now) others.now }
-            ensures { Each (λ _. HasWorkedAt B.name setting.entry.now.setup.now sessions)
-                others.entry.now others.exit.now }
-        { work_at_all(setting, sessions, others) },
-        &mut ||
-            requires { W.IsReady own_setting.now owner.now × W.MayAsk own_setting.now tt
-                × IsReady first.now }
-            ensures { W.IsReady own_setting.entry.now owner.exit.now
-                × HasWorkedAs (Lead (W.Step own_setting.entry.now tt)) W.fresh most
-                (W.state owner.entry.now) (W.state owner.exit.now) first.entry.now
-                first.exit.now }
-        { work_as(own_setting, most, owner, first) },
-    );
-}
-
-// The same of all ports.
 pub(crate) fn work_all<
     C,
     B: Named + Send + Sync,
