@@ -1,4 +1,4 @@
-use Rattle.tb_serve.proofs.workers.work_as.Given as goal
+use Rattle.tb_serve.proofs.workers.work.Given as goal
 
 -- the ledger of the blank
 abbrev pub ghosts-work_counted : goal.ghosts-work_counted
