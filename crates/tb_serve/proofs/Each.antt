@@ -1,6 +1,6 @@
 -- A loop that changes each element of a list in place.
-use Rattle.std.proofs.Common.{◌≡◌, ◌≢◌, ◌∙◌, sym, refl, subst, ℕ, ◌+◌, ◌<◌, ◌≤◌, List, length, get_or, arith, get_or-set_other, get_or-set_same, below_more, inl, inr}
-use Rattle.std.specs.Prelude.{slice_index_or}
+use Rattle.std.proofs.Common.{◌≡◌, ◌≢◌, ◌∙◌, sym, ap, refl, subst, ℕ, zero, suc, ◌+◌, ◌<◌, ◌≤◌, List, ◌∷◌, length, get_or, arith, get_or-set_other, get_or-set_same, below_more, inl, inr}
+use Rattle.std.specs.Prelude.{All, slice_index_or}
 use Rattle.std.proofs.Math.ListN.{set}
 use Rattle.tb_serve.specs.Each.{Each}
 use Rattle.std.proofs.lemmas.List.{get_or_default}
@@ -61,3 +61,24 @@ half_weaker R S first now index h same weaker self = record {
     | inl lt ↦ weaker i _ _ (h.done i d lt)
     | inr le ↦ subst (λ x. S i (slice_index_or first i d) x) (sym (h.rest i d le)) (self i (slice_index_or first i d))
   ]
+
+-- ---- the first element of a list, and the others
+-- what is true of them by their places
+pub first_of : {A : Type 0} (P : A → Type 0) (xs : List A) (y : A) (ys : List A) → xs ≡ y ∷ ys → ((d : A) → P (slice_index_or xs 0 d)) → P y
+first_of P xs y ys is at = subst (λ zs. P (slice_index_or zs 0 y)) is (at y)
+
+pub others_of : {A : Type 0} (P : A → Type 0) (xs : List A) (y : A) (ys : List A) → xs ≡ y ∷ ys → ((i : ℕ) (d : A) → 0 < i → i < length xs → P (slice_index_or xs i d)) → All P ys
+others_of P xs y ys is at i d lt =
+    let long : length xs ≡ length (y ∷ ys) = ap length is in
+    subst (λ zs. P (slice_index_or zs (suc i) d)) is (at (suc i) d (omega arith) (omega (arith, long, lt)))
+
+-- and the other way round, of two lists
+pub first_at : {A : Type 0} (R : A → A → Type 0) (xs zs : List A) (y : A) (ys : List A) (u : A) (us : List A) → xs ≡ y ∷ ys → zs ≡ u ∷ us → R y u → (d : A) → R (slice_index_or xs 0 d) (slice_index_or zs 0 d)
+first_at {A = A} R xs zs y ys u us is then r d = subst (λ (p : List A × List A). R (slice_index_or p.0 0 d) (slice_index_or p.1 0 d)) (λ i. (sym is i, sym then i)) r
+
+pub others_at : {A : Type 0} (R : A → A → Type 0) (xs zs : List A) (y : A) (ys : List A) (u : A) (us : List A) → xs ≡ y ∷ ys → zs ≡ u ∷ us → Each (λ _. R) ys us
+    → (i : ℕ) (d : A) → 0 < i → i < length xs → R (slice_index_or xs i d) (slice_index_or zs i d)
+others_at {A = A} R xs zs y ys u us is then r zero d some lt = absurd (omega arith)
+others_at {A = A} R xs zs y ys u us is then r (suc i) d some lt =
+    let long : length xs ≡ length (y ∷ ys) = ap length is in
+    subst (λ (p : List A × List A). R (slice_index_or p.0 (suc i) d) (slice_index_or p.1 (suc i) d)) (λ j. (sym is j, sym then j)) (r.at i d (omega (arith, long, lt)))

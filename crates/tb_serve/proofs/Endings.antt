@@ -1,5 +1,5 @@
 -- How `serve` ends.
-use Rattle.std.proofs.Common.{◌≡◌, ap, refl, ℕ, Bool, List, length, inl, inr, subst}
+use Rattle.std.proofs.Common.{◌≡◌, ap, refl, ℕ, Bool, List, [], inl, inr, subst}
 use Rattle.std.specs.Prelude.{Option, if◌then◌else◌}
 use Rattle.tb_base.specs.declared.status.Status.{Status}
 use Rattle.tb_base.specs.declared.status.Status.TheVariants as status
@@ -10,7 +10,7 @@ use Rattle.tb_model.specs.Setups.{SetupValue}
 use Rattle.tb_release.specs.Batches.{BatchValue}
 use Rattle.tb_serve.specs.Each.{Each}
 use Rattle.tb_serve.specs.Ports.{PortValue}
-use Rattle.tb_serve.specs.Reports.{report, some_failed}
+use Rattle.tb_serve.specs.Reports.{some_failed}
 use Rattle.tb_serve.specs.Serves.{HasServed, IsEnded, IsPortServed, IsReported, Output, ServesAll, final_status, output}
 use Rattle.tb_serve.specs.Stages.{GetsReady, IsLeft}
 use Rattle.tb_serve.proofs.PortEnds.{port_served}
@@ -31,28 +31,20 @@ pub final_is : (b : Bool) (ports : List PortValue) → b ≡ some_failed ports
     → (if b then status.NetFault else status.Done) ≡ final_status ports
 final_is b ports is = ap (λ c. if c then status.NetFault else status.Done) is
 
--- what was served along a chain, whose length the report tells
-pub reported : (setup : SetupValue) (base : ReleaseValue) (most release : ℕ) (a e : List PortValue) (out : Output) (ended : Status)
-    → (chain : List BatchValue) × (release ≡ length chain) × Each (HasServed setup base most chain) a e
-    → IsEnded (report e release) (final_status e) out ended → (chain : List BatchValue) × Each
-    (HasServed setup base most chain) a e × IsReported e chain out ended
-reported setup base most release a e out ended served h =
-    (served.0, served.2, subst (λ (n : ℕ). IsEnded (report e n) (final_status e) out ended) served.1 h)
-
 -- all was served from the ports as they were made
 pub served_all : (setup : SetupValue) (base given : ReleaseValue) (first most : ℕ) (o a e : List PortValue) (out : Output)
     (ended : Status) → given ≡ base → Each (GetsReady first) o a
-    → (chain : List BatchValue) × Each (HasServed setup given most chain) a e × IsReported e chain out ended → Each (λ _. IsLeft) a e
+    → (chain : List BatchValue) × Each (HasServed setup given most [] chain) a e × IsReported e chain out ended → Each (λ _. IsLeft) a e
     → ServesAll setup base first most o e out ended
 served_all setup base given first most o a e out ended is ready served left =
-    let both : Each (λ i p t. HasServed setup given most served.0 i p t × IsLeft p t) a e = record {
+    let both : Each (λ i p t. HasServed setup given most [] served.0 i p t × IsLeft p t) a e = record {
       same_length = left.same_length;
       at =
           λ i d lt. (served.1.at i d lt, left.at i d lt);
     } in
     subst (λ (b : ReleaseValue). ServesAll setup b first most o e out ended) is (
       served.0,
-      each_then (GetsReady first) (λ i p t. HasServed setup given most served.0 i p t × IsLeft p t)
+      each_then (GetsReady first) (λ i p t. HasServed setup given most [] served.0 i p t × IsLeft p t)
           (IsPortServed setup given first most served.0) o a e ready both
           (λ i d lt x y. port_served setup given first most served.0 i _ _ _ x y.0 y.1),
       served.2,

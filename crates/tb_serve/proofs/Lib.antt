@@ -2,6 +2,7 @@ pub mod Each
 pub mod Binding
 pub mod Seats
 pub mod Confirming
+pub mod Parties
 pub mod PortEnds
 pub mod Wholes
 pub mod Lines

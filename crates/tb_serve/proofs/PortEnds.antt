@@ -1,24 +1,28 @@
 -- One port, from its making to its end.
-use Rattle.std.proofs.Common.{◌≡◌, ◌∙◌, refl, sym, ap, ℕ, zero, suc, ◌+◌, Bool, true, false, List, [], ◌++◌, arith, subst, Some, None, inl, inr}
+use Rattle.std.proofs.Common.{◌≡◌, ◌∙◌, refl, sym, ap, ℕ, zero, suc, ◌+◌, ◌<◌, Bool, true, false, List, [], ◌++◌, arith, subst, Some, None, inl, inr}
 use Rattle.std.specs.Prelude.{Option, IfSome, IsSome, option_map, ◌⊎◌}
 use mathlib.Core.List.{IsPrefix}
-use Rattle.tb_board.specs.Custodians.{CustodianValue, IsWhole}
+use Rattle.tb_board.specs.Custodians.{CustodianValue}
 use Rattle.tb_board.specs.Holders.{HolderValue}
 use Rattle.tb_front.specs.Holders.{Name}
 use Rattle.tb_io.proofs.FaultLemmas.{HasRisen-earlier}
+use Rattle.tb_io.specs.Listeners.{CanBind, Connection, IsCalm, IsSameBut, ListenerValue}
+use Rattle.tb_lines.specs.Outputs.{Lead, ReplyValue}
 use Rattle.tb_model.specs.Releases.{ReleaseValue}
 use Rattle.tb_model.specs.Schemas.{shape_of}
 use Rattle.tb_model.specs.Setups.{SetupValue}
-use Rattle.tb_io.specs.Listeners.{CanBind, Connection, IsCalm, IsSameBut, ListenerValue}
 use Rattle.tb_release.specs.Batches.{BatchValue}
 use Rattle.tb_serve.specs.Ports.{PortValue}
-use Rattle.tb_serve.specs.Serves.{EndsAt, HasServed, IsPortServed, role_at}
-use Rattle.tb_serve.specs.Stages.{IsReady, GetsReady, HasCustodian, HasLines, IsBoundAt, IsCleared, IsConfirmed, IsCustodian, IsFresh, IsLeft, IsOfFront, IsSameButLines, IsSeated, IsUntouched, party_at}
-use Rattle.tb_serve.specs.Workers.{CanWork, HasWorkedAt}
-use Rattle.tb_session.specs.Parties.{IsBehind, IsPartyOf, role_of, seen_by}
+use Rattle.tb_ahead.specs.Publishing.{after_seeing, let_go}
+use Rattle.tb_serve.specs.Serves.{HasServed, IsPortServed, IsVisited, role_at}
+use Rattle.tb_serve.specs.Stages.{GetsReady, HasLines, IsBoundAt, IsCleared, IsConfirmed, IsFresh, IsLeft, IsOfFront, IsReady, IsSameButLines, IsSeated, IsUntouched}
+use Rattle.tb_serve.specs.Workers.{CanWork, HasWorkedAs, HasWorkedAt}
+use Rattle.tb_serve.proofs.Parties.{IsOne, party_visits}
+use Rattle.tb_session.specs.Parties.{IsBehind, IsPartyOf, IsPassOf, role_of, seen_by, state_of}
+use Rattle.tb_session.specs.PartySessions.{IsPartyStep, with_none_held}
+use Rattle.tb_session.specs.Transcripts.{IsLegal}
 use Rattle.tb_session.specs.declared.party.Party.{Party}
 use Rattle.tb_session.specs.declared.party.Party.TheVariants as party
-use Rattle.tb_session.specs.declared.party.Role.{Role}
 use Rattle.tb_session.specs.declared.party.Role.TheVariants as role
 use Rattle.tb_session.proofs.Analysts.{party_front}
 use Rattle.tb_worker.proofs.Working.{calm_more}
@@ -40,6 +44,7 @@ gets_ready first i o p q fresh lines bound =
               (can_bind o p fresh lines).free;
         };
         lines = ap (λ (x : PortValue). x.has_lines) bound.rest ∙ ap (λ (x : PortValue). x.has_lines) lines;
+        party = ap (λ (x : PortValue). x.party) bound.rest ∙ ap (λ (x : PortValue). x.party) lines ∙ ap (λ (x : PortValue). x.party) fresh.made;
       };
       bound = subst (λ (l : ListenerValue). IsSameBut (record l { port = Some (first + i) }) q.listener) there bound.bound;
       calm = subst (λ (l : ListenerValue). IsCalm l q.listener) there bound.calm;
@@ -47,141 +52,119 @@ gets_ready first i o p q fresh lines bound =
     }
 
 -- ---- a port that got its party
-party_own : (name : Name) (shape : List ℕ) (k : CustodianValue) (i : ℕ) → k.writer.name ≡ name → k.writer.start.shape ≡ shape
-    → IsWhole k → IsPartyOf name shape (party_at k i)
-party_own name shape k zero named fits whole = record { front = named; fits = fits; whole = whole; edits = λ i d lt. absurd (omega arith) }
-party_own name shape k (suc i) named fits whole = record { front = named; fits = fits }
+pub first_ready : (writer : HolderValue) (p q : PortValue) → IsReady p → IsSeated writer 0 p q → IsReady q
+first_ready writer p q ready seated = subst IsReady (sym seated) ready
 
-pub can_work : (name : Name) (setup : SetupValue) (k : CustodianValue) (i : ℕ) (p q : PortValue) → k.writer.name ≡ name
-    → k.writer.start.shape ≡ shape_of setup.schema → IsWhole k → IsReady p → IsSeated k i p q
-    → CanWork name setup q
-can_work name setup k i p q named fits whole begin seated =
-    let made : CanWork name setup (record p { party = Some (party_at k i) }) = record {
-      can = begin.can;
-      party = party_own name
-          (shape_of setup.schema) k i named fits whole;
-      lines = begin.lines;
-    } in
+pub can_work : (name : Name) (setup : SetupValue) (writer : HolderValue) (i : ℕ) (p q : PortValue) → IsPassOf name (shape_of setup.schema) writer → 0 < i
+    → IsReady p → IsSeated writer i p q → CanWork name setup q
+can_work name setup writer zero p q own some ready seated = absurd (omega arith)
+can_work name setup writer (suc i) p q own some ready seated =
+    let made : CanWork name setup (record p { party = Some (party.Analyst writer) }) = record { can = ready.can; party = own; lines = ready.lines } in
     subst (λ (x : PortValue). CanWork name setup x) (sym seated) made
 
-first_role : (k : CustodianValue) (i : ℕ) → role_of (party_at k i) ≡ role_at i
-first_role k zero = refl
-first_role k (suc i) = refl
-
-first_seen : (k : CustodianValue) (i : ℕ) → seen_by (party_at k i) ≡ k.writer
-first_seen k zero = refl
-first_seen k (suc i) = refl
+same_listener : (writer : HolderValue) (i : ℕ) (p q : PortValue) → IsSeated writer i p q → q.listener ≡ p.listener
+same_listener writer zero p q seated = ap (λ (x : PortValue). x.listener) seated
+same_listener writer (suc i) p q seated = ap (λ (x : PortValue). x.listener) seated
 
 -- ---- a port whose worker ended
 some_is : {A : Type 0} (x y : A) → Some x ≡ Some y → x ≡ y
 some_is x y e = cc (e)
 
+-- the first has no party, and each other one a party of the board
+pub none_own : {S : Type 0} (Legal : S → List (List ℕ) → List ReplyValue → S → Type 0) (fresh : S → S) (name : Name) (most : ℕ) (from to : S) (q r : PortValue) → IsReady q
+    → HasWorkedAs Legal fresh most from to q r → IfSome r.party (IsOfFront name)
+none_own Legal fresh name most from to q r ready w =
+    let gone : r.party ≡ None = ap (λ (x : PortValue). x.party) w.rest ∙ ready.party in
+    subst (λ (o : Option Party). IfSome o (IsOfFront name)) (sym gone) tt
+
 pub still_own : (name : Name) (setup : SetupValue) (most : ℕ) (q r : PortValue) → HasWorkedAt name setup most q r
     → IfSome r.party (IsOfFront name)
 still_own name setup most q r w = subst (λ (o : Option Party). IfSome o (IsOfFront name)) (sym w.now) (party_front name
-    (shape_of setup.schema) w.to w.worked.visited.own)
+    (shape_of setup.schema) w.to w.own)
 
-is_custodian : (p : Party) → role_of p ≡ role.Custodian → HasCustodian (Some p)
-is_custodian (party.Analyst pass) is = absurd (cc (is))
-is_custodian (party.Custodian custodian held) is = tt
+-- its party left, served its sessions, and came back
+pub worked_at : (name : Name) (setup : SetupValue) (most : ℕ) (from to : Party) (p q r s : PortValue) → Some from ≡ p.party → q ≡ record p { party = None } → IsPartyOf name (shape_of setup.schema) to
+    → HasWorkedAs (Lead (IsPartyStep setup)) with_none_held most from to q r → s ≡ record r { party = Some to } → HasWorkedAt name setup most p s
+worked_at name setup most from to p q r s was left own w back = record {
+  from = from;
+  to = to;
+  was = sym was;
+  now = ap (λ (x : PortValue). x.party) back;
+  own = own;
+  worked = subst (λ (x : (ListenerValue × ListenerValue) × (ℕ × Bool)). HasWorked (Lead (IsPartyStep setup)) with_none_held most x.0.0 x.0.1 from to x.1.0 x.1.1)
+      (λ j. (
+        (ap (λ (x : PortValue). x.listener) left j, sym (ap (λ (x : PortValue). x.listener) back) j),
+        (sym (ap (λ (x : PortValue). x.served) back) j, sym (ap (λ (x : PortValue). x.failed) back) j),
+      )) w.worked;
+}
 
 prefix_behind : (writer : HolderValue) (to : Party) → role_of to ≡ role.Analyst → IsBehind writer to
     → IsPrefix (seen_by to).list writer.list
 prefix_behind writer (party.Analyst pass) who behind = behind.begins
 prefix_behind writer (party.Custodian custodian held) who behind = absurd (cc (who))
 
-custodian_seen : (last : CustodianValue) (to : Party) → IsCustodian last (Some to) → seen_by to ≡ last.writer
-custodian_seen last (party.Analyst pass) is = absurd is
-custodian_seen last (party.Custodian other held) is = ap (λ (c : CustodianValue). c.writer) is
+-- what its worker did is true of it from the time when it was ready to its end
+module _ (writer last : HolderValue) (i : ℕ) (p q r s t : PortValue) (seated : IsSeated writer i p q) (confirmed : IsConfirmed last r s) (cleared : IsCleared s t) where
+  listener_then : t.listener ≡ r.listener
+  listener_then = ap (λ (x : PortValue). x.listener) cleared ∙ ap (λ (x : PortValue). x.listener) confirmed.rest
 
-custodian_whole : (name : Name) (shape : List ℕ) (last : CustodianValue) (to : Party) → IsPartyOf name shape to
-    → IsCustodian last (Some to) → IsWhole last
-custodian_whole name shape last (party.Analyst pass) own is = absurd is
-custodian_whole name shape last (party.Custodian other held) own is = subst IsWhole is own.whole
+  served_then : t.served ≡ r.served
+  served_then = ap (λ (x : PortValue). x.served) cleared ∙ ap (λ (x : PortValue). x.served) confirmed.rest
 
-module _ (name : Name) (setup : SetupValue) (most : ℕ) (k : CustodianValue) (i : ℕ) (p q r : PortValue) (seated : IsSeated k i p q)
-    (w : HasWorkedAt name setup most q r) where
-  pub from_is : w.from ≡ party_at k i
-  from_is = some_is w.from (party_at k i) (sym w.was ∙ ap (λ (x : PortValue). x.party) seated)
+  failed_then : t.failed ≡ r.failed
+  failed_then = ap (λ (x : PortValue). x.failed) cleared ∙ ap (λ (x : PortValue). x.failed) confirmed.rest
 
-  to_role : role_of w.to ≡ role_at i
-  to_role = w.worked.visited.goes_on.who ∙ ap role_of from_is ∙ first_role k i
-
-  -- its sessions, of a party that had seen nothing, and where they led
-  pub served_here : (base : ReleaseValue) → k.writer.start.base ≡ base → k.writer.list ≡ [] → (writer : HolderValue) (s t : PortValue)
-      → IsConfirmed writer r s → IsCleared s t
-      → EndsAt (role_at i) (seen_by w.to).list writer.list → HasServed setup base most writer.list i p t
-  served_here base base_is empty writer s t confirmed cleared ends =
-      let seen : seen_by w.from ≡ k.writer = ap seen_by from_is ∙ first_seen k i in
-      let who : role_of w.from ≡ role_at i = ap role_of from_is ∙ first_role k i in
-      let before : q.listener ≡ p.listener = ap (λ (x : PortValue). x.listener) seated in
-      let after : r.listener ≡ t.listener = sym (ap (λ (x : PortValue). x.listener) cleared ∙ ap (λ
-      (x : PortValue). x.listener) confirmed.rest) in
-      let served : r.served ≡ t.served = sym (ap (λ (x : PortValue). x.served) cleared ∙ ap (λ (x : PortValue). x.served) confirmed.rest) in
-      let failed : r.failed ≡ t.failed = sym (ap (λ (x : PortValue). x.failed) cleared ∙ ap (λ (x : PortValue). x.failed) confirmed.rest) in
-      let moved : HasWorked name setup most p.listener t.listener w.from w.to t.served t.failed =
-      subst (λ (x : (ListenerValue × ListenerValue) × (ℕ × Bool)). HasWorked name setup most x.0.0 x.0.1 w.from w.to x.1.0 x.1.1) (λ j.
-      ((before j, after j), (served j, failed j))) w.worked in
-      record {
-        visits = moved.visits;
-        given = moved.visited.given;
-        counted = moved.counted;
-        enough = moved.enough;
-        seen = (seen_by w.to).list;
-        lead = subst (λ (x : Role × (ReleaseValue × List BatchValue)). AreVisits x.0 setup x.1.0 x.1.1 moved.visits (seen_by w.to).list)
-            (λ j. (
-              who j,
-              (
-                (ap (λ (h : HolderValue). h.start.base) seen ∙ base_is) j,
-                (ap (λ
-                    (h : HolderValue). h.list) seen ∙ empty) j,
-              ),
-            )) moved.visited.lead;
-        ends = ends;
-      }
+  pub visited_here : {S : Type 0} (Legal : S → List (List ℕ) → List ReplyValue → S → Type 0) (fresh : S → S) (most : ℕ) (from to : S)
+      → HasWorked Legal fresh most q.listener r.listener from to r.served r.failed → IsVisited Legal fresh most from to p t
+  visited_here Legal fresh most from to w =
+      let moved : HasWorked Legal fresh most p.listener t.listener from to t.served t.failed =
+      subst (λ (x : (ListenerValue × ListenerValue) × (ℕ × Bool)). HasWorked Legal fresh most x.0.0 x.0.1 from to x.1.0 x.1.1)
+      (λ j. ((same_listener writer i p q seated j, sym listener_then j), (sym served_then j, sym failed_then j))) w in
+      record { visits = moved.visits; given = moved.visited.given; counted = moved.counted; enough = moved.enough; lead = moved.visited.lead }
 
   -- its listener stays bound, and nothing else is left
-  pub left_here : (writer : HolderValue) (s t : PortValue) → IsConfirmed writer r s → IsCleared s t → IsLeft p t
-  left_here writer s t confirmed cleared =
-      let listener : t.listener ≡ r.listener = ap (λ (x : PortValue). x.listener) cleared ∙ ap (λ
-      (x : PortValue). x.listener) confirmed.rest in
-      record {
-        port = ap (λ (l : ListenerValue). l.port) listener ∙ w.worked.visited.port ∙ ap (λ (x : PortValue). x.listener.port) seated;
-        party = ap (λ (x : PortValue). x.party) cleared;
-        lines = ap (λ (x : PortValue). x.has_lines) cleared;
-      }
+  pub left_here : r.listener.port ≡ q.listener.port → IsLeft p t
+  left_here port = record {
+    port = ap (λ (l : ListenerValue). l.port) listener_then ∙ port ∙ ap (λ (l : ListenerValue). l.port) (same_listener writer i p q seated);
+    party = ap (λ (x : PortValue). x.party) cleared;
+    lines = ap (λ (x : PortValue). x.has_lines) cleared;
+  }
 
-  -- an analyst's port ends at a beginning of what the custodian's writer wrote
-  pub ends_behind : (writer : HolderValue) → role_at i ≡ role.Analyst → IfSome r.party (IsBehind writer) → IsPrefix (seen_by w.to).list writer.list
-  ends_behind writer who behind = prefix_behind writer w.to (to_role ∙ who) (subst (λ (o : Option Party). IfSome o (IsBehind writer)) w.now behind)
+-- an analyst's port was served from what the custodian had written to a beginning of what it has
+pub analyst_served : (name : Name) (setup : SetupValue) (most : ℕ) (writer last : HolderValue) (i : ℕ) (p q r s t : PortValue) → 0 < i → IsSeated writer i p q
+    → HasWorkedAt name setup most q r → IsConfirmed last r s → IsCleared s t → HasServed setup writer.start.base most writer.list last.list i p t
+analyst_served name setup most writer last zero p q r s t some seated w confirmed cleared = absurd (omega arith)
+analyst_served name setup most writer last (suc i) p q r s t some seated w confirmed cleared =
+    let from_is : w.from ≡ party.Analyst writer = some_is w.from (party.Analyst writer) (sym w.was ∙ ap (λ (x : PortValue). x.party) seated) in
+    let visited : IsVisited (Lead (IsPartyStep setup)) with_none_held most (party.Analyst writer) w.to p t =
+    subst (λ (x : Party). IsVisited (Lead (IsPartyStep setup)) with_none_held most x w.to p t) from_is
+    (visited_here writer last (suc i) p q r s t seated confirmed cleared (Lead (IsPartyStep setup)) with_none_held most w.from w.to w.worked) in
+    let (one, lead) = party_visits setup role.Analyst writer.start.base (party.Analyst writer) w.to visited.visits (record { role = refl; first = refl }) visited.lead in
+    record {
+      last = state_of w.to;
+      visited = record { visits = visited.visits; given = visited.given; counted = visited.counted; enough = visited.enough; lead = lead };
+      ends = prefix_behind last w.to one.role (subst (λ (o : Option Party). IfSome o (IsBehind last)) w.now confirmed.behind);
+    }
 
-  -- the custodian's at all of it
-  pub ends_there : (last : CustodianValue) → IsCustodian last r.party → seen_by w.to ≡ last.writer
-  ends_there last is = custodian_seen last w.to (subst (λ (o : Option Party). IsCustodian last o) w.now is)
-
-  pub whole_there : (last : CustodianValue) → IsCustodian last r.party → IsWhole last
-  whole_there last is = custodian_whole name (shape_of setup.schema) last w.to w.worked.visited.own (subst (λ
-      (o : Option Party). IsCustodian last o) w.now is)
-
-  -- and it was that of the board
-  pub base_there : (last : CustodianValue) → IsCustodian last r.party → last.writer.start ≡ k.writer.start
-  base_there last is = sym (ap (λ (h : HolderValue). h.start) (ends_there last is)) ∙ w.worked.visited.goes_on.start ∙ ap (λ
-      (h : HolderValue). h.start) (ap seen_by from_is ∙ first_seen k i)
-
--- where the first port's custodian stands, and any other port's analyst
-pub ends_at : (name : Name) (setup : SetupValue) (most : ℕ) (k last : CustodianValue) (i : ℕ) (p q r : PortValue) → IsSeated k i p q
-    → (w : HasWorkedAt name setup most q r) → IfSome r.party (IsBehind last.writer)
-    → (i ≡ 0 → IsCustodian last r.party) → EndsAt (role_at i) (seen_by w.to).list last.writer.list
-ends_at name setup most k last zero p q r seated w behind there = ap (λ (h : HolderValue). h.list)
-    (ends_there name setup most k 0 p q r seated w last (there refl))
-ends_at name setup most k last (suc i) p q r seated w behind there = ends_behind name setup most k
-    (suc i) p q r seated w last.writer refl behind
-
--- the custodian is at the first port
-pub custodian_there : (name : Name) (setup : SetupValue) (most : ℕ) (k : CustodianValue) (p q r : PortValue) → IsSeated k 0 p q
-    → HasWorkedAt name setup most q r → HasCustodian r.party
-custodian_there name setup most k p q r seated w = subst (λ (o : Option Party). HasCustodian o) (sym w.now) (is_custodian w.to
-    (to_role name setup most k 0 p q r seated w))
+-- the custodian's port was served from no batch to what the custodian wrote
+pub custodian_served : (setup : SetupValue) (most : ℕ) (custodian : CustodianValue) (from to : Party) (p t : PortValue) → from ≡ party.Custodian custodian [] → custodian.writer.list ≡ []
+    → IsVisited (Lead (IsPartyStep setup)) with_none_held most from to p t → HasServed setup custodian.writer.start.base most [] (seen_by to).list 0 p t
+custodian_served setup most custodian from to p t is empty visited =
+    let own : Party = party.Custodian custodian [] in
+    let lead_own : AreVisits (Lead (IsPartyStep setup)) with_none_held own visited.visits to =
+    subst (λ (x : Party). AreVisits (Lead (IsPartyStep setup)) with_none_held x visited.visits to) is visited.lead in
+    let (one, lead) = party_visits setup role.Custodian custodian.writer.start.base own to visited.visits (record { role = refl; first = refl }) lead_own in
+    record {
+      last = state_of to;
+      visited = record {
+        visits = visited.visits;
+        given = visited.given;
+        counted = visited.counted;
+        enough = visited.enough;
+        lead = subst (λ (chain : List BatchValue). AreVisits (IsLegal role.Custodian setup custodian.writer.start.base) let_go (after_seeing chain) visited.visits (state_of to)) empty lead;
+      };
+      ends = refl;
+    }
 
 -- ---- a port from its making to its end
 -- sessions of a listener that was just bound are sessions of it as it was
@@ -194,24 +177,29 @@ given_before l m n port vs same given = record {
   came_back = given.came_back ∙ ap (λ (o : Option (List Connection)). option_map (λ back. back ++ went_of vs) o) same.came_back;
 }
 
+pub visited_before : {S : Type 0} (Legal : S → List (List ℕ) → List ReplyValue → S → Type 0) (fresh : S → S) (first most i : ℕ) (from to : S) (o p t : PortValue)
+    → GetsReady first i o p → IsVisited Legal fresh most from to p t → IsVisited Legal fresh most from to o t
+visited_before Legal fresh first most i from to o p t ready x = record {
+  visits = x.visits;
+  given = given_before o.listener p.listener t.listener (first + i) x.visits ready.bound x.given;
+  counted = x.counted;
+  enough = record {
+    within = x.enough.within;
+    enough = x.enough.enough;
+    risen = λ yes. HasRisen-earlier o.listener.faults p.listener.faults t.listener.faults ready.bound.count (x.enough.risen yes) x.given.count;
+    calm = λ quiet. calm_more o.listener p.listener t.listener x.visits ready.calm x.given (x.enough.calm quiet);
+  };
+  lead = x.lead;
+}
+
 pub port_served : (setup : SetupValue) (base : ReleaseValue) (first most : ℕ) (chain : List BatchValue) (i : ℕ) (o p t : PortValue)
-    → GetsReady first i o p → HasServed setup base most chain i p t → IsLeft p t
+    → GetsReady first i o p → HasServed setup base most [] chain i p t → IsLeft p t
     → IsPortServed setup base first most chain i o t
 port_served setup base first most chain i o p t ready x left = record {
   port = left.port ∙ ready.bound.port;
   sessions = record {
-    visits = x.visits;
-    given = given_before o.listener p.listener t.listener (first + i) x.visits ready.bound x.given;
-    counted = x.counted;
-    enough = record {
-      within = x.enough.within;
-      enough = x.enough.enough;
-      risen = λ yes. HasRisen-earlier o.listener.faults p.listener.faults t.listener.faults ready.bound.count
-          (x.enough.risen yes) x.given.count;
-      calm = λ no. calm_more o.listener p.listener t.listener x.visits ready.calm x.given (x.enough.calm no);
-    };
-    seen = x.seen;
-    lead = x.lead;
+    last = x.last;
+    visited = visited_before (IsLegal (role_at i) setup base) let_go first most i (after_seeing []) x.last o p t ready x.visited;
     ends = x.ends;
   };
   party = left.party;

@@ -8,11 +8,14 @@ use Rattle.tb_io.specs.Faults.{HasRisen}
 use Rattle.tb_io.specs.Taken.{Took, TookPart}
 use Rattle.tb_model.specs.Releases.{ReleaseValue}
 use Rattle.tb_model.specs.Setups.{SetupValue}
+use Rattle.tb_lines.specs.Outputs.{ReplyValue}
 use Rattle.tb_release.specs.Batches.{BatchValue}
 use Rattle.tb_serve.specs.Each.{Each}
 use Rattle.tb_serve.specs.Ports.{PortValue}
 use Rattle.tb_serve.specs.Reports.{memory_line, net_line, report, some_failed}
 use Rattle.tb_serve.specs.Stages.{HasRisenSome, IsUntouched}
+use Rattle.tb_ahead.specs.Publishing.{StateValue, after_seeing, let_go}
+use Rattle.tb_session.specs.Transcripts.{IsLegal}
 use Rattle.tb_session.specs.declared.party.Role.{Role}
 use Rattle.tb_session.specs.declared.party.Role.TheVariants as role
 use Rattle.tb_worker.specs.Visits.{AreVisits, Visit}
@@ -29,24 +32,32 @@ abbrev pub EndsAt : Role → List BatchValue → List BatchValue → Type 0
 EndsAt role.Custodian seen chain = seen ≡ chain
 EndsAt role.Analyst seen chain = IsPrefix seen chain
 
--- the sessions of port i: the first that were to come at its listener came back, in order, and
--- there were enough of them; they led its party from no batch to the chain, or to a beginning of it
-pub record HasServed (setup : SetupValue) (base : ReleaseValue) (most : ℕ)
-    (chain : List BatchValue) (i : ℕ) (before after : PortValue) : Type 0 where
+-- the sessions of a port, where it is given which replies to which lines are legal, and at which
+-- state a session begins: the first that were to come at its listener came back, in order, and
+-- there were enough of them; they led its party from a state to another
+pub record IsVisited {S : Type 0} (Legal : S → List (List ℕ) → List ReplyValue → S → Type 0)
+    (fresh : S → S) (most : ℕ) (from to : S) (before after : PortValue) : Type 0 where
   pub visits : List Visit
   pub given : HasGiven before.listener after.listener visits
   pub counted : after.served ≡ length visits
   pub enough : IsEnough most before.listener after.listener after.served after.failed
-  pub seen : List BatchValue
-  pub lead : AreVisits (role_at i) setup base [] visits seen
-  pub ends : EndsAt (role_at i) seen chain
+  pub lead : AreVisits Legal fresh from visits to
+
+-- the sessions of port i led its party from the batches of a start, with no edits held, to the
+-- chain, or to a beginning of it
+pub record HasServed (setup : SetupValue) (base : ReleaseValue) (most : ℕ)
+    (start chain : List BatchValue) (i : ℕ) (before after : PortValue) : Type 0 where
+  pub last : StateValue
+  pub visited : IsVisited (IsLegal (role_at i) setup base) let_go most (after_seeing start) last
+      before after
+  pub ends : EndsAt (role_at i) last.chain chain
 
 -- what became of port i: its listener was bound to the port of its number and served its sessions,
--- and no party and no reader of lines is left
+-- from no batch on, and no party and no reader of lines is left
 pub record IsPortServed (setup : SetupValue) (base : ReleaseValue) (first most : ℕ)
     (chain : List BatchValue) (i : ℕ) (before after : PortValue) : Type 0 where
   pub port : after.listener.port ≡ Some (first + i)
-  pub sessions : HasServed setup base most chain i before after
+  pub sessions : HasServed setup base most [] chain i before after
   pub party : after.party ≡ None
   pub lines : after.has_lines ≡ false
 

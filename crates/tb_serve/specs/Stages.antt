@@ -1,7 +1,6 @@
 -- What is done with all ports before their workers begin, and after they ended.
-use Rattle.std.specs.Prelude.{◌≡◌, ◌⊎◌, ℕ, zero, suc, ◌+◌, ◌<◌, ◌≤◌, true, false, List, [], length}
-use Rattle.std.specs.Prelude.{Option, None, Some, IfSome, slice_index_or}
-use Rattle.tb_board.specs.Custodians.{CustodianValue}
+use Rattle.std.specs.Prelude.{◌≡◌, ◌⊎◌, ℕ, zero, suc, ◌+◌, ◌<◌, ◌≤◌, true, false, List, length}
+use Rattle.std.specs.Prelude.{None, Some, IfSome, slice_index_or}
 use Rattle.tb_board.specs.Holders.{HolderValue}
 use Rattle.tb_front.specs.Holders.{Name}
 use Rattle.tb_io.specs.Faults.{HasRisen}
@@ -56,10 +55,12 @@ HasRisenSome before after =
     × ((d : PortValue) → HasRisen (slice_index_or before i d).listener.faults
     (slice_index_or after i d).listener.faults)
 
--- a port is ready for a party: its listener may accept, and it has a reader of lines
+-- a port is ready for a party: its listener may accept, and it has a reader of lines and no party
+-- yet
 pub record IsReady (port : PortValue) : Type 0 where
   pub can : CanAccept port.listener
   pub lines : port.has_lines ≡ true
+  pub party : port.party ≡ None
 
 -- port i got ready
 pub record GetsReady (first i : ℕ) (before after : PortValue) : Type 0 where
@@ -77,15 +78,12 @@ HasPrepared first before after readiness.NotBound =
 
 -- ---- the parties
 
--- who is served at port i: the custodian at the first, and at each other one an analyst who has
--- seen what the custodian has
-abbrev pub party_at : CustodianValue → ℕ → Party
-party_at custodian zero = party.Custodian custodian []
-party_at custodian (suc i) = party.Analyst custodian.writer
-
--- port i got its party
-abbrev pub IsSeated : CustodianValue → ℕ → PortValue → PortValue → Type 0
-IsSeated custodian i before after = after ≡ record before { party = Some (party_at custodian i) }
+-- port i got its party: the first none, since its owner is served there, and each other one an
+-- analyst who has seen what the owner's custodian wrote
+abbrev pub IsSeated : HolderValue → ℕ → PortValue → PortValue → Type 0
+IsSeated writer zero before after = after ≡ before
+IsSeated writer (suc i) before after =
+    after ≡ record before { party = Some (party.Analyst writer) }
 
 -- a party belongs to the front of this name
 abbrev pub IsOfFront : Name → Party → Type 0
@@ -95,19 +93,7 @@ IsOfFront name one = (seen_by one).name ≡ name
 abbrev pub HasOwnParty : Name → PortValue → Type 0
 HasOwnParty name port = IfSome port.party (IsOfFront name)
 
--- this is the custodian, with some held edits
-abbrev pub IsCustodian : CustodianValue → Option Party → Type 0
-IsCustodian custodian (Some (party.Analyst pass)) = ⊥
-IsCustodian custodian (Some (party.Custodian other held)) = other ≡ custodian
-IsCustodian custodian None = ⊥
-
--- the custodian is served here
-abbrev pub HasCustodian : Option Party → Type 0
-HasCustodian (Some (party.Analyst pass)) = ⊥
-HasCustodian (Some (party.Custodian custodian held)) = Unit {0}
-HasCustodian None = ⊥
-
--- a port's party left, and its pass was confirmed
+-- a port's party left, if it had one, and its pass was confirmed
 pub record IsConfirmed (writer : HolderValue) (before after : PortValue) : Type 0 where
   pub rest : after ≡ record before { party = None }
   pub behind : IfSome before.party (IsBehind writer)

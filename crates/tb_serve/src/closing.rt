@@ -1,45 +1,47 @@
 // What is done with all ports once their workers ended.
 
-ghost use Rattle.std.specs.Prelude.{◌≡◌, ◌<◌, All, IfSome, length, slice_index_or};
+ghost use Rattle.std.specs.Prelude.{◌≡◌, All, IfSome};
 ghost use Rattle.tb_serve.specs.Each.{Each};
-ghost use Rattle.tb_serve.specs.Ports.{PortValue};
-ghost use Rattle.tb_serve.specs.Stages.{HasCustodian, HasOwnParty, IsCleared, IsConfirmed};
-ghost use Rattle.tb_serve.specs.Stages.{IsCustodian, IsOfFront};
+ghost use Rattle.tb_serve.specs.Stages.{HasOwnParty, IsCleared, IsConfirmed, IsOfFront};
 ghost use Rattle.tb_session.specs.Parties.{IsBehind};
 
+use crate::owner::Owner;
 use crate::port::Port;
-use tb_board::{Board, Custodian, Named};
+use tb_board::Named;
 use tb_io::Listen;
-use tb_session::{Party, confirm};
+use tb_session::Party;
 
-// Has the custodian confirm a port's party, and lets it go.
-fn confirm_one<B: Named>(board: &Board<B>, custodian: &mut Custodian, party: Option<Party>)
-    requires front { custodian.old.writer.name ≡ B.name }
+// Has the owner's custodian confirm a port's party, and lets it go.
+fn confirm_one<C, B: Named, W: Owner<C, B>>(setting: &C, owner: &mut W, party: Option<Party>)
+    requires ready { W.IsReady setting.now owner.old }
     requires own { IfSome party (IsOfFront B.name) }
-    ensures same { custodian.new ≡ custodian.old }
-    ensures behind { IfSome party (IsBehind custodian.old.writer) }
+    ensures ready { W.IsReady setting.now owner.new }
+    ensures same { (W.writer owner.new ≡ W.writer owner.old)
+        × (W.state owner.new ≡ W.state owner.old) }
+    ensures behind { IfSome party (IsBehind (W.writer owner.old)) }
 {
     if let Some(mut party) = party {
-        confirm(board, custodian, &mut party);
+        owner.confirm(setting, &mut party);
     }
 }
 
-// Takes all parties, and has the custodian, who is at the first port, confirm all passes.
-pub(crate) fn confirm_all<B: Named, N: Listen>(board: &Board<B>, ports: &mut [Port<N>]) -> Custodian
-    requires some { 0 < length ports.old }
-    requires first { (d : PortValue) → HasCustodian (slice_index_or ports.old 0 d).party }
+// Takes all parties, and has the owner's custodian confirm all passes.
+pub(crate) fn confirm_all<C, B: Named, W: Owner<C, B>, N: Listen>(
+    setting: &C,
+    owner: &mut W,
+    ports: &mut [Port<N>],
+)
+    requires ready { W.IsReady setting.now owner.old }
     requires own { All (HasOwnParty B.name) ports.old }
-    ensures first { (d : PortValue) → IsCustodian result (slice_index_or ports.old 0 d).party }
-    ensures confirmed { Each (λ _. IsConfirmed result.writer) ports.old ports.new }
+    ensures ready { W.IsReady setting.now owner.new }
+    ensures same { (W.writer owner.new ≡ W.writer owner.old)
+        × (W.state owner.new ≡ W.state owner.old) }
+    ensures confirmed { Each (λ _. IsConfirmed (W.writer owner.old)) ports.old ports.new }
 {
-    let Some(Party::Custodian(mut custodian, _)) = ports[0].leave() else {
-        unreachable!()
-    };
     for port in ports.iter_mut() {
         let party = port.leave();
-        confirm_one(board, &mut custodian, party);
+        confirm_one(setting, owner, party);
     }
-    custodian
 }
 
 // Leaves all ports without a party and a reader of lines.

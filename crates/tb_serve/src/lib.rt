@@ -1,4 +1,5 @@
-//! The command `serve`: listeners with their ports, and a worker for each, over one board.
+//! Listeners with their ports, and a worker for each, over one board: the command `serve`, and what
+//! serves sessions over a board whose chain may have begun.
 //!
 //! It stands on `tb_worker` (the sessions of one listener), `tb_session` (parties), `tb_board`
 //! (what all sessions are answered over) and `tb_io` (listeners, readers of lines, sinks). Its
@@ -8,11 +9,15 @@
 //! did).
 //!
 //! Of the proofs, `Each` serves every loop over the ports; `Binding`, `Seats` and `Confirming`
-//! serve the stages; `PortEnds` follows one port from its party to its end and `Wholes` all of
-//! them; `Lines` and `Endings` have what is written.
+//! serve the stages; `Parties` has a party's sessions as they lead its state on; `PortEnds` follows
+//! one port from its making to its end and `Wholes` all of them; `Lines` and `Endings` have what is
+//! written.
 #![tactic(auto)]
 
 mod closing;
+mod custody;
+mod over_board;
+mod owner;
 mod port;
 mod preparing;
 mod readiness;
@@ -21,5 +26,11 @@ mod seating;
 mod serving;
 mod workers;
 
+pub use custody::informed_analyst;
+pub use over_board::serve_from;
+pub use owner::Owner;
 pub use port::Port;
+pub use preparing::prepare;
+pub use readiness::Readiness;
+pub use report::write_end;
 pub use serving::serve;

@@ -43,9 +43,10 @@ fn bind_all<N: Listen>(first: u16, ports: &mut [Port<N>]) -> Bound
     Bound::Ready
 }
 
-// Gives each port a reader of lines, and then binds each listener, the first to `first` and the
-// others to the next ones. Where either fails, no port has a reader of lines.
-pub(crate) fn prepare<N: Listen>(alloc: Global, first: u16, ports: &mut [Port<N>]) -> Readiness
+/// Makes ports ready for their parties: each gets a reader of lines, which takes memory, and then
+/// each listener is bound, the first to `first` and the others to the next ones. Where either
+/// fails, no port has a reader of lines.
+pub fn prepare<N: Listen>(alloc: Global, first: u16, ports: &mut [Port<N>]) -> Readiness
     requires fit { first + length ports.old ≤ 65536 }
     requires fresh { All IsFresh ports.old }
     ensures { HasPrepared first ports.old ports.new result }

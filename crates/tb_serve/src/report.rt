@@ -1,4 +1,4 @@
-// What is written once all workers ended. It takes no memory.
+// What is written once all workers ended, or where none began. It takes no memory.
 
 ghost use Rattle.std.specs.Prelude.{◌≡◌, ◌<◌, ◌^◌, length};
 ghost use Rattle.std.specs.List.{concat};
@@ -6,9 +6,10 @@ ghost use Rattle.tb_io.specs.Taken.{IsWritten};
 ghost use Rattle.tb_serve.specs.Ports.{PortValue};
 ghost use Rattle.tb_serve.specs.Reports.{closing, last_lines, release_line, report};
 ghost use Rattle.tb_serve.specs.Reports.{some_failed, worker_line, worker_lines};
+ghost use Rattle.tb_serve.specs.Serves.{IsEnded, final_status, output};
 
 use crate::port::Port;
-use tb_base::print_number;
+use tb_base::{Status, print_number};
 use tb_io::{Listen, Sink, Wrote, write_all};
 
 // Writes the line of a worker.
@@ -75,14 +76,14 @@ fn write_closing<O: Sink>(out: &mut O, release: u32, failed: bool) -> Wrote
 }
 
 // Whether the accept of some port failed.
-pub(crate) fn has_failed<N: Listen>(ports: &[Port<N>]) -> bool
+fn has_failed<N: Listen>(ports: &[Port<N>]) -> bool
     ensures { result ≡ some_failed ports.now }
 {
     ports.iter().any(|port| port.has_failed())
 }
 
 // Writes the whole report.
-pub(crate) fn write_report<O: Sink, N: Listen>(
+fn write_report<O: Sink, N: Listen>(
     out: &mut O,
     ports: &[Port<N>],
     release: u32,
@@ -96,5 +97,40 @@ pub(crate) fn write_report<O: Sink, N: Listen>(
     match write_workers(out, ports) {
         Wrote::All => write_closing(out, release, failed),
         Wrote::Failed => Wrote::Failed,
+    }
+}
+
+// Ends a call that served its ports: writes the report.
+pub(crate) fn end_with_report<O: Sink, N: Listen>(
+    out: &mut O,
+    ports: &[Port<N>],
+    release: u32,
+) -> Status
+    requires few { length ports.now < 2 ^ 32 }
+    ensures ended { IsEnded (report ports.now release) (final_status ports.now)
+        (output (O.taken out.old) (O.taken out.new) (O.faults out.old) (O.faults out.new))
+        result }
+{
+    let failed = has_failed(ports);
+    match write_report(out, ports, release, failed) {
+        Wrote::All => {
+            if failed {
+                Status::NetFault
+            } else {
+                Status::Done
+            }
+        }
+        Wrote::Failed => Status::WriteFault,
+    }
+}
+
+/// Ends a call that served no port: writes its one line.
+pub fn write_end<O: Sink>(out: &mut O, line: &[u8], status: Status) -> Status
+    ensures ended { IsEnded line.now status (output (O.taken out.old) (O.taken out.new)
+        (O.faults out.old) (O.faults out.new)) result }
+{
+    match out.write(line) {
+        Wrote::All => status,
+        Wrote::Failed => Status::WriteFault,
     }
 }

@@ -1,30 +1,31 @@
 // The command `serve`, over the ports of its workers.
 
-ghost use Rattle.std.specs.Prelude.{◌≡◌, ◌≤◌, ◌<◌, ◌+◌, ◌^◌, All, IfOk, List, drop, length, take};
+ghost use Rattle.std.specs.Prelude.{◌≡◌, ◌≤◌, ◌<◌, ◌+◌, ◌^◌, All, IfOk, List, [], drop, length};
+ghost use Rattle.std.specs.Prelude.{take};
 ghost use Rattle.tb_base.specs.Records.{AllFit};
 ghost use Rattle.tb_model.specs.Schemas.{shape_of};
 ghost use Rattle.tb_release.specs.Batches.{BatchValue};
 ghost use Rattle.tb_serve.specs.Each.{Each};
 ghost use Rattle.tb_serve.specs.Ports.{PortValue};
-ghost use Rattle.tb_serve.specs.Serves.{HasServed, IsEnded, IsReported, Serves, output};
+ghost use Rattle.tb_serve.specs.Serves.{HasServed, IsReported, Serves, output};
 ghost use Rattle.tb_serve.specs.Stages.{IsFresh, IsLeft, IsReady};
 
-use crate::closing::{clear_all, confirm_all};
+use crate::closing::clear_all;
+use crate::custody::Custody;
+use crate::over_board::serve_from;
 use crate::port::Port;
 use crate::preparing::prepare;
 use crate::readiness::Readiness;
-use crate::report::{has_failed, write_report};
-use crate::seating::seat_all;
-use crate::workers::work_all;
+use crate::report::write_end;
 use std::alloc::Global;
 use std::marker::Brand;
 use std::sync::Wait;
 use std::thread::Threads;
 use tb_base::{Memory, Status};
 use tb_board::{Board, Named, Opening};
-use tb_io::{Listen, Sink, Wrote};
+use tb_io::{Listen, Sink};
 use tb_release::Release;
-use tb_session::FIRST_CAPACITY;
+use tb_session::{FIRST_CAPACITY, Setting};
 use tb_text::Setup;
 
 // What the board is made of.
@@ -37,36 +38,9 @@ fn open(alloc: Global, setup: &Setup, base: Release) -> Result<Opening, Memory>
     Opening::new(alloc, setup.schema.shape(), base, FIRST_CAPACITY)
 }
 
-// Serves the sessions of ports that are ready: the custodian's at the first, and analysts' at the
-// others. Returns the number of the last release.
-fn serve_over_board<B: Named + Send + Sync, N: Listen + Send, R: Threads + Wait + Sync>(
-    rt: &R,
-    alloc: Global,
-    setup: &Setup,
-    opening: Opening,
-    sessions: u32,
-    ports: &mut [Port<N>],
-) -> u32
-    requires name { opening.name ≡ B.name }
-    requires shape { opening.start.shape ≡ shape_of setup.now.schema }
-    requires first { opening.start.base.number ≡ 0 }
-    requires some { 0 < length ports.old }
-    requires can { All IsReady ports.old }
-    ensures served { (chain : List BatchValue) × (result ≡ length chain)
-        × Each (HasServed setup.now opening.start.base sessions chain) ports.old ports.new }
-    ensures left { Each (λ _. IsLeft) ports.old ports.new }
-{
-    let (board, custodian) = Board::<B>::new(opening);
-    seat_all(&board, rt, alloc, custodian, ports);
-    work_all(setup, &board, rt, alloc, sessions, ports);
-    let custodian = confirm_all(&board, ports);
-    let release = custodian.number();
-    clear_all(ports);
-    release
-}
-
-// The same, and writes the report.
-fn serve_and_report<B: Named + Send + Sync, O: Sink, N: Listen + Send, R: Threads + Wait + Sync>(
+// Serves the sessions of ports that are ready, over the board of an opening: the custodian's at the
+// first, and analysts' at the others.
+fn serve_opened<B: Named + Send + Sync, O: Sink, N: Listen + Send, R: Threads + Wait + Sync>(
     rt: &R,
     alloc: Global,
     setup: &Setup,
@@ -77,39 +51,24 @@ fn serve_and_report<B: Named + Send + Sync, O: Sink, N: Listen + Send, R: Thread
 ) -> Status
     requires name { opening.name ≡ B.name }
     requires shape { opening.start.shape ≡ shape_of setup.now.schema }
-    requires first { opening.start.base.number ≡ 0 }
     requires some { 0 < length ports.old }
     requires few { length ports.old < 2 ^ 32 }
     requires can { All IsReady ports.old }
     ensures served { (chain : List BatchValue)
-        × Each (HasServed setup.now opening.start.base sessions chain) ports.old ports.new
+        × Each (HasServed setup.now opening.start.base sessions [] chain) ports.old ports.new
         × IsReported ports.new chain (output (O.taken out.old) (O.taken out.new)
         (O.faults out.old) (O.faults out.new)) result }
     ensures left { Each (λ _. IsLeft) ports.old ports.new }
 {
-    let release = serve_over_board::<B, N, R>(rt, alloc, setup, opening, sessions, ports);
-    let failed = has_failed(ports);
-    match write_report(out, ports, release, failed) {
-        Wrote::All => {
-            if failed {
-                Status::NetFault
-            } else {
-                Status::Done
-            }
-        }
-        Wrote::Failed => Status::WriteFault,
-    }
-}
-
-// Writes the one line of a call that served none.
-fn write_end<O: Sink>(out: &mut O, line: &[u8], status: Status) -> Status
-    ensures { IsEnded line.now status (output (O.taken out.old) (O.taken out.new)
-        (O.faults out.old) (O.faults out.new)) result }
-{
-    match out.write(line) {
-        Wrote::All => status,
-        Wrote::Failed => Status::WriteFault,
-    }
+    let (board, custodian) = Board::<B>::new(opening);
+    let setting = Setting {
+        setup,
+        board: &board,
+        rt,
+        alloc,
+    };
+    let mut owner = Custody::new(alloc, custodian);
+    serve_from(&setting, &setting, sessions, &mut owner, out, ports)
 }
 
 // The whole command, over just the ports that are served.
@@ -140,7 +99,7 @@ fn serve_ports<O: Sink, N: Listen + Send, R: Threads + Wait + Sync>(
         clear_all(ports);
         return write_end(out, b"fault memory\n", Status::Memory);
     };
-    serve_and_report::<Brand, O, N, R>(rt, alloc, setup, opening, sessions, out, ports)
+    serve_opened::<Brand, O, N, R>(rt, alloc, setup, opening, sessions, out, ports)
 }
 
 /// Serves sessions over this release 0: the custodian's at the first port and analysts' at the

@@ -170,7 +170,7 @@ failed-risen : (call : Call) (census : CensusValue) (service : Service) (chain :
 failed-risen call census service chain ports ports' each some =
     let (i, x, below, at, failed) = Any-from_list_any (λ (p : PortValue). p.failed) ports' some in
     let inside : i < length ports = omega (arith, below, each.same_length) in
-    (i, inside, λ d. (each.at i d inside).sessions.enough.risen (failed_at ports' i x d below (sym at) failed))
+    (i, inside, λ d. (each.at i d inside).sessions.visited.enough.risen (failed_at ports' i x d below (sym at) failed))
 
 -- a command that asks for sessions asks for no generated population
 serves-alone : (c : Command) → asks_to_serve (Some c) ≡ true → asks_to_generate (Some c) ≡ true → ⊥

@@ -1,26 +1,14 @@
--- From one session of a party to a visit.
-use Rattle.std.proofs.Common.{◌≡◌, refl, ℕ, List, [], Option, inl, inr}
+-- From one session of a party to a visit, and what visits are in other words for their states.
+use Rattle.std.proofs.Common.{◌≡◌, ap, refl, subst, sym, ℕ, List, [], ◌∷◌, Option, inl, inr}
 use Rattle.tb_io.specs.Faults.{HasRisen}
-use Rattle.tb_model.specs.Setups.{SetupValue}
 use Rattle.tb_io.specs.Listeners.{Connection}
-use Rattle.tb_worker.specs.Visits.{HasCause, IsVisit}
-use Rattle.tb_lines.specs.Outputs.{ReplyValue}
-use Rattle.tb_session.specs.Parties.{GoesOn, held_by, role_of, seen_by, state_of}
-use Rattle.tb_session.specs.PartySessions.{AreLegal, with_none_held}
+use Rattle.tb_lines.specs.Outputs.{AtPrice, Charged, Lead, ReplyValue, charged}
 use Rattle.tb_lines.specs.Sessions.{IsSession}
-use Rattle.tb_lines.proofs.OtherWords.{session_as}
-use Rattle.tb_session.specs.Transcripts.{IsLegal}
-use Rattle.tb_session.specs.declared.party.Party.{Party}
-use Rattle.tb_session.specs.declared.party.Party.TheVariants as party
 use Rattle.tb_lines.specs.declared.session_end.SessionEnd.{SessionEnd}
 use Rattle.tb_lines.specs.declared.session_end.SessionEnd.TheVariants.{Ended, LineTooLong, TooManyLines, ReadFault, WriteFault}
-
--- a party's replies, from what it has seen on
-legal_at : (setup : SetupValue) (p q : Party) (lines : List (List ℕ)) (replies : List ReplyValue)
-    → AreLegal setup (with_none_held p) lines replies q
-    → IsLegal (role_of p) setup (seen_by p).start.base (record { chain = (seen_by p).list; held = [] }) lines replies (state_of q)
-legal_at setup (party.Analyst pass) q lines replies h = h.1
-legal_at setup (party.Custodian custodian held) q lines replies h = h.1
+use Rattle.tb_lines.proofs.OtherWords.{session_as}
+use Rattle.tb_lines.proofs.Paying.{paid}
+use Rattle.tb_worker.specs.Visits.{AreVisits, HasCause, IsVisit, Visit}
 
 -- a count rose where a fault ended the session
 cause_of : (came went : Connection) (end : SessionEnd) → (end ≡ ReadFault → HasRisen came.reader_faults went.reader_faults)
@@ -31,37 +19,48 @@ cause_of came went TooManyLines read write = tt
 cause_of came went ReadFault read write = read refl
 cause_of came went WriteFault read write = write refl
 
--- what `session` says of a party is what is said of a visit
-pub visit_of : (setup : SetupValue) (p q : Party) (came went : Connection) (end : SessionEnd) → (end ≡ ReadFault
-    → HasRisen came.reader_faults went.reader_faults)
-    → (end ≡ WriteFault → HasRisen came.writer_faults went.writer_faults) → IsSession (AreLegal setup) end came.left went.left
-    (with_none_held p) q came.taken went.taken
-    → IsVisit (role_of p) setup (seen_by p).start.base (seen_by p).list (record { came = came; went = went; end = end }) (seen_by q).list
-visit_of setup p q came went end read write h = record {
-  held = held_by q;
-  session = session_as (AreLegal setup) (IsLegal (role_of p) setup (seen_by p).start.base) (with_none_held p) q (record {
-    chain =
-        (seen_by p).list;
-    held = [];
-  }) (state_of q)
-      (legal_at setup p q) end came.left went.left came.taken went.taken h;
-  cause = cause_of came went end read write;
-}
+-- what a session said of replies at their prices is what is said of a visit
+pub visit_of : {S : Type 0} (Step : S → List ℕ → ReplyValue → S → Type 0) (fresh : S → S) (from to : S) (steps steps' : ℕ) (came went : Connection) (end : SessionEnd)
+    → (end ≡ ReadFault → HasRisen came.reader_faults went.reader_faults) → (end ≡ WriteFault → HasRisen came.writer_faults went.writer_faults)
+    → IsSession (Lead (AtPrice Step)) end came.left went.left (charged (fresh from) steps) (charged to steps') came.taken went.taken
+    → IsVisit (Lead Step) fresh from (record { came = came; went = went; end = end }) to
+visit_of {S = S} Step fresh from to steps steps' came went end read write h =
+    let first : Charged S = charged (fresh from) steps in
+    let last : Charged S = charged to steps' in
+    record {
+      session = session_as (Lead (AtPrice Step)) (Lead Step) first last (fresh from) to (λ lines replies legal. (paid Step first lines replies last legal).0) end came.left went.left came.taken went.taken h;
+      cause = cause_of came went end read write;
+    }
 
--- a party is the same after its session
-session_goes : (setup : SetupValue) (end : SessionEnd) (left now : Option (List ℕ)) (p q : Party) (before after : Option (List ℕ))
-    → IsSession (AreLegal setup) end left now p q before after → GoesOn p q
-session_goes setup Ended left now p q before after h = h.legal.0
-session_goes setup LineTooLong left now p q before after h = h.legal.0
-session_goes setup TooManyLines left now p q before after h = h.legal.0
-session_goes setup ReadFault left now p q before after h = h.legal.0
-session_goes setup WriteFault left now p q before after (inl h) = h.legal.0
-session_goes setup WriteFault left now p q before after (inr h) = h.legal.0
+-- the replies of a session, however it ended
+replied : {S : Type 0} (Legal : S → List (List ℕ) → List ReplyValue → S → Type 0) (end : SessionEnd) (left now before after : Option (List ℕ)) (first last : S)
+    → IsSession Legal end left now first last before after → (lines : List (List ℕ)) × (replies : List ReplyValue) × Legal first lines replies last
+replied Legal Ended left now before after first last h = (_, _, h.legal)
+replied Legal LineTooLong left now before after first last h = (_, _, h.legal)
+replied Legal TooManyLines left now before after first last h = (_, _, h.legal)
+replied Legal ReadFault left now before after first last h = (_, _, h.legal)
+replied Legal WriteFault left now before after first last (inl h) = (_, _, h.legal)
+replied Legal WriteFault left now before after first last (inr h) = (_, _, h.legal)
 
-goes_from : (p q : Party) → GoesOn (with_none_held p) q → GoesOn p q
-goes_from (party.Analyst pass) q goes = goes
-goes_from (party.Custodian custodian held) q goes = record { who = goes.who; front = goes.front; start = goes.start }
+-- where a state is seen as another, as long as something is true of it that every session keeps
+module _ {S T : Type 0} (One : S → List (List ℕ) → List ReplyValue → S → Type 0) (Other : T → List (List ℕ) → List ReplyValue → T → Type 0) (fresh : S → S) (begun : T → T) (seen : S → T) (Own : S → Type 0)
+    (begins : (s : S) → Own s → Own (fresh s)) (begins_so : (s : S) → seen (fresh s) ≡ begun (seen s))
+    (says : (s : S) (lines : List (List ℕ)) (replies : List ReplyValue) (t : S) → Own s → One s lines replies t → Own t × Other (seen s) lines replies (seen t)) where
+  visit_as : (from to : S) (v : Visit) → Own from → IsVisit One fresh from v to → Own to × IsVisit Other begun (seen from) v (seen to)
+  visit_as from to v own h =
+      let (lines, replies, legal) = replied One v.end v.came.left v.went.left v.came.taken v.went.taken (fresh from) to h.session in
+      let session : IsSession Other v.end v.came.left v.went.left (seen (fresh from)) (seen to) v.came.taken v.went.taken =
+      session_as One Other (fresh from) to (seen (fresh from)) (seen to) (λ ls rs is. (says (fresh from) ls rs to (begins from own) is).1) v.end v.came.left v.went.left v.came.taken v.went.taken h.session in (
+        (says (fresh from) lines replies to (begins from own) legal).0,
+        record {
+          session = subst (λ (t : T). IsSession Other v.end v.came.left v.went.left t (seen to) v.came.taken v.went.taken) (begins_so from) session;
+          cause = h.cause;
+        },
+      )
 
-pub goes_on : (setup : SetupValue) (end : SessionEnd) (left now : Option (List ℕ)) (p q : Party) (before after : Option (List ℕ))
-    → IsSession (AreLegal setup) end left now (with_none_held p) q before after → GoesOn p q
-goes_on setup end left now p q before after h = goes_from p q (session_goes setup end left now (with_none_held p) q before after h)
+  -- visits lead that state on
+  pub visits_as : (from to : S) (visits : List Visit) → Own from → AreVisits One fresh from visits to → Own to × AreVisits Other begun (seen from) visits (seen to)
+  visits_as from to [] own h = (subst Own (sym h) own, ap seen h)
+  visits_as from to (v ∷ visits) own (next, one, others) =
+      let (still, is) = visit_as from next v own one in
+      let (last, rest) = visits_as next to visits still others in (last, (seen next, is, rest))

@@ -2,22 +2,13 @@
 use Rattle.std.proofs.Common.{◌≡◌, ◌∙◌, sym, ap, refl, subst, ℕ, ◌≤◌, true, false, List, [], ◌∷◌, ◌++◌, length, append_assoc, append-nil, arith, inl, inr}
 use Rattle.std.specs.Prelude.{Option, Some, None, IsSome, option_map}
 use Rattle.std.proofs.lemmas.List.{map-append}
-use Rattle.tb_board.specs.Starts.{StartValue}
-use Rattle.tb_front.specs.Holders.{Name}
 use Rattle.tb_io.proofs.FaultLemmas.{HasRisen-earlier}
-use Rattle.tb_model.specs.Releases.{ReleaseValue}
-use Rattle.tb_model.specs.Schemas.{shape_of}
-use Rattle.tb_model.specs.Setups.{SetupValue}
 use Rattle.tb_io.specs.Listeners.{CanAccept, Connection, Gives, IsCalm, IsSameBut, ListenerValue, given_back}
 use Rattle.tb_io.specs.Sources.{IsAtEnd}
-use Rattle.tb_release.specs.Batches.{BatchValue}
+use Rattle.tb_lines.specs.Outputs.{ReplyValue}
 use Rattle.tb_worker.specs.Visits.{AreVisits, IsVisit, Visit}
 use Rattle.tb_worker.specs.Work.{AreServed, HasGiven, HasStepped, HasWorked, came_of, went_of}
 use Rattle.tb_worker.specs.declared.next.Next.TheVariants as next
-use Rattle.tb_session.specs.Parties.{GoesOn, IsPartyOf, role_of, seen_by}
-use Rattle.tb_session.specs.declared.party.Party.{Party}
-use Rattle.tb_session.specs.declared.party.Role.{Role}
-use Rattle.tb_session.proofs.LegalParties.{goes_further, goes_nowhere}
 
 -- ---- what a listener gives and gets back
 -- what comes in front of what comes
@@ -93,107 +84,65 @@ can_again a b vs can port given =
     subst (λ (o : Option ℕ). CanAccept (record b { port = o })) (sym port) bound
 
 -- ---- where sessions lead
--- visits that lead on from where others led to
-visits_more : (who : Role) (setup : SetupValue) (base : ReleaseValue) (from mid to : List BatchValue) (vs ws : List Visit)
-    → AreVisits who setup base from vs mid → AreVisits who setup base mid ws to → AreVisits who setup base from (vs ++ ws) to
-visits_more who setup base from mid to [] ws p q = subst (λ (l : List BatchValue). AreVisits who setup base l ws to) p q
-visits_more who setup base from mid to (v ∷ vs) ws p q = (p.0, p.1, visits_more who setup base p.0 mid to vs ws p.2 q)
+module _ {S : Type 0} (Legal : S → List (List ℕ) → List ReplyValue → S → Type 0) (fresh : S → S) where
+  -- visits that lead on from where others led to
+  pub visits_more : (from mid to : S) (vs ws : List Visit) → AreVisits Legal fresh from vs mid → AreVisits Legal fresh mid ws to → AreVisits Legal fresh from (vs ++ ws) to
+  visits_more from mid to [] ws p q = subst (λ (l : S). AreVisits Legal fresh l ws to) p q
+  visits_more from mid to (v ∷ vs) ws p q = (p.0, p.1, visits_more p.0 mid to vs ws p.2 q)
 
-module _ (name : Name) (setup : SetupValue) where
   -- a session that was accepted, served and given back
-  pub one_served : (before mid after : ListenerValue) (from to : Party) (v : Visit) → Gives before mid v.came
-      → after ≡ given_back mid v.went → IsPartyOf name (shape_of setup.schema) to → GoesOn from to
-      → IsVisit (role_of from) setup (seen_by from).start.base (seen_by from).list v
-      (seen_by to).list → HasStepped name setup before after from to next.Served
-  one_served before mid after from to v gives back own goes visit = (
+  pub one_served : (before mid after : ListenerValue) (from to : S) (v : Visit) → Gives before mid v.came → after ≡ given_back mid v.went
+      → IsVisit Legal fresh from v to → HasStepped Legal fresh before after from to next.Served
+  one_served before mid after from to v gives back visit = (
     v,
     record {
       given = given_one before mid after v gives back;
       port = ap (λ (l : ListenerValue). l.port) back ∙ gives.port;
-      own = own;
-      goes_on = goes;
-      lead = ((seen_by to).list, visit, refl);
+      lead = (to, visit, refl);
     },
     calm_one before mid after v gives back,
   )
 
   -- nothing was served, and nothing changed but the count of faults
-  pub none_served : (a b : ListenerValue) (p : Party) → CanAccept a → IsSameBut a b → IsPartyOf name (shape_of setup.schema) p
-      → AreServed name setup a b p p []
-  none_served a b p can same own = record {
-    given = given_none a b can same;
-    port = same.port;
-    own = own;
-    goes_on = goes_nowhere p;
-    lead
-        = refl;
-  }
+  pub none_served : (a b : ListenerValue) (p : S) → CanAccept a → IsSameBut a b → AreServed Legal fresh a b p p []
+  none_served a b p can same = record { given = given_none a b can same; port = same.port; lead = refl }
 
-  pub none_came : (a b : ListenerValue) (p : Party) → CanAccept a → IsAtEnd a.to_come → IsSameBut a b → IsCalm a b
-      → IsPartyOf name (shape_of setup.schema) p → HasStepped name setup a b p p next.NoneCame
-  none_came a b p can at_end same calm own = (
-    none_served a b p can same own,
-    calm,
-    subst (λ (o : Option (List Connection)). IsAtEnd o)
-        (sym same.to_come) at_end,
-  )
+  pub none_came : (a b : ListenerValue) (p : S) → CanAccept a → IsAtEnd a.to_come → IsSameBut a b → IsCalm a b → HasStepped Legal fresh a b p p next.NoneCame
+  none_came a b p can at_end same calm = (none_served a b p can same, calm, subst (λ (o : Option (List Connection)). IsAtEnd o) (sym same.to_come) at_end)
 
   -- more sessions served after others
-  pub served_more : (a b c : ListenerValue) (p q r : Party) (vs ws : List Visit) → AreServed name setup a b p q vs
-      → AreServed name setup b c q r ws → AreServed name setup a c p r (vs ++ ws)
-  served_more a b c p q r vs ws x y =
-      let on : AreVisits (role_of p) setup (seen_by p).start.base (seen_by q).list ws (seen_by r).list =
-      subst (λ (k : Role × StartValue). AreVisits k.0 setup k.1.base (seen_by q).list ws (seen_by r).list) (λ i.
-      (x.goes_on.who i, x.goes_on.start i)) y.lead in
-      record {
-        given = given_more a b c vs ws x.given y.given;
-        port = y.port ∙ x.port;
-        own = y.own;
-        goes_on = goes_further p q r x.goes_on y.goes_on;
-        lead = visits_more (role_of p) setup (seen_by p).start.base (seen_by p).list (seen_by q).list (seen_by r).list vs ws x.lead on;
-      }
+  pub served_more : (a b c : ListenerValue) (p q r : S) (vs ws : List Visit) → AreServed Legal fresh a b p q vs → AreServed Legal fresh b c q r ws → AreServed Legal fresh a c p r (vs ++ ws)
+  served_more a b c p q r vs ws x y = record {
+    given = given_more a b c vs ws x.given y.given;
+    port = y.port ∙ x.port;
+    lead = visits_more p q r vs ws x.lead y.lead;
+  }
 
-  none_more : (a b c : ListenerValue) (p q r : Party) (vs : List Visit) → AreServed name setup a b p q vs
-      → AreServed name setup b c q r [] → AreServed name setup a c p r vs
-  none_more a b c p q r vs x y = subst (λ (l : List Visit). AreServed name setup a c p r l) (append-nil vs)
-      (served_more a b c p q r vs [] x y)
+  none_more : (a b c : ListenerValue) (p q r : S) (vs : List Visit) → AreServed Legal fresh a b p q vs → AreServed Legal fresh b c q r [] → AreServed Legal fresh a c p r vs
+  none_more a b c p q r vs x y = subst (λ (l : List Visit). AreServed Legal fresh a c p r l) (append-nil vs) (served_more a b c p q r vs [] x y)
 
   -- a worker stops where it served all that it was to
-  pub worked_all : (most : ℕ) (a b : ListenerValue) (p q : Party) (vs : List Visit) → AreServed name setup a b p q vs
-      → length vs ≡ most → IsCalm a b → HasWorked name setup most a b p q most false
+  pub worked_all : (most : ℕ) (a b : ListenerValue) (p q : S) (vs : List Visit) → AreServed Legal fresh a b p q vs → length vs ≡ most → IsCalm a b → HasWorked Legal fresh most a b p q most false
   worked_all most a b p q vs x n calm = record {
     visits = vs;
     visited = x;
     counted = sym n;
-    enough = record {
-      within = omega arith;
-      enough =
-          inl refl;
-      risen = λ h. absurd (cc (h));
-      calm = λ _. calm;
-    };
+    enough = record { within = omega arith; enough = inl refl; risen = λ h. absurd (cc (h)); calm = λ _. calm };
   }
 
   -- where none is left to come
-  pub worked_out : (most served : ℕ) (a b c : ListenerValue) (p q r : Party) (vs : List Visit) → AreServed name setup a b p q vs
-      → length vs ≡ served → IsCalm a b → served ≤ most
-      → HasStepped name setup b c q r next.NoneCame → HasWorked name setup most a c p r served false
+  pub worked_out : (most served : ℕ) (a b c : ListenerValue) (p q r : S) (vs : List Visit) → AreServed Legal fresh a b p q vs → length vs ≡ served → IsCalm a b → served ≤ most
+      → HasStepped Legal fresh b c q r next.NoneCame → HasWorked Legal fresh most a c p r served false
   worked_out most served a b c p q r vs x n calm le step = record {
     visits = vs;
     visited = none_more a b c p q r vs x step.0;
     counted = sym n;
-    enough = record {
-      within = le;
-      enough = inr (inl step.2);
-      risen = λ h. absurd (cc (h));
-      calm = λ _. calm_more a b c [] calm step.0.given step.1;
-    };
+    enough = record { within = le; enough = inr (inl step.2); risen = λ h. absurd (cc (h)); calm = λ _. calm_more a b c [] calm step.0.given step.1 };
   }
 
   -- and where the accept failed
-  pub worked_badly : (most served : ℕ) (a b c : ListenerValue) (p q r : Party) (vs : List Visit) → AreServed name setup a b p q vs
-      → length vs ≡ served → served ≤ most
-      → HasStepped name setup b c q r next.Failed → HasWorked name setup most a c p r served true
+  pub worked_badly : (most served : ℕ) (a b c : ListenerValue) (p q r : S) (vs : List Visit) → AreServed Legal fresh a b p q vs → length vs ≡ served → served ≤ most
+      → HasStepped Legal fresh b c q r next.Failed → HasWorked Legal fresh most a c p r served true
   worked_badly most served a b c p q r vs x n le step = record {
     visits = vs;
     visited = none_more a b c p q r vs x step.0;
@@ -201,8 +150,7 @@ module _ (name : Name) (setup : SetupValue) where
     enough = record {
       within = le;
       enough = inr (inr refl);
-      risen = λ _. HasRisen-earlier a.faults b.faults c.faults x.given.count step.1
-          step.0.given.count;
+      risen = λ _. HasRisen-earlier a.faults b.faults c.faults x.given.count step.1 step.0.given.count;
       calm = λ h. absurd (cc (h));
     };
   }

@@ -1,14 +1,9 @@
--- Sessions that were served one after another, and the lists of batches along which they lead.
-use Rattle.std.specs.Prelude.{◌≡◌, List, [], ◌∷◌}
+-- Sessions that were served one after another, and the states along which they lead.
+use Rattle.std.specs.Prelude.{◌≡◌, ℕ, List, [], ◌∷◌}
 use Rattle.tb_io.specs.Faults.{HasRisen}
-use Rattle.tb_model.specs.Releases.{ReleaseValue}
-use Rattle.tb_model.specs.Setups.{SetupValue}
 use Rattle.tb_io.specs.Listeners.{Connection}
-use Rattle.tb_release.specs.Batches.{BatchValue}
-use Rattle.tb_release.specs.declared.edits.Edit.{Edit}
+use Rattle.tb_lines.specs.Outputs.{ReplyValue}
 use Rattle.tb_lines.specs.Sessions.{IsSession}
-use Rattle.tb_session.specs.Transcripts.{IsLegal}
-use Rattle.tb_session.specs.declared.party.Role.{Role}
 use Rattle.tb_lines.specs.declared.session_end.SessionEnd.{SessionEnd}
 use Rattle.tb_lines.specs.declared.session_end.SessionEnd.TheVariants as session_end
 
@@ -27,21 +22,19 @@ HasCause came went session_end.Ended = Unit {0}
 HasCause came went session_end.LineTooLong = Unit {0}
 HasCause came went session_end.TooManyLines = Unit {0}
 
--- a visit is a session of a party that had seen some batches, and held no edits, when it came, and
--- has seen these when it went
-pub record IsVisit (who : Role) (setup : SetupValue) (base : ReleaseValue) (from : List BatchValue)
-    (visit : Visit) (to : List BatchValue) : Type 0 where
-  pub held : List Edit
-  pub session : IsSession (IsLegal who setup base) visit.end visit.came.left visit.went.left
-      (record { chain = from; held = [] }) (record { chain = to; held = held })
+-- where it is given which replies to which lines are legal and lead from a state to another, and at
+-- which state a session begins: a visit is a session that begins afresh from the state that its
+-- party had when it came, and leads to the one that it had when it went
+pub record IsVisit {S : Type 0} (Legal : S → List (List ℕ) → List ReplyValue → S → Type 0)
+    (fresh : S → S) (from : S) (visit : Visit) (to : S) : Type 0 where
+  pub session : IsSession Legal visit.end visit.came.left visit.went.left (fresh from) to
       visit.came.taken visit.went.taken
   pub cause : HasCause visit.came visit.went visit.end
 
--- visits lead a party from some batches to others: none stay where they are, and of others the
--- first leads to where the rest begin
-abbrev pub AreVisits : Role → SetupValue → ReleaseValue → List BatchValue → List Visit
-    → List BatchValue → Type 0
-AreVisits who setup base from [] to = to ≡ from
-AreVisits who setup base from (visit ∷ visits) to =
-    (next : List BatchValue)
-    × IsVisit who setup base from visit next × AreVisits who setup base next visits to
+-- visits lead a party from a state to another: none stay where they are, and of others the first
+-- leads to where the rest begin
+abbrev pub AreVisits : {S : Type 0} → (S → List (List ℕ) → List ReplyValue → S → Type 0) → (S → S)
+    → S → List Visit → S → Type 0
+AreVisits Legal fresh from [] to = to ≡ from
+AreVisits {S = S} Legal fresh from (visit ∷ visits) to =
+    (next : S) × IsVisit Legal fresh from visit next × AreVisits Legal fresh next visits to

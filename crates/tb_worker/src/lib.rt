@@ -1,9 +1,9 @@
-//! A worker: it serves the sessions of one listener, one after another, as one party.
+//! A worker: it serves the sessions of one listener, one after another, as one that answers lines.
 //!
-//! It stands on `tb_session` (one session), `tb_build` (a cube that isn't kept) and `tb_io` (what
-//! gives sessions). Its contracts cite `specs/Visits` (sessions one after another, and where they
-//! lead) and `Work` (what a worker did). Of the proofs, `Visiting` leads from one session to a list
-//! of them, and `Working` to what a worker did.
+//! It stands on `tb_lines` (one session) and `tb_io` (what gives sessions). Its contracts cite
+//! `specs/Visits` (sessions one after another, and where they lead) and `Work` (what a worker did).
+//! Of the proofs, `Visiting` leads from one session to a visit, and `Working` from one visit to
+//! what a worker did.
 #![tactic(auto)]
 
 mod next;

@@ -1,5 +1,5 @@
 use Rattle.tb_serve.proofs.serving.serve_ports.Given as goal
 
 -- the front of the opening
-abbrev pub ghosts-serve_and_report : goal.ghosts-serve_and_report
-ghosts-serve_and_report g a = record { name = a.opening.name }
+abbrev pub ghosts-serve_opened : goal.ghosts-serve_opened
+ghosts-serve_opened g a = record { name = a.opening.name }

@@ -1,0 +1,77 @@
+// The sessions of ports that are ready, over a board whose chain may have begun.
+
+ghost use Rattle.std.specs.Prelude.{◌≡◌, ◌<◌, ◌^◌, ℕ, All, length, slice_index_or};
+ghost use Rattle.tb_lines.specs.Outputs.{Lead};
+ghost use Rattle.tb_model.specs.Schemas.{shape_of};
+ghost use Rattle.tb_serve.specs.Each.{Each};
+ghost use Rattle.tb_serve.specs.Ports.{PortValue};
+ghost use Rattle.tb_serve.specs.Serves.{HasServed, IsReported, IsVisited, output};
+ghost use Rattle.tb_serve.specs.Stages.{IsLeft, IsReady};
+ghost use Rattle.tb_session.specs.Parties.{IsPassOf};
+
+use crate::closing::{clear_all, confirm_all};
+use crate::owner::Owner;
+use crate::port::Port;
+use crate::report::end_with_report;
+use crate::seating::seat_all;
+use crate::workers::work_all;
+use std::sync::Wait;
+use std::thread::Threads;
+use tb_base::Status;
+use tb_board::Named;
+use tb_io::{Listen, Sink};
+use tb_session::Setting;
+
+/// Serves the sessions of ports that are ready, over one board: at the first port as the owner, who
+/// holds the board's custodian and answers over a setting of its own, and at each other one as an
+/// analyst, from what the custodian wrote by then.
+///
+/// A worker for each port, in a thread of its own where one can be made, serves up to `sessions`
+/// sessions, one after another, until none is to come or its accept failed; a session that ends by
+/// a fault ends no other. An analyst's port has one pass for all its sessions.
+///
+/// `out` takes, in writes that need no memory, `worker I sessions N` for each port, `release R`
+/// with the number of the custodian's release, and `fault net` last where an accept failed. Memory
+/// is taken for the replies alone. At the return no port has a party or a reader of lines.
+pub fn serve_from<
+    C: Sync,
+    B: Named + Send + Sync,
+    W: Owner<C, B> + Send,
+    O: Sink,
+    N: Listen + Send,
+    R: Threads + Wait + Sync,
+>(
+    setting: &Setting<'_, B, R>,
+    own_setting: &C,
+    sessions: u32,
+    owner: &mut W,
+    out: &mut O,
+    ports: &mut [Port<N>],
+) -> Status
+    requires ready { W.IsReady own_setting.now owner.old }
+    requires may { W.MayAsk own_setting.now tt }
+    requires writer { IsPassOf B.name (shape_of setting.now.setup.now.schema) (W.writer owner.old) }
+    requires some { 0 < length ports.old }
+    requires few { length ports.old < 2 ^ 32 }
+    requires can { All IsReady ports.old }
+    ensures ready { W.IsReady own_setting.now owner.new }
+    // Its own replies led the owner from one state to the other.
+    ensures first { (d : PortValue) → IsVisited (Lead (W.Step own_setting.now tt)) W.fresh sessions
+        (W.state owner.old) (W.state owner.new) (slice_index_or ports.old 0 d)
+        (slice_index_or ports.new 0 d) }
+    // An analyst began at what the custodian had written, and ended at a beginning of what it has.
+    ensures others { (i : ℕ) (d : PortValue) → 0 < i → i < length ports.old
+        → HasServed setting.now.setup.now (W.writer owner.old).start.base sessions
+        (W.writer owner.old).list (W.writer owner.new).list i (slice_index_or ports.old i d)
+        (slice_index_or ports.new i d) }
+    ensures left { Each (λ _. IsLeft) ports.old ports.new }
+    ensures reported { IsReported ports.new (W.writer owner.new).list (output (O.taken out.old)
+        (O.taken out.new) (O.faults out.old) (O.faults out.new)) result }
+{
+    seat_all(own_setting, owner, ports);
+    work_all(setting, own_setting, sessions, owner, ports);
+    confirm_all(own_setting, owner, ports);
+    clear_all(ports);
+    let release = owner.release(own_setting);
+    end_with_report(out, ports, release)
+}
