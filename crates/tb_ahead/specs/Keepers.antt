@@ -44,8 +44,8 @@ module _ {W : Type 0} (target : W → ℕ) (live : W → Bool) (faults : W → �
   abbrev pub StandsAt : KeeperValue W → KeptState → Type 0
   StandsAt one at = IsAt (standing one.ahead) (live one.ahead) (faults one.ahead) one.state at
 
-  -- a line that asks to publish, or doesn't, leads from one to the other by a reply; what is written
-  -- into is the same
+  -- a line that asks to publish, or doesn't, leads from one to the other by a reply; what is
+  -- written into is the same
   abbrev pub LeadsBy : Bool → KeeperValue W → List ℕ → ReplyValue → KeeperValue W → Type 0
   LeadsBy asks old line reply new =
       (new.base ≡ old.base)

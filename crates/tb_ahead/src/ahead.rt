@@ -26,8 +26,8 @@ pub enum Put {
 /// as the list of its edits; or, where one further batch is given, for these, or for these and that
 /// one. Of a disk that tells nothing it is true of any. `faults` counts the disk's faults.
 /// `IsReady` is the condition under which it puts, which every call keeps. `target` names what it
-/// writes into, by a number that no call changes: so whoever lent that knows, once the writing is
-/// over, that it is what was written into.
+/// writes into, by a number that no call changes, as the name of a borrow: so whoever lent it knows
+/// once the borrow is over that it is what the last call left.
 pub trait WriteAhead {
     ghost target: { Self → ℕ };
 

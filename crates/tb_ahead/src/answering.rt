@@ -144,7 +144,8 @@ pub fn answer_ahead<C, G, P: Publisher<C, G>, W: WriteAhead, K: Sink, L: Ledger>
     ensures puts { W.IsReady ahead.new }
     // Wherever the party stood, the file stands for what the reply leads to.
     ensures replied { IsReplied
-        (KeepsTo W.target W.live W.faults W.StandsFor (P.Step setting.now) P.publishes) line.now result
+        (KeepsTo W.target W.live W.faults W.StandsFor (P.Step setting.now) P.publishes) line.now
+        result
         (moment (keeper (P.base party.old) (P.state party.old) ahead.old) steps.old
         (K.taken sink.old) (K.faults sink.old))
         (moment (keeper (P.base party.new) (P.state party.new) ahead.new) steps.new

@@ -5,7 +5,8 @@ use Rattle.tb_journal.specs.Opening.{header}
 use Rattle.tb_journal.specs.Records.{payloads_before}
 use Rattle.tb_journal.specs.States.{JournalState}
 use Rattle.tb_journal.specs.declared.recovered.Recovered.{Recovered}
-use Rattle.tb_journal.specs.declared.recovered.Recovered.TheVariants.{Batch, BadRecord, DiskFault, End, Memory}
+use Rattle.tb_journal.specs.declared.recovered.Recovered.TheVariants.{Batch, BadRecord, DiskFault}
+use Rattle.tb_journal.specs.declared.recovered.Recovered.TheVariants.{End, Memory}
 use Rattle.tb_journal_file.specs.Files.{EachStandsFor, payloads_of}
 use Rattle.tb_release.specs.declared.edits.Edit.{Edit}
 

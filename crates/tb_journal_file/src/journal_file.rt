@@ -103,7 +103,8 @@ impl<'d, D: Disk> WriteAhead for JournalFile<'d, D> {
     ghost IsReady = { λ f. CanPut (D.attached f.disk.now) (D.content f.disk.now)
         (D.may_leave f.disk.now) f.journal };
 
-    ghost StandsFor = { λ f batches further. EachStandsFor (D.may_leave f.disk.now) batches further };
+    ghost StandsFor = { λ f batches further.
+        EachStandsFor (D.may_leave f.disk.now) batches further };
 
     fn is_live(&self) -> bool {
         self.journal.live()
