@@ -1,5 +1,5 @@
 -- Where the line of a party that writes its batches ahead leads, by how it is answered.
-use Rattle.std.proofs.Common.{◌≡◌, ◌≢◌, ◌∙◌, sym, ap, subst, refl, ℕ, ◌<◌, ◌≤◌, Bool, true, false, List, [], ◌∷◌, ◌++◌, length, Option, Some, None, inl, inr, arith}
+use Rattle.std.proofs.Common.{◌≡◌, ◌∙◌, sym, ap, subst, refl, ℕ, ◌<◌, ◌≤◌, Bool, true, false, List, [], ◌∷◌, ◌++◌, length, Option, Some, None, inl, inr, arith}
 use Rattle.std.specs.Prelude.{is_none}
 use Rattle.tb_io.specs.Faults.{HasRisen}
 use Rattle.tb_lines.specs.Outputs.{ReplyValue}
@@ -193,6 +193,6 @@ pub own_as : (Own : ReleaseValue → StateValue → List ℕ → ReplyValue → 
 own_as Own base base' s s' line reply new b e h = subst (λ (x : StateValue). Own base x line reply new) e (subst (λ (y : ReleaseValue). Own y s' line reply new) b h)
 
 -- a line that asks to publish leads so
-pub as_asked : {W : Type 0} (live : W → Bool) (faults : W → ℕ) (standing : W → List (List Edit) → Option (List Edit) → Type 0) (Own : ReleaseValue → StateValue → List ℕ → ReplyValue → StateValue → Type 0)
-    (asks : Bool) (old : KeeperValue W) (line : List ℕ) (reply : ReplyValue) (new : KeeperValue W) → asks ≡ true → LeadsBy live faults standing Own true old line reply new → LeadsBy live faults standing Own asks old line reply new
-as_asked live faults standing Own asks old line reply new is h = subst (λ (b : Bool). LeadsBy live faults standing Own b old line reply new) (sym is) h
+pub as_asked : {W : Type 0} (target : W → ℕ) (live : W → Bool) (faults : W → ℕ) (standing : W → List (List Edit) → Option (List Edit) → Type 0) (Own : ReleaseValue → StateValue → List ℕ → ReplyValue → StateValue → Type 0)
+    (asks : Bool) (old : KeeperValue W) (line : List ℕ) (reply : ReplyValue) (new : KeeperValue W) → asks ≡ true → LeadsBy target live faults standing Own true old line reply new → LeadsBy target live faults standing Own asks old line reply new
+as_asked target live faults standing Own asks old line reply new is h = subst (λ (b : Bool). LeadsBy target live faults standing Own b old line reply new) (sym is) h

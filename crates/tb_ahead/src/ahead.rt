@@ -25,8 +25,12 @@ pub enum Put {
 /// `StandsFor` is its meaning: each file that a stop now may leave stands for these batches, each
 /// as the list of its edits; or, where one further batch is given, for these, or for these and that
 /// one. Of a disk that tells nothing it is true of any. `faults` counts the disk's faults.
-/// `IsReady` is the condition under which it puts, which every call keeps.
+/// `IsReady` is the condition under which it puts, which every call keeps. `target` names what it
+/// writes into, by a number that no call changes, as the name of a borrow: so whoever lent it knows
+/// once the borrow is over that it is what the last call left.
 pub trait WriteAhead {
+    ghost target: { Self → ℕ };
+
     ghost faults: { Self → ℕ };
 
     ghost live: { Self → Bool };
@@ -46,6 +50,7 @@ pub trait WriteAhead {
         requires ready { IsReady self.old }
         requires writable { CanBeSpelled edits.now }
         ensures ready { IsReady self.new }
+        ensures target { target self.new ≡ target self.old }
         ensures count { faults self.old ≤ faults self.new }
         ensures kept { result ≡ put.Kept → (live self.new ≡ true)
             × IsAdded edits.now (StandsFor self.old) (StandsFor self.new) }
@@ -59,6 +64,7 @@ pub trait WriteAhead {
     fn close(&mut self)
         requires ready { IsReady self.old }
         ensures ready { IsReady self.new }
+        ensures target { target self.new ≡ target self.old }
         ensures live { live self.new ≡ false }
         ensures count { faults self.new ≡ faults self.old }
         ensures stays { StaysAsItWas (StandsFor self.old) (StandsFor self.new) };

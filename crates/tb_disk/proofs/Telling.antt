@@ -1,5 +1,6 @@
 -- Steps from what a read gave to what it gives now, where that is told.
-use Rattle.std.proofs.Common.{◌≡◌, ℕ, List, Option, None, Some, refl, sym, ◌∙◌, subst}
+use Rattle.std.proofs.Common.{◌≡◌, ℕ, List, Option, None, Some, false, refl, sym, ◌∙◌, ap, subst}
+use Rattle.std.specs.Prelude.{is_none}
 use Rattle.tb_disk.specs.Images.{Leads, WhereTold}
 
 some-is : (f g : List ℕ) → Some f ≡ Some g → f ≡ g
@@ -44,3 +45,13 @@ Leads-stay (Some file) new step same stay = (file, same, stay file refl)
 -- nothing, and then a step
 pub Leads-first : (old mid new : Option (List ℕ)) (step : List ℕ → List ℕ → Type 0) → mid ≡ old → Leads mid new step → Leads old new step
 Leads-first old mid new step same leads = subst (λ (o : Option (List ℕ)). Leads o new step) same leads
+
+-- a step leads from what is told to what is told
+pub Leads-tells : (old new : Option (List ℕ)) (step : List ℕ → List ℕ → Type 0) → Leads old new step → is_none new ≡ is_none old
+Leads-tells None new step leads = ap is_none leads
+Leads-tells (Some file) new step leads = ap is_none leads.1
+
+-- what isn't none is told
+pub told-of : (content : Option (List ℕ)) → is_none content ≡ false → (file : List ℕ) × (content ≡ Some file)
+told-of None some = absurd cc
+told-of (Some file) some = (file, refl)

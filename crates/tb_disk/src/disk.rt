@@ -1,5 +1,5 @@
 ghost use Rattle.std.specs.Prelude.{◌≡◌, ◌≤◌, ◌+◌, ℕ, List, Bool, true, false, Option, Some};
-ghost use Rattle.std.specs.Prelude.{length, take, drop, option_map};
+ghost use Rattle.std.specs.Prelude.{length, take, drop, is_none, option_map};
 ghost use Rattle.tb_io.specs.Faults.{HasRisen};
 ghost use Rattle.tb_disk.specs.Images.{Fewer, Follows, Leads, Only, SizeTells, Torn};
 ghost use Rattle.tb_disk.specs.Images.{WhereTold, IsWritten};
@@ -114,6 +114,10 @@ pub trait Disk {
     /// What a read gives, a stop now may leave.
     ghost as_it_reads: { (disk : Self) (file : List ℕ) →
         content disk ≡ Some file → may_leave disk file };
+
+    /// What a stop now may leave is told only where it is told what a read gives.
+    ghost told_beside: { (disk : Self) (image : List ℕ) →
+        may_leave disk image → is_none (content disk) ≡ false };
 
     /// This moment is one of those since an earlier one.
     ghost counts_now: { (disk : Self) (t : ℕ) (image : List ℕ) →

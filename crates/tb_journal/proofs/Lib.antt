@@ -1,7 +1,7 @@
 mod Advancing
 mod Beginning
 mod Fitted
-mod Keeping
+pub mod Keeping
 mod Putting
 mod Recording
 mod Standing

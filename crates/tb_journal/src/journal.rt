@@ -1,5 +1,5 @@
 ghost use Rattle.std.specs.Prelude.{◌≡◌, ◌≤◌, ◌<◌, ◌^◌, ◌+◌, ◌-◌, true, false, List, ℕ};
-ghost use Rattle.std.specs.Prelude.{length, IfOk, IfSome, IsSome, ◌↔◌};
+ghost use Rattle.std.specs.Prelude.{is_none, length, IfOk, IfSome, IsSome, ◌↔◌};
 ghost use Rattle.tb_io.specs.Faults.{HasRisen};
 ghost use Rattle.tb_disk.specs.Images.{Leads, WhereTold};
 ghost use Rattle.tb_disk.specs.Moments.{LeavesOnly};
@@ -182,6 +182,7 @@ impl Journal {
             (λ file. IsOn file (D.may_leave disk.old) self.old) }
 
         ensures attached { D.attached disk.new ≡ true }
+        ensures tells { is_none (D.content disk.new) ≡ is_none (D.content disk.old) }
         ensures kept { result ≡ put.Kept →
             Leads (D.content disk.old) (D.content disk.new) (IsKept (spelled edits.now)) }
         ensures on { result ≡ put.Kept → WhereTold (D.content disk.new)
@@ -215,6 +216,7 @@ impl Journal {
             (λ file. IsOn file (D.may_leave disk.old) self.old) }
 
         ensures attached { D.attached disk.new ≡ true }
+        ensures tells { is_none (D.content disk.new) ≡ is_none (D.content disk.old) }
         ensures kept { result ≡ put.Kept → Leads (D.content disk.old) (D.content disk.new)
             (IsKeptOn (D.may_leave disk.new) self.new (payload_behind behind.now)) }
         ensures any_moment { WhereTold (D.content disk.old) (λ file.

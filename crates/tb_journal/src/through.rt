@@ -1,6 +1,6 @@
 // Writes that are on the disk when they return.
 
-ghost use Rattle.std.specs.Prelude.{◌≡◌, ◌≤◌, ◌<◌, ◌^◌, ◌+◌, true, ℕ, List, length};
+ghost use Rattle.std.specs.Prelude.{◌≡◌, ◌≤◌, ◌<◌, ◌^◌, ◌+◌, true, ℕ, List, is_none, length};
 ghost use Rattle.tb_io.specs.Faults.{HasRisen};
 ghost use Rattle.tb_disk.specs.Images.{Leads, Only, Torn, WhereTold};
 ghost use Rattle.tb_disk.specs.Moments.{LeavesOnly};
@@ -17,6 +17,7 @@ pub(crate) fn write_through<D: Disk>(disk: &mut D, at: u64, bytes: &[u8]) -> Don
     requires within { WhereTold (D.content disk.old) (λ file. at ≤ length file) }
     requires durable { WhereTold (D.content disk.old) (λ file. Only file (D.may_leave disk.old)) }
     ensures attached { D.attached disk.new ≡ true }
+    ensures tells { is_none (D.content disk.new) ≡ is_none (D.content disk.old) }
     ensures through { result ≡ done.All → Leads (D.content disk.old) (D.content disk.new)
         (IsThrough (D.may_leave disk.new) at bytes.now) }
     ensures any_moment { WhereTold (D.content disk.old) (λ file.
@@ -39,6 +40,7 @@ pub(crate) fn write_record<D: Disk>(disk: &mut D, place: u64, behind: &[u8]) -> 
     requires behind { behind.now ≡ behind_of (payload_behind behind.now) }
     requires ready { WhereTold (D.content disk.old) (IsReady (D.may_leave disk.old) place) }
     ensures attached { D.attached disk.new ≡ true }
+    ensures tells { is_none (D.content disk.new) ≡ is_none (D.content disk.old) }
     ensures put { result ≡ done.All → Leads (D.content disk.old) (D.content disk.new)
         (IsPut (D.may_leave disk.new) place (payload_behind behind.now)) }
     ensures any_moment { WhereTold (D.content disk.old) (λ file. LeavesOnly D.moment D.left_since

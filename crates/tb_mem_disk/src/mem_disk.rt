@@ -1,5 +1,5 @@
 ghost use Rattle.std.specs.Prelude.{◌≡◌, ◌≤◌, ◌<◌, ◌+◌, [], true, false, ℕ, List, Some, IfOk};
-ghost use Rattle.std.specs.Prelude.{length, drop, take, get_or};
+ghost use Rattle.std.specs.Prelude.{length, drop, take, get_or, refl};
 ghost use Rattle.tb_io.specs.Faults.{HasRisen};
 ghost use Rattle.tb_disk.specs.Images.{Fewer, Follows, IsWritten, Leads, Only, SizeTells, Torn};
 ghost use Rattle.tb_disk.specs.Images.{WhereTold};
@@ -98,6 +98,8 @@ impl Disk for MemDisk {
     ghost left_since = { λ d t image. HadSince d.file t image };
 
     ghost as_it_reads = { λ d file told. reads-so (bytes_of d.file) file told };
+
+    ghost told_beside = { λ d image left. refl };
 
     ghost counts_now = { λ d t image le now. had-now d.file t image le now };
 

@@ -1,4 +1,4 @@
-use Rattle.std.proofs.Common.{refl, arith}
+use Rattle.std.proofs.Common.{refl, arith, ◌∙◌}
 use Rattle.tb_tables.specs.Answers.{free_reply}
 use Rattle.tb_tables.specs.ReplyLines.{memory_line}
 use Rattle.tb_ahead.specs.Keeping.{unkept_line}
@@ -15,6 +15,7 @@ returns-in-Kept-clause-replied g c =
       reply = done.reply;
       step = (
         c.answer_line-done.ensures.base,
+        c.close_unless_none.ensures.target ∙ c.in-Kept.ensures.target,
         by_kept (g.P.Publisher.Step c.args.setting.now base) base c.args.line.now old new
             (g.W.WriteAhead.StandsFor c.args.ahead.now) (g.W.WriteAhead.StandsFor c.put_held.new.ahead) (g.W.WriteAhead.StandsFor c.close_unless_none.new.ahead) _ _ _ _ _ _
             c.in-Kept.ensures.kept c.close_unless_none.ensures.closes c.close_unless_none.ensures.count c.requires.follows (g.met.W.WriteAhead.further c.close_unless_none.new.ahead) done.reply
@@ -32,6 +33,7 @@ returns-in-DiskFault-clause-replied g c =
       reply = free_reply unkept_line;
       step = (
         refl,
+        c.in-DiskFault.ensures.target,
         by_unkept (g.P.Publisher.Step c.args.setting.now base) base c.args.line.now old old
             (g.W.WriteAhead.StandsFor c.args.ahead.now) (g.W.WriteAhead.StandsFor c.put_held.new.ahead) _ _ _ _ c.in-DiskFault.ensures.kept c.requires.follows refl,
       );
@@ -48,6 +50,7 @@ returns-in-Memory-clause-replied g c =
       reply = free_reply memory_line;
       step = (
         refl,
+        c.in-Memory.ensures.target,
         by_no_memory (g.P.Publisher.Step c.args.setting.now base) base c.args.line.now old old
             (g.W.WriteAhead.StandsFor c.args.ahead.now) (g.W.WriteAhead.StandsFor c.put_held.new.ahead) _ _ _ _ c.in-Memory.ensures.kept refl,
       );

@@ -1,7 +1,8 @@
-use Rattle.std.proofs.Common.{length, refl, sym, ◌∙◌}
+use Rattle.std.proofs.Common.{length, refl, sym, ◌∙◌, ap}
+use Rattle.std.specs.Prelude.{is_none}
 use Rattle.tb_disk.specs.Images.{Torn}
 use Rattle.tb_disk.proofs.Going.{starts, goes_on}
-use Rattle.tb_disk.proofs.Telling.{Leads-same}
+use Rattle.tb_disk.proofs.Telling.{Leads-same, Leads-tells}
 use Rattle.tb_disk.proofs.Tearing.{Torn-follows, Torn-start}
 use Rattle.tb_journal.proofs.through.write_through.Goals as goal
 
@@ -27,3 +28,9 @@ pub returns-in-All-clause-through : goal.returns-in-All-clause-through
 returns-in-All-clause-through g c = λ all.
     Leads-same _ _ _ _ _ (c.in-All.ensures.written refl) c.sync.ensures.same
     (λ file next was told written. record { written = written; durable = c.sync.ensures.durable all next (sym c.sync.ensures.same ∙ told) })
+
+pub returns-in-Failed-clause-tells : goal.returns-in-Failed-clause-tells
+returns-in-Failed-clause-tells g c = Leads-tells _ _ _ (c.in-Failed.ensures.outside refl)
+
+pub returns-in-All-clause-tells : goal.returns-in-All-clause-tells
+returns-in-All-clause-tells g c = ap is_none c.sync.ensures.same ∙ Leads-tells _ _ _ (c.in-All.ensures.written refl)
