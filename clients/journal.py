@@ -27,6 +27,7 @@ import os
 import shutil
 import struct
 import sys
+from dataclasses import dataclass
 from typing import BinaryIO, Iterator, NamedTuple, NoReturn, Union
 
 __all__ = [
@@ -84,7 +85,8 @@ class DoesNotFit(_AtRecord):
     """A record has an edit that no line of the custodian says under this classification."""
 
 
-class Add(NamedTuple):
+@dataclass(frozen=True)
+class Add:
     """A person is added, with the number of a category of each variable."""
 
     person: int
@@ -92,20 +94,23 @@ class Add(NamedTuple):
     categories: tuple[int, ...]
 
 
-class Drop(NamedTuple):
+@dataclass(frozen=True)
+class Drop:
     """A person leaves."""
 
     person: int
 
 
-class Amend(NamedTuple):
+@dataclass(frozen=True)
+class Amend:
     """A person gets other categories. A setting is a variable's number and its category's."""
 
     person: int
     settings: tuple[tuple[int, int], ...]
 
 
-class Pvalue(NamedTuple):
+@dataclass(frozen=True)
+class Pvalue:
     """The pvalue at a row and a cell key of the perturbation table is set."""
 
     row: int
@@ -113,7 +118,8 @@ class Pvalue(NamedTuple):
     pvalue: int
 
 
-class Threshold(NamedTuple):
+@dataclass(frozen=True)
+class Threshold:
     """The threshold is set."""
 
     threshold: int
@@ -135,7 +141,7 @@ def records(file: BinaryIO) -> Iterator[bytes]:
     ------
     NotJournal
         Where more than nine bytes don't begin as a journal does. A file of fewer is one without
-        records, since a stop may leave any where a journal is part.
+        records, since a stop may leave any where a journal is made.
     BadRecord
         At a record whose gate is open and which doesn't lie in the file, with the gate behind it,
         or whose payload is longer than any is.
@@ -319,12 +325,11 @@ def _line(edit: Edit, classes: Classes) -> str:
         settings = (classes.setting(*setting) for setting in edit.settings)
         return " ".join([f"amend {_person(edit)}", *settings])
     if isinstance(edit, Pvalue):
-        row, key, pvalue = edit
-        if not 1 <= row <= LARGEST_ROW:
-            raise ValueError(f"there is no row {row}")
-        if not -row <= pvalue <= LARGEST_PVALUE:
-            raise ValueError(f"a pvalue of row {row} is {pvalue}")
-        return f"pvalue {row} {_key(key, classes)} {pvalue}"
+        if not 1 <= edit.row <= LARGEST_ROW:
+            raise ValueError(f"there is no row {edit.row}")
+        if not -edit.row <= edit.pvalue <= LARGEST_PVALUE:
+            raise ValueError(f"a pvalue of row {edit.row} is {edit.pvalue}")
+        return f"pvalue {edit.row} {_key(edit.cell_key, classes)} {edit.pvalue}"
     if edit.threshold > LARGEST_THRESHOLD:
         raise ValueError(f"a threshold is {edit.threshold}")
     return f"threshold {edit.threshold}"
