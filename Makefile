@@ -1,5 +1,5 @@
 .PHONY: test try try-guide build demo serve guide quotes clients refusals growths bench bench-serve
-.PHONY: bench-tools
+.PHONY: bench-journal bench-tools
 
 # What `make try` runs over: names of files, RECODES or `-` for none, and the threshold.
 CLASSES = examples/small/classes.csv
@@ -81,6 +81,11 @@ bench-serve: bench-tools build
 	rustc -O --edition 2021 -o bench/out/client bench/client.rs
 	rustc -O --edition 2021 -o bench/out/prepared bench/prepared.rs
 	python3 bench/serve.py crates/tablebuilder/out/tablebuilder bench/out/client bench/out/prepared
+
+# 10,000 batches of a journal read back from a disk in memory: two tests, timed.
+bench-journal: bench-tools
+	cd crates/tb_journal_tests && rt test
+	python3 bench/journal.py crates/tb_journal_tests/out/tb_journal_tests_tests
 
 bench-tools:
 	@for tool in rt rustc python3; do \

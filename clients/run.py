@@ -1,13 +1,14 @@
 #!/usr/bin/env python3
-"""Runs the tests of each client against servers over `examples/small`.
+"""Runs the tests of each client against servers over `examples/small`, and those of `journal.py`.
 
     run.py PROGRAM FOLDER
 
 For each client in turn there are, at free ports of 127.0.0.1, a server with two workers, one of
 threshold 2, one that has answered nothing so far, one that a test may kill, and one of prepared
 replies, for those that the program can't be made to give. Tests find the first port of each in the
-environment (and the number of the process that they may kill), and end with status 0 where all
-passed. A client whose language isn't there isn't tested, which is said, and counts as failed.
+environment (and the number of the process that they may kill, and the program's file), and end
+with status 0 where all passed. A client whose language isn't there isn't tested, which is said, and
+counts as failed.
 """
 import contextlib
 import os
@@ -31,6 +32,7 @@ R_MISSING = "apt-get install -y --no-install-recommends r-base-core"
 CLIENTS = {
     "python": ([sys.executable, "-B", f"{HERE}/python/test_tablebuilder.py"], ""),
     "R": (["Rscript", "--vanilla", f"{HERE}/r/test_tablebuilder.R"], R_MISSING),
+    "journal": ([sys.executable, "-B", f"{HERE}/test_journal.py"], ""),
 }
 
 TABLE = b"release 0\nSEX,count\n1,1\n2,2\n.\n"
@@ -86,7 +88,7 @@ def status_of(words, program, folder):
             environment[f"TABLEBUILDER_{name}_PORT"] = str(told.first)
             return told
 
-        environment = dict(os.environ)
+        environment = {**os.environ, "TABLEBUILDER_PROGRAM": program}
         server("TWO_WORKERS", "0", 2)
         server("THRESHOLD", "2", 1)
         server("NEW", "0", 1)

@@ -1,9 +1,10 @@
 // Batches that are put, and the calls of the disk that it takes.
 
-use super::running::{Ended, left_by, read_file};
+use super::running::{Ended, left_by, put_adds, read_file};
 use std::alloc::Global;
 use std::test::Fail;
 use tb_base::Memory;
+use tb_journal::Put;
 
 // How the reading of a file ends that is made by two runs, one of two batches and one of a third.
 fn read_two_runs(alloc: Global) -> Result<(Ended, Vec<u32>), Memory> {
@@ -51,6 +52,25 @@ fn batches_are_read_again(rt: HostRuntime) -> Result<(), Fail> {
 #[test]
 fn a_batch_takes_two_writes_and_two_syncs(rt: HostRuntime) -> Result<(), Fail> {
     assert!(rt; takes_four_calls(rt.alloc())?);
+    Ok(())
+}
+
+// An add takes 15 bytes, beside 8 of the journal, 9 for the record's head and 1 behind it.
+#[test]
+fn a_batch_of_ten_thousand_adds(rt: HostRuntime) -> Result<(), Fail> {
+    assert_eq!(rt; put_adds(rt.alloc(), 10_000)?, (Put::Kept, 150_018));
+    Ok(())
+}
+
+// How many of so many batches are kept.
+fn count_kept(alloc: Global, count: u32) -> Result<u32, Memory> {
+    let left = left_by(alloc, &[], &[], 1, count)?;
+    Ok(left.kept)
+}
+
+#[test]
+fn ten_thousand_puts(rt: HostRuntime) -> Result<(), Fail> {
+    assert_eq!(rt; count_kept(rt.alloc(), 10_000)?, 10_000);
     Ok(())
 }
 

@@ -1,15 +1,15 @@
 // Journals over disks in memory.
 
-ghost use Rattle.std.specs.Prelude.{◌≡◌, ◌≤◌, ◌<◌, [], ◌∷◌, true, IfOk, IfSome};
+ghost use Rattle.std.specs.Prelude.{◌≡◌, ◌≤◌, ◌<◌, [], ◌∷◌, true, IfOk, IfSome, OnOk, All};
 ghost use Rattle.tb_mem_disk.specs.HeldDisk.{HeldDisk};
 ghost use Rattle.tb_journal.specs.States.{JournalState};
 ghost use Rattle.tb_journal.specs.declared.journal.Put.TheVariants as put_kind;
-ghost use Rattle.tb_spelling.specs.Payloads.{CanBeSpelled};
+ghost use Rattle.tb_spelling.specs.Payloads.{CanBeSpelled, CanBeWritten};
 ghost use Rattle.tb_journal_tests.specs.declared.running.TheConstants.{MOST_BATCHES};
 ghost use Rattle.tb_journal_tests.specs.Ready.{IsReady};
 
 use std::alloc::Global;
-use tb_base::Memory;
+use tb_base::{Codes, Memory};
 use tb_disk::{Disk, Done};
 use tb_journal::{Journal, JournalOpen, Put, Recovered};
 use tb_mem_disk::MemDisk;
@@ -111,6 +111,33 @@ fn put_drop(
     Ok(journal.put(alloc, disk, &edits))
 }
 
+// Holds one more edit, which adds a person.
+fn push_add(alloc: Global, edits: &mut Edits, person: u32) -> Result<(), Memory>
+    requires { All CanBeWritten edits.old }
+    ensures { OnOk result (All CanBeWritten edits.new) }
+{
+    let codes = Codes::of(alloc, &[0, 1, 2])?;
+    match edits.push(Edit::Add {
+        person,
+        key: 9,
+        codes,
+    }) {
+        Ok(()) => Ok(()),
+        Err(_) => Err(Memory),
+    }
+}
+
+// Edits that add so many persons, from 1 on, each with three codes.
+fn adding(alloc: Global, count: u32) -> Result<Edits, Memory>
+    ensures { IfOk result (All CanBeWritten) }
+{
+    let mut edits = Edits::new(alloc);
+    for i in 0..count {
+        push_add(alloc, &mut edits, i.saturating_add(1))?;
+    }
+    Ok(edits)
+}
+
 // Opens the journal in a disk's file, and reads it to its end.
 fn open_at_end(alloc: Global, disk: &mut MemDisk) -> Result<Journal, Memory>
     requires { disk.old.attached ≡ true }
@@ -141,6 +168,26 @@ fn put_all(alloc: Global, disk: &mut MemDisk, first: u32, count: u32) -> Result<
         }
     }
     Ok(count)
+}
+
+// Puts a batch into the journal in a disk's file.
+fn put_batch(alloc: Global, disk: &mut MemDisk, edits: &Edits) -> Result<Put, Memory>
+    requires attached { disk.old.attached ≡ true }
+    requires written { All CanBeWritten edits.now }
+{
+    let mut journal = open_at_end(alloc, disk)?;
+    if edits.len() == 0 || !journal.live() || !journal.at_end() {
+        return Ok(Put::DiskFault);
+    }
+    Ok(journal.put(alloc, disk, edits))
+}
+
+// How a batch of so many adds is put into an empty file, and how many bytes that then has.
+pub fn put_adds(alloc: Global, count: u32) -> Result<(Put, usize), Memory> {
+    let edits = adding(alloc, count)?;
+    let mut disk = disk_of(alloc, &[], &[])?;
+    let put = put_batch(alloc, &mut disk, &edits)?;
+    Ok((put, disk.bytes().len()))
 }
 
 // What a run left: the file, how many batches were kept, and which of the calls were syncs.

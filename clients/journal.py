@@ -1,0 +1,438 @@
+#!/usr/bin/env python3
+"""Prints the batches of a journal as the custodian's lines, and copies a journal.
+
+    journal.py print CLASSES JOURNAL
+    journal.py copy JOURNAL TO
+
+`print` writes for each batch the line `# batch N`, N from 1, a line for each edit, and `publish`.
+With `custodian ` in front of each line that is a script, and as it is a session at the custodian's
+port: from release 0 of the files that the journal belongs to it publishes the same batches again.
+CLASSES is the classification among these, since a journal names variables and categories by number.
+
+`copy` writes to the file TO what the journal stands for. A program may put batches into the journal
+meanwhile: each record is taken whole, and one that comes later is left out. TO is put in its place
+when it is whole and on the disk, so that a stop leaves what was there before.
+
+A file that isn't a journal, a record that is bad and a batch that doesn't fit CLASSES are told on
+the standard error, the last two with their number, and the status is 1: `print` has then printed
+the batches before that one, and `copy` has left TO as it was. Other scripts may import this file.
+It needs Python 3.9 or later and the standard library alone.
+"""
+
+from __future__ import annotations
+
+import csv
+import io
+import os
+import shutil
+import struct
+import sys
+from dataclasses import dataclass
+from typing import BinaryIO, Iterator, NamedTuple, NoReturn, Union
+
+__all__ = [
+    "Add",
+    "Amend",
+    "BadClasses",
+    "BadRecord",
+    "Classes",
+    "DoesNotFit",
+    "Drop",
+    "Edit",
+    "Error",
+    "NotJournal",
+    "Pvalue",
+    "Threshold",
+    "batches",
+    "copy",
+    "lines",
+    "read_classes",
+    "records",
+]
+
+HEADER = b"TBJOURN1"
+OPEN, SHUT = b"\x01", b"\x00"
+MOST_PAYLOAD_BYTES, MOST_EDITS = 4_000_000, 10_000
+LARGEST_ROW, LARGEST_PVALUE, LARGEST_THRESHOLD = 750, 1_000, 1_000_000
+SMALL_KEYS, LARGE_KEYS = 256, 4096
+
+
+class Error(Exception):
+    """What the functions of this file raise, beside OSError."""
+
+
+class NotJournal(Error):
+    """The file has more bytes than a journal's first and a gate, and begins otherwise."""
+
+
+class BadClasses(Error):
+    """The file of the classification can't be read as one."""
+
+
+class _AtRecord(Error):
+    """Attributes: `number`, the record's, from 1; `why`."""
+
+    def __init__(self, number: int, why: str) -> None:
+        super().__init__(f"record {number}: {why}")
+        self.number, self.why = number, why
+
+
+class BadRecord(_AtRecord):
+    """A record whose gate is open isn't whole, or isn't one of edits."""
+
+
+class DoesNotFit(_AtRecord):
+    """A record has an edit that no line of the custodian says under this classification."""
+
+
+@dataclass(frozen=True)
+class Add:
+    """A person is added, with the number of a category of each variable."""
+
+    person: int
+    record_key: int
+    categories: tuple[int, ...]
+
+
+@dataclass(frozen=True)
+class Drop:
+    """A person leaves."""
+
+    person: int
+
+
+@dataclass(frozen=True)
+class Amend:
+    """A person gets other categories. A setting is a variable's number and its category's."""
+
+    person: int
+    settings: tuple[tuple[int, int], ...]
+
+
+@dataclass(frozen=True)
+class Pvalue:
+    """The pvalue at a row and a cell key of the perturbation table is set."""
+
+    row: int
+    cell_key: int
+    pvalue: int
+
+
+@dataclass(frozen=True)
+class Threshold:
+    """The threshold is set."""
+
+    threshold: int
+
+
+Edit = Union[Add, Drop, Amend, Pvalue, Threshold]
+
+
+# ---- the records of a journal
+
+
+def records(file: BinaryIO) -> Iterator[bytes]:
+    """The payloads of a journal's records, in order, from a file that is read from its start.
+
+    A gate is read before what stands behind it. A program opens a gate when its record is whole, so
+    it may put further records meanwhile.
+
+    Raises
+    ------
+    NotJournal
+        Where more than nine bytes don't begin as a journal does. A file of fewer is one without
+        records, since a stop may leave any where a journal is made.
+    BadRecord
+        At a record whose gate is open and which doesn't lie in the file, with the gate behind it,
+        or whose payload is longer than any is.
+    """
+    start = file.read(len(HEADER) + 2)
+    if len(start) < len(HEADER) + 2:
+        return
+    if not start.startswith(HEADER):
+        raise NotJournal("the file isn't a journal")
+    file.seek(len(HEADER))
+    number, gate = 1, file.read(1)
+    while gate == OPEN:
+        length = file.read(4)
+        size = int.from_bytes(length, "big")
+        if len(length) == 4 and size > MOST_PAYLOAD_BYTES:
+            raise BadRecord(number, f"its payload has more than {MOST_PAYLOAD_BYTES:,} bytes")
+        payload = file.read(size)
+        gate = file.read(1)
+        if not gate:
+            raise BadRecord(number, "it is cut off")
+        yield payload
+        number += 1
+
+
+class _Fields:
+    """Takes numbers off the front of a payload."""
+
+    def __init__(self, payload: bytes) -> None:
+        self.payload, self.place = payload, 0
+
+    def take(self, form: str) -> tuple[int, ...]:
+        try:
+            numbers = struct.unpack_from(f">{form}", self.payload, self.place)
+        except struct.error as fault:
+            raise ValueError("an edit is cut off") from fault
+        self.place += struct.calcsize(f">{form}")
+        return numbers
+
+    def is_empty(self) -> bool:
+        return self.place == len(self.payload)
+
+
+def _edits(payload: bytes) -> list[Edit]:
+    """The edits that have this payload. ValueError, with what is wrong, where none have."""
+    fields = _Fields(payload)
+    (count,) = fields.take("I")
+    if not 1 <= count <= MOST_EDITS:
+        raise ValueError(f"it has {count} edits")
+    edits = [_edit(fields) for _ in range(count)]
+    if not fields.is_empty():
+        raise ValueError("bytes stand behind its last edit")
+    return edits
+
+
+def _edit(fields: _Fields) -> Edit:
+    (kind,) = fields.take("B")
+    if kind == 1:
+        person, key, count = fields.take("IHH")
+        return Add(person, key, fields.take(f"{count}H"))
+    if kind == 2:
+        return Drop(*fields.take("I"))
+    if kind == 3:
+        person, count = fields.take("IH")
+        settings = tuple(fields.take("HH") for _ in range(count))
+        if not settings:
+            raise ValueError("an amend sets nothing")
+        if len(dict(settings)) < count:
+            raise ValueError("an amend sets a variable twice")
+        return Amend(person, settings)
+    if kind == 4:
+        return Pvalue(*fields.take("HHh"))
+    if kind == 5:
+        return Threshold(*fields.take("I"))
+    raise ValueError(f"it has an edit of kind {kind}")
+
+
+def _batches(file: BinaryIO) -> Iterator[tuple[bytes, list[Edit]]]:
+    """The payloads of a journal, and the edits of each."""
+    for number, payload in enumerate(records(file), 1):
+        try:
+            edits = _edits(payload)
+        except ValueError as fault:
+            raise BadRecord(number, str(fault)) from fault
+        yield payload, edits
+
+
+def batches(path: str) -> Iterator[list[Edit]]:
+    """The edits of each batch of a journal, in order, each batch as it is read.
+
+    Raises
+    ------
+    NotJournal, BadRecord
+        As `records`, and `BadRecord` also where a payload is that of no edits.
+    """
+    with open(path, "rb") as file:
+        for _, edits in _batches(file):
+            yield edits
+
+
+# ---- the classification
+
+
+class Classes(NamedTuple):
+    """The variables of a classification with their codes, in order, and the key range."""
+
+    variables: list[tuple[str, list[str]]]
+    keys: int
+
+    def setting(self, variable: int, category: int) -> str:
+        """`VAR=CODE`. ValueError where there is no such variable or category."""
+        if variable >= len(self.variables):
+            raise ValueError(f"there is no variable {variable}")
+        name, codes = self.variables[variable]
+        if category >= len(codes):
+            raise ValueError(f"{name} has no category {category}")
+        return f"{name}={codes[category]}"
+
+
+def read_classes(path: str) -> Classes:
+    """The classification in a file that the program accepts.
+
+    Raises
+    ------
+    BadClasses
+        Where it lacks a column or has one twice, a record has not as many fields as the header, or
+        one that should doesn't state the key range. What else the program refuses isn't looked for.
+    """
+    with open(path, "rb") as file:
+        data = file.read()
+    # (labels may have other letters than ASCII, and none is printed)
+    text = data.removeprefix(b"\xef\xbb\xbf").decode("latin-1")
+    try:
+        header, *rows = [row for row in csv.reader(io.StringIO(text, newline="")) if row] or [[]]
+    except csv.Error as fault:
+        raise BadClasses(str(fault)) from fault
+    columns = ("variable", "code", "label")
+    if any(header.count(column) != 1 for column in columns):
+        raise BadClasses("it lacks one of the columns variable, code, label, or has it twice")
+    places = [header.index(column) for column in columns]
+    codes: dict[str, list[str]] = {}
+    keys = SMALL_KEYS
+    for number, row in enumerate(rows, 1):
+        if len(row) != len(header):
+            raise BadClasses(f"record {number} has not as many fields as the header")
+        variable, code, label = (row[place] for place in places)
+        if variable != "*":
+            codes.setdefault(variable, []).append(code)
+        elif (number, code) == (1, "keys") and label in (str(SMALL_KEYS), str(LARGE_KEYS)):
+            keys = int(label)
+        else:
+            raise BadClasses(f"record {number} doesn't state the key range")
+    return Classes(list(codes.items()), keys)
+
+
+# ---- the custodian's lines
+
+
+def lines(number: int, edits: list[Edit], classes: Classes) -> list[str]:
+    """The lines of the batch of that number, without line feeds.
+
+    Raises
+    ------
+    DoesNotFit
+        Where a number of an edit is out of the range that the custodian's line allows.
+    """
+    try:
+        return [f"# batch {number}", *(_line(edit, classes) for edit in edits), "publish"]
+    except ValueError as fault:
+        raise DoesNotFit(number, str(fault)) from fault
+
+
+def _line(edit: Edit, classes: Classes) -> str:
+    if isinstance(edit, Add):
+        if len(edit.categories) != len(classes.variables):
+            raise ValueError(f"an add has {len(edit.categories)} codes")
+        settings = map(classes.setting, range(len(edit.categories)), edit.categories)
+        return " ".join([f"add {_person(edit)} {_key(edit.record_key, classes)}", *settings])
+    if isinstance(edit, Drop):
+        return f"drop {_person(edit)}"
+    if isinstance(edit, Amend):
+        settings = (classes.setting(*setting) for setting in edit.settings)
+        return " ".join([f"amend {_person(edit)}", *settings])
+    if isinstance(edit, Pvalue):
+        if not 1 <= edit.row <= LARGEST_ROW:
+            raise ValueError(f"there is no row {edit.row}")
+        if not -edit.row <= edit.pvalue <= LARGEST_PVALUE:
+            raise ValueError(f"a pvalue of row {edit.row} is {edit.pvalue}")
+        return f"pvalue {edit.row} {_key(edit.cell_key, classes)} {edit.pvalue}"
+    if edit.threshold > LARGEST_THRESHOLD:
+        raise ValueError(f"a threshold is {edit.threshold}")
+    return f"threshold {edit.threshold}"
+
+
+def _person(edit: Union[Add, Drop, Amend]) -> int:
+    if edit.person == 0:
+        raise ValueError("a person is 0")
+    return edit.person
+
+
+def _key(key: int, classes: Classes) -> int:
+    if key >= classes.keys:
+        raise ValueError(f"a key is {key}, and the key range {classes.keys}")
+    return key
+
+
+# ---- copying
+
+
+def copy(path: str, to: str) -> int:
+    """Copies a journal record by record, and returns how many batches the copy has.
+
+    Raises
+    ------
+    NotJournal, BadRecord
+        As `batches`. The file `to` is then as it was, and so it is after an OSError.
+    """
+    if os.path.exists(to) and os.path.samefile(path, to):
+        raise Error("a journal isn't copied to itself")
+    part, count = f"{to}.part", 0
+    try:
+        with open(path, "rb") as file, open(part, "wb", opener=_private_file) as out:
+            shutil.copymode(path, part)
+            out.write(HEADER)
+            for payload, _ in _batches(file):
+                out.write(OPEN + len(payload).to_bytes(4, "big") + payload)
+                count += 1
+            out.write(SHUT)
+            out.flush()
+            os.fsync(out.fileno())
+        os.replace(part, to)
+    except BaseException:
+        if os.path.exists(part):
+            os.remove(part)
+        raise
+    _sync_folder(os.path.dirname(os.path.abspath(to)))
+    return count
+
+
+def _private_file(path: str, flags: int) -> int:
+    """A file that nobody else may read, where it is new."""
+    return os.open(path, flags, 0o600)
+
+
+def _sync_folder(folder: str) -> None:
+    """Puts a new name on the disk, where the system can."""
+    if hasattr(os, "O_DIRECTORY"):
+        opened = os.open(folder, os.O_RDONLY | os.O_DIRECTORY)
+        try:
+            os.fsync(opened)
+        finally:
+            os.close(opened)
+
+
+# ---- the command
+
+
+def _print(classes: str, journal: str) -> None:
+    classification = read_classes(classes)
+    for number, edits in enumerate(batches(journal), 1):
+        print("\n".join(lines(number, edits, classification)))
+    sys.stdout.flush()
+
+
+def _stop(*words: object) -> NoReturn:
+    sys.stdout.flush()
+    print(*words, sep=": ", file=sys.stderr)
+    sys.exit(1)
+
+
+def main(*words: str) -> None:
+    if len(words) != 3 or words[0] not in ("print", "copy"):
+        print(__doc__.split("\n\n")[1], file=sys.stderr)
+        sys.exit(2)
+    command, first, second = words
+    journal = second if command == "print" else first
+    try:
+        if command == "print":
+            _print(first, second)
+        else:
+            copy(first, second)
+    except BrokenPipeError:
+        # (who read the lines has gone, and the system would tell of it once more at the end)
+        os.dup2(os.open(os.devnull, os.O_WRONLY), sys.stdout.fileno())
+        sys.exit(1)
+    except BadClasses as fault:
+        _stop(first, fault)
+    except Error as fault:
+        _stop(journal, fault)
+    except OSError as fault:
+        _stop(fault.filename or journal, fault.strerror)
+
+
+if __name__ == "__main__":
+    main(*sys.argv[1:])

@@ -1,0 +1,437 @@
+"""Tests of `journal.py`: over journals that stand here byte by byte, as the format's text says.
+
+`clients/run.py` starts them, with the program, examples/small and a server in the environment; the
+tests that need these are passed over where they aren't there.
+"""
+import contextlib
+import io
+import os
+import socket
+import subprocess
+import sys
+import tempfile
+import threading
+import unittest
+
+import journal
+from journal import Add, Amend, BadRecord, Drop, NotJournal, Pvalue, Threshold
+
+SMALL = os.path.join(os.path.dirname(os.path.abspath(__file__)), "../examples/small")
+PROGRAM = os.environ.get("TABLEBUILDER_PROGRAM")
+PORT = os.environ.get("TABLEBUILDER_NEW_PORT")
+
+CLASSES = b"variable,code,label\nSEX,1,Male\nSEX,2,Female\nAGE,0-15,a\nAGE,16-64,b\nAGE,65+,c\n"
+LARGE_CLASSES = CLASSES.replace(b"label\n", b"label\n*,keys,4096\n")
+
+HEADER = bytes.fromhex("54 42 4a 4f 55 52 4e 31")
+GATE = bytes.fromhex("00")
+# One edit of each kind, and its line.
+KINDS = [
+    ("01 000000c8 0009 0002 0001 0002", Add(200, 9, (1, 2)), "add 200 9 SEX=2 AGE=65+"),
+    ("02 00000068", Drop(104), "drop 104"),
+    ("02 ffffffff", Drop(4294967295), "drop 4294967295"),
+    ("03 00000068 0001 0000 0000", Amend(104, ((0, 0),)), "amend 104 SEX=1"),
+    (
+        "03 00000068 0002 0001 0002 0000 0001",
+        Amend(104, ((1, 2), (0, 1))),
+        "amend 104 AGE=65+ SEX=2",
+    ),
+    ("04 0003 0040 fffe", Pvalue(3, 64, -2), "pvalue 3 64 -2"),
+    ("04 02ee 00ff 03e8", Pvalue(750, 255, 1000), "pvalue 750 255 1000"),
+    ("04 02ee 0000 fd12", Pvalue(750, 0, -750), "pvalue 750 0 -750"),
+    ("05 00000003", Threshold(3), "threshold 3"),
+    ("05 000f4240", Threshold(1_000_000), "threshold 1000000"),
+]
+# Edits that the format has and no line of the custodian says, and what is told of each.
+UNFIT = [
+    ("02 00000000", "a person is 0"),
+    ("01 00000000 0009 0002 0001 0002", "a person is 0"),
+    ("03 00000000 0001 0000 0000", "a person is 0"),
+    ("01 000000c8 0009 0001 0001", "an add has 1 codes"),
+    ("01 000000c8 0009 0003 0001 0002 0000", "an add has 3 codes"),
+    ("01 000000c8 0009 0002 0002 0002", "SEX has no category 2"),
+    ("03 00000068 0001 0001 0003", "AGE has no category 3"),
+    ("03 00000068 0001 0002 0000", "there is no variable 2"),
+    ("04 0000 0040 0000", "there is no row 0"),
+    ("04 02ef 0040 0000", "there is no row 751"),
+    ("04 0003 0040 fffc", "a pvalue of row 3 is -4"),
+    ("04 0003 0040 03e9", "a pvalue of row 3 is 1001"),
+    ("05 000f4241", "a threshold is 1000001"),
+]
+# Edits with keys that only the larger range has, and those that none has.
+LARGE_KEYS = [
+    ("01 000000c8 0100 0002 0001 0002", "add 200 256 SEX=2 AGE=65+"),
+    ("01 000000c8 0fff 0002 0001 0002", "add 200 4095 SEX=2 AGE=65+"),
+    ("04 0003 0fff 0001", "pvalue 3 4095 1"),
+]
+TOO_LARGE_KEYS = ["01 000000c8 1000 0002 0001 0002", "04 0003 1000 0001"]
+# Payloads of no edits, and what is told of each.
+BAD_PAYLOADS = [
+    ("00000000", "it has 0 edits"),
+    ("", "an edit is cut off"),
+    ("00000001", "an edit is cut off"),
+    ("00000001 00 00000068", "it has an edit of kind 0"),
+    ("00000001 06 00000068", "it has an edit of kind 6"),
+    ("00000002 02 00000068", "an edit is cut off"),
+    ("00000001 02 00000068 02 00000067", "bytes stand behind its last edit"),
+    ("00000001 01 000000c8 0009 0002 0000 0001 0002", "bytes stand behind its last edit"),
+    ("00000001 03 00000068 0000", "an amend sets nothing"),
+    ("00000001 03 00000068 0002 0001 0001 0001 0000", "an amend sets a variable twice"),
+]
+
+
+def record(payload):
+    return b"\x01" + len(payload).to_bytes(4, "big") + payload
+
+
+def journal_of(*payloads):
+    return HEADER + b"".join(map(record, payloads)) + GATE
+
+
+def payload_of(*edits):
+    return len(edits).to_bytes(4, "big") + b"".join(map(bytes.fromhex, edits))
+
+
+class Files(unittest.TestCase):
+    def setUp(self):
+        folder = tempfile.TemporaryDirectory()
+        self.addCleanup(folder.cleanup)
+        self.folder = folder.name
+        self.classes = self.write("classes.csv", CLASSES)
+
+    def write(self, name, data):
+        path = os.path.join(self.folder, name)
+        with open(path, "wb") as file:
+            file.write(data)
+        return path
+
+    def read(self, name):
+        with open(os.path.join(self.folder, name), "rb") as file:
+            return file.read()
+
+    def run_it(self, *words):
+        """The status, the standard output and the standard error."""
+        with contextlib.redirect_stdout(io.StringIO()) as out:
+            with contextlib.redirect_stderr(io.StringIO()) as told:
+                try:
+                    status = journal.main(*words) or 0
+                except SystemExit as ended:
+                    status = ended.code
+        return status, out.getvalue(), told.getvalue()
+
+    def assertPrinted(self, data, batches, fault=None):
+        """The lines of each batch are printed, and then that fault is told."""
+        path = self.write("journal", data)
+        text = "".join(
+            f"# batch {number}\n" + "".join(line + "\n" for line in lines) + "publish\n"
+            for number, lines in enumerate(batches, 1)
+        )
+        told = f"{path}: {fault}\n" if fault else ""
+        wanted = (1 if fault else 0, text, told)
+        self.assertEqual(self.run_it("print", self.classes, path), wanted)
+
+
+class Printing(Files):
+    def test_one_batch(self):
+        data = bytes.fromhex("54424a4f55524e31 01 00000009 00000001 02 00000068 00")
+        self.assertEqual(len(data), 23)
+        self.assertPrinted(data, [["drop 104"]])
+
+    def test_as_a_program(self):
+        path = self.write("journal", journal_of(payload_of("02 00000068"), b""))
+        words = [sys.executable, "-B", journal.__file__, "print", self.classes, path]
+        done = subprocess.run(words, capture_output=True, timeout=60, check=False)
+        self.assertEqual(done.returncode, 1)
+        self.assertEqual(done.stdout, b"# batch 1\ndrop 104\npublish\n")
+        self.assertEqual(done.stderr.decode(), f"{path}: record 2: an edit is cut off\n")
+        words[3:] = ["copy", path, f"{path}.copy"]
+        done = subprocess.run(words, capture_output=True, timeout=60, check=False)
+        self.assertEqual((done.returncode, done.stdout), (1, b""))
+
+    def test_a_reader_that_goes_away(self):
+        path = self.write("journal", journal_of(*[payload_of(*["02 00000068"] * 10_000)] * 20))
+        words = [sys.executable, "-B", journal.__file__, "print", self.classes, path]
+        with subprocess.Popen(words, stdout=subprocess.PIPE, stderr=subprocess.PIPE) as process:
+            self.assertEqual(process.stdout.readline(), b"# batch 1\n")
+            process.stdout.close()
+            self.assertEqual((process.wait(60), process.stderr.read()), (1, b""))
+
+    def test_each_kind_of_edit(self):
+        codes, edits, lines = zip(*KINDS)
+        self.assertPrinted(journal_of(payload_of(*codes)), [list(lines)])
+        self.assertPrinted(journal_of(*map(payload_of, codes)), [[line] for line in lines])
+        path = self.write("journal", journal_of(payload_of(*codes), payload_of(codes[0])))
+        self.assertEqual(list(journal.batches(path)), [list(edits), [edits[0]]])
+
+    def test_edits_that_fit_no_line(self):
+        for code, why in UNFIT:
+            with self.subTest(code):
+                data = journal_of(payload_of("02 00000068"), payload_of("02 00000067", code))
+                self.assertPrinted(data, [["drop 104"]], f"record 2: {why}")
+
+    def test_both_key_ranges(self):
+        for code, line in LARGE_KEYS:
+            key = line.split()[2]
+            with self.subTest(code):
+                data = journal_of(payload_of(code))
+                self.classes = self.write("classes.csv", CLASSES)
+                told = f"record 1: a key is {key}, and the key range 256"
+                self.assertPrinted(data, [], told)
+                self.classes = self.write("classes.csv", LARGE_CLASSES)
+                self.assertPrinted(data, [[line]])
+        for code in TOO_LARGE_KEYS:
+            with self.subTest(code):
+                told = "record 1: a key is 4096, and the key range 4096"
+                self.assertPrinted(journal_of(payload_of(code)), [], told)
+
+    def test_most_edits(self):
+        drops = [f"02 {person:08x}" for person in range(1, 10_002)]
+        lines = [f"drop {person}" for person in range(1, 10_001)]
+        self.assertPrinted(journal_of(payload_of(*drops[:-1])), [lines])
+        told = "record 1: it has 10001 edits"
+        self.assertPrinted(journal_of(payload_of(*drops)), [], told)
+
+    def test_the_longest_payload(self):
+        # 4 bytes, 30 adds of 131,079, one of 67,621, and a drop of 5.
+        add = "01 00000007 0009 {:04x}" + " 0000" * 65_535
+        last = "01 00000007 0009 840e" + " 0000" * 33_806
+        payload = payload_of(*[add.format(65_535)] * 30, last, "02 00000001")
+        self.assertEqual(len(payload), 4_000_000)
+        path = self.write("journal", journal_of(payload))
+        (edits,) = journal.batches(path)
+        self.assertEqual((len(edits), edits[-1]), (32, Drop(1)))
+        told = "record 1: its payload has more than 4,000,000 bytes"
+        self.assertPrinted(journal_of(payload + b"\0"), [], told)
+        self.assertPrinted(HEADER + bytes.fromhex("01 003d0901"), [], told)
+
+    def test_codes_as_they_stand_in_the_classification(self):
+        data = journal_of(payload_of("01 000000c8 0009 0002 0001 0000"))
+        rows = [
+            b'\xef\xbb\xbflabel,code,other,variable\r\n"North, ""N""\r\n1",table,x,B_2\r\n',
+            b"\xc3\x84,-,x,A\r\r\n,a+.b,x,B_2\nTotals,Total1,x,A",
+        ]
+        self.classes = self.write("classes.csv", b"".join(rows))
+        self.assertPrinted(data, [["add 200 9 B_2=a+.b A=-"]])
+
+    def test_a_classification_that_is_none(self):
+        path = self.write("journal", journal_of(payload_of("02 00000068")))
+        columns = "it lacks one of the columns variable, code, label, or has it twice"
+        for data, why in [
+            (b"", columns),
+            (b"variable,code\nSEX,1\n", columns),
+            (b"variable,code,label,code\nSEX,1,Male,1\n", columns),
+            (b"variable,code,label\nSEX,1\n", "record 1 has not as many fields as the header"),
+            (b"variable,code,label\n*,keys,512\n", "record 1 doesn't state the key range"),
+            (CLASSES + b"*,keys,4096\n", "record 6 doesn't state the key range"),
+        ]:
+            with self.subTest(data):
+                classes = self.write("classes.csv", data)
+                wanted = (1, "", f"{classes}: {why}\n")
+                self.assertEqual(self.run_it("print", classes, path), wanted)
+
+    def test_files_that_are_not_there(self):
+        for words in (["print", self.classes, "/no/such"], ["print", "/no/such", self.classes]):
+            self.assertEqual(self.run_it(*words), (1, "", "/no/such: No such file or directory\n"))
+
+    def test_other_words(self):
+        for words in ([], ["print", "a"], ["copy", "a", "b", "c"], ["list", "a", "b"]):
+            status, out, told = self.run_it(*words)
+            self.assertEqual((status, out), (2, ""))
+            self.assertIn("journal.py print CLASSES JOURNAL", told)
+
+
+class Faults(Files):
+    def test_files_that_are_no_journals(self):
+        for data in (b"0123456789", b"TBJOURN2\0\0", b"tbjourn1\0\0", b"TBJOURN\n1\0"):
+            self.assertPrinted(data, [], "the file isn't a journal")
+            with self.assertRaises(NotJournal):
+                list(journal.batches(self.write("journal", data)))
+
+    def test_at_most_nine_bytes_have_no_batch(self):
+        for data in (b"", b"TBJOU", HEADER, HEADER + b"\0", HEADER + b"\1", b"012345678"):
+            self.assertPrinted(data, [])
+
+    def test_a_gate_that_is_not_open_ends_it(self):
+        first, second = payload_of("02 00000068"), payload_of("02 00000067")
+        for gate in (0, 2, 255):
+            end = bytes([gate]) + record(second)[1:] + GATE
+            self.assertPrinted(HEADER + end, [])
+            self.assertPrinted(HEADER + record(first) + end, [["drop 104"]])
+
+    def test_payloads_of_no_edits(self):
+        first = payload_of("02 00000068")
+        for code, why in BAD_PAYLOADS:
+            with self.subTest(code):
+                payload = bytes.fromhex(code)
+                self.assertPrinted(journal_of(payload, first), [], f"record 1: {why}")
+                told = f"record 2: {why}"
+                self.assertPrinted(journal_of(first, payload, first), [["drop 104"]], told)
+
+    def test_each_kind_of_edit_cut_and_with_a_byte_more(self):
+        for code, _, _ in KINDS:
+            payload = payload_of(code)
+            for size in range(len(payload)):
+                with self.subTest(code, size=size):
+                    path = self.write("journal", journal_of(payload[:size]))
+                    with self.assertRaises(BadRecord) as raised:
+                        list(journal.batches(path))
+                    self.assertEqual(raised.exception.number, 1)
+            told = "record 1: bytes stand behind its last edit"
+            self.assertPrinted(journal_of(payload + b"\0"), [], told)
+
+    def test_a_length_that_leads_past_the_file(self):
+        whole = journal_of(payload_of("02 00000068"))
+        for length in ("0000000a", "003d0900"):
+            data = whole[:9] + bytes.fromhex(length) + whole[13:]
+            self.assertPrinted(data, [], "record 1: it is cut off")
+        told = "record 1: its payload has more than 4,000,000 bytes"
+        self.assertPrinted(whole[:9] + b"\xff\xff\xff\xff" + whole[13:], [], told)
+
+    def test_two_batches_cut_after_each_byte(self):
+        codes, _, lines = zip(*KINDS)
+        whole = journal_of(payload_of(*codes), payload_of(codes[1]))
+        # (behind the first record stands the gate of the second)
+        second = len(HEADER + record(payload_of(*codes)))
+        for size in range(len(whole) + 1):
+            with self.subTest(size=size):
+                path = self.write("journal", whole[:size])
+                count, bad = 0, None
+                try:
+                    for count, _ in enumerate(journal.batches(path), 1):
+                        pass
+                except BadRecord as fault:
+                    bad = fault.number
+                if size <= 9:
+                    self.assertEqual((count, bad), (0, None))
+                elif size <= second:
+                    self.assertEqual((count, bad), (0, 1))
+                elif size < len(whole):
+                    self.assertEqual((count, bad), (1, 2))
+                else:
+                    self.assertEqual((count, bad), (2, None))
+        self.assertPrinted(whole[:second], [], "record 1: it is cut off")
+        self.assertPrinted(whole[: second + 1], [list(lines)], "record 2: it is cut off")
+        self.assertPrinted(whole[:-1], [list(lines)], "record 2: it is cut off")
+
+
+class Copying(Files):
+    def assertCopied(self, data, wanted):
+        path, to = self.write("journal", data), os.path.join(self.folder, "copy")
+        self.assertEqual(self.run_it("copy", path, to), (0, "", ""))
+        self.assertEqual(self.read("copy"), wanted)
+        self.assertEqual(self.read("journal"), data)
+        self.assertNotIn("copy.part", os.listdir(self.folder))
+
+    def test_copies(self):
+        whole = journal_of(payload_of("02 00000068"), payload_of(*(code for code, _, _ in KINDS)))
+        self.assertCopied(whole, whole)
+        self.assertCopied(whole + b"behind a shut gate", whole)
+        self.assertCopied(whole[:-1] + b"\x02\x00", whole)
+        for few in (b"", b"TBJ", HEADER, b"012345678"):
+            self.assertCopied(few, HEADER + GATE)
+
+    def test_a_bad_journal_leaves_what_was_there(self):
+        whole = journal_of(payload_of("02 00000068"), payload_of("02 00000067"))
+        to = self.write("copy", b"as it was")
+        for data, why in [
+            (b"0123456789", "the file isn't a journal"),
+            (whole[:-1], "record 2: it is cut off"),
+            (journal_of(payload_of("02 00000068"), b""), "record 2: an edit is cut off"),
+        ]:
+            path = self.write("journal", data)
+            self.assertEqual(self.run_it("copy", path, to), (1, "", f"{path}: {why}\n"))
+            self.assertEqual(self.read("copy"), b"as it was")
+            self.assertNotIn("copy.part", os.listdir(self.folder))
+
+    def test_a_journal_is_not_copied_to_itself(self):
+        path = self.write("journal", journal_of(payload_of("02 00000068")))
+        told = f"{path}: a journal isn't copied to itself\n"
+        self.assertEqual(self.run_it("copy", path, path), (1, "", told))
+        self.assertEqual(self.read("journal"), journal_of(payload_of("02 00000068")))
+
+    def test_a_folder_that_is_not_there(self):
+        path = self.write("journal", journal_of(payload_of("02 00000068")))
+        status, out, told = self.run_it("copy", path, "/no/such")
+        self.assertEqual((status, out), (1, ""))
+        self.assertTrue(told.startswith("/no/such"), told)
+
+    def test_beside_a_writer(self):
+        """Records are put meanwhile: first what stands behind the gate, and then the open gate."""
+        payloads = [
+            payload_of(*[f"02 {person:08x}"] * (1 + person * 7919 % 3_000))
+            for person in range(1, 301)
+        ]
+        path, to = self.write("journal", HEADER + GATE), os.path.join(self.folder, "copy")
+        is_done = threading.Event()
+
+        def put_all():
+            place = len(HEADER)
+            with open(path, "r+b", buffering=0) as file:
+                for payload in payloads:
+                    behind = record(payload)[1:] + GATE
+                    file.seek(place + 1)
+                    file.write(behind)
+                    file.seek(place)
+                    file.write(b"\x01")
+                    place += len(behind)
+            is_done.set()
+
+        writer = threading.Thread(target=put_all)
+        writer.start()
+        counts = []
+        while not is_done.is_set() or not counts:
+            counts.append(journal.copy(path, to))
+            self.assertEqual(self.read("copy"), journal_of(*payloads[: counts[-1]]))
+        writer.join()
+        self.assertEqual(journal.copy(path, to), len(payloads))
+        self.assertEqual(counts, sorted(counts))
+
+
+class Playing(Files):
+    """Over examples/small, with the program: what is printed publishes the same batches."""
+
+    BATCHES = [
+        ["02 00000068"],
+        [
+            # add 105 9 SEX=2 AGE=65+ AREA=E1
+            "01 00000069 0009 0003 0001 0002 0000",
+            # amend 101 SEX=2
+            "03 00000065 0001 0000 0001",
+            # pvalue 2 209 5
+            "04 0002 00d1 0005",
+        ],
+        ["05 00000003"],
+    ]
+    # SEX 1 has then 102 and 103, with the keys 100 and 20 (120: no pvalue); SEX 2 has 101 and 105,
+    # with 200 and 9 (209: the pvalue that was set). The threshold 3 hides the 2.
+    TABLE = ["release 3", "SEX,count", "1,c", "2,7", "."]
+    REPLIES = ["held 1", "published 1", "held 1", "held 2", "held 3", "published 2"]
+    REPLIES += ["held 1", "published 3"]
+
+    def printed(self):
+        path = self.write("journal", journal_of(*(payload_of(*batch) for batch in self.BATCHES)))
+        status, text, told = self.run_it("print", f"{SMALL}/classes.csv", path)
+        self.assertEqual((status, told), (0, ""))
+        return text.splitlines()
+
+    @unittest.skipUnless(PROGRAM, "no program is named")
+    def test_as_a_script(self):
+        lines = [f"custodian {line}\n" for line in self.printed()]
+        script = self.write("script", "".join([*lines, "a table SEX\n"]).encode())
+        files = [f"{SMALL}/{name}.csv" for name in ("classes", "recodes", "ptable", "people")]
+        words = [PROGRAM, "script", *files, "0", script]
+        done = subprocess.run(words, capture_output=True, timeout=60, check=False)
+        self.assertEqual(done.stdout.decode().splitlines(), self.REPLIES + self.TABLE)
+
+    @unittest.skipUnless(PORT, "no server is named")
+    def test_as_a_session(self):
+        text = "".join(f"{line}\n" for line in [*self.printed(), "table SEX"])
+        with socket.create_connection(("127.0.0.1", int(PORT)), timeout=60) as session:
+            session.sendall(text.encode())
+            session.shutdown(socket.SHUT_WR)
+            replies = session.makefile("r").read()
+        self.assertEqual(replies.splitlines(), self.REPLIES + self.TABLE)
+
+
+if __name__ == "__main__":
+    unittest.main()
