@@ -1,5 +1,5 @@
 -- The custodian's party before and after a line.
-use Rattle.std.proofs.Common.{◌≡◌, ap, subst, sym, refl, ℕ, ◌≤◌, List, [], ◌∷◌, ◌++◌, length, All, inl, inr}
+use Rattle.std.proofs.Common.{◌≡◌, ap, subst, sym, refl, ℕ, ◌≤◌, List, [], length, All, inl, inr}
 use Rattle.std.proofs.lemmas.List.Elements.{All-nil, All-push}
 use Rattle.tb_ahead.specs.Publishing.{StateValue, let_go}
 use Rattle.tb_board.specs.Starts.{StartValue}

@@ -1,5 +1,5 @@
 -- An edit that a line reads as can be written.
-use Rattle.std.proofs.Common.{◌≡◌, ◌∙◌, sym, refl, subst, ℕ, ◌==◌, ◌<◌, ◌≤◌, Bool, true, false, eqb, List, [], ◌∷◌, length, map, Option, Some, None, arith}
+use Rattle.std.proofs.Common.{◌≡◌, sym, refl, subst, ℕ, ◌==◌, ◌<◌, ◌≤◌, Bool, true, false, eqb, List, [], ◌∷◌, length, Option, Some, None, arith}
 use Rattle.std.specs.Prelude.{◌||◌, if◌then◌else◌, nat_eq, slice_index}
 use Rattle.std.specs.List.{AllByRecursion, IsDistinct, list_any}
 use Rattle.std.specs.Option.{is_some}
@@ -14,7 +14,7 @@ use Rattle.tb_revise.specs.declared.fault.EditTextFault.{EditTextFault}
 use Rattle.tb_revise.specs.declared.fault.EditTextFault.TheVariants as faults
 use Rattle.tb_revise.specs.Faults.{Reads, has_bad_number, has_unknown_code, has_unknown_name, refusal, sets_twice, settings_refusal}
 use Rattle.tb_revise.specs.Grammar.{HasEnough, HasSome, NamedSetting, NamedEdit, NamedAdd, NamedDrop, NamedAmend, NamedPvalue, NamedThreshold}
-use Rattle.tb_revise.specs.Meanings.{category_set, edit_meant, set_meant, sets_meant}
+use Rattle.tb_revise.specs.Meanings.{category_set, edit_meant, sets_meant}
 use Rattle.tb_revise.proofs.Fitting.{read_edits_fit}
 use Rattle.tb_spelling.specs.declared.limits.TheConstants.{MOST_PARTS}
 use Rattle.tb_spelling.specs.Payloads.{CanBeWritten, variables_set}

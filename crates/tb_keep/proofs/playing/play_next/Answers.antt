@@ -1,4 +1,4 @@
-use Rattle.std.proofs.Common.{ap, refl}
+use Rattle.std.proofs.Common.{ap}
 use Rattle.tb_journal.specs.States.{JournalState}
 use Rattle.tb_keep.proofs.playing.play_next.Goals as goal
 
@@ -11,6 +11,3 @@ returns-in-Published-clause-next g c = (
   ap (λ (j : JournalState). j.live) c.in-Batch.ensures.state,
   ap (λ (j : JournalState). j.at_end) c.in-Batch.ensures.state,
 )
-
-pub returns-in-Refused-clause-next : goal.returns-in-Refused-clause-next
-returns-in-Refused-clause-next g c = let told = c.in-Refused.ensures.followed in (told.1, refl, c.in-Batch.edits, told.0, c.in-Batch.ensures.told)
