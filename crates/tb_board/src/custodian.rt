@@ -1,5 +1,6 @@
 ghost use Rattle.std.specs.Prelude.{◌≡◌};
 ghost use Rattle.std.specs.Borrow.{sem};
+ghost use Rattle.tb_base.specs.Records.{AllFit};
 ghost use Rattle.tb_board.specs.Holders.{IsChainSeen};
 ghost use Rattle.tb_board.specs.Lends.{LendsPass};
 
@@ -55,6 +56,14 @@ impl Custodian {
         ensures { result ≡ self.now.release.number }
     {
         self.release.number()
+    }
+
+    /// Its current release, whose records fit its shape.
+    pub fn release(&self) -> &Release
+        ensures release { result.now ≡ self.now.release }
+        ensures fit { AllFit self.now.writer.start.shape result.now.records }
+    {
+        &self.release
     }
 
     /// Its pass, for turns of the board. Whoever lends it to one calls `Board::settle` afterwards.

@@ -99,7 +99,7 @@ fn asks_of_words(line: &[u8]) -> Asks
 }
 
 /// What a party's line asks for: an analyst's for a table alone.
-pub(crate) fn asks_of(role: Role, line: &[u8]) -> Asks
+pub fn asks_of(role: Role, line: &[u8]) -> Asks
     ensures asks { result ≡ asks.asks_of role line.now }
     ensures within { asks.IsWithin result }
 {

@@ -33,7 +33,7 @@ mod revise;
 mod sessions;
 
 pub use answering::answer;
-pub use asks::Asks;
+pub use asks::{Asks, asks_of};
 pub use confirming::{analyst_of, confirm, tell};
 pub use limits::FIRST_CAPACITY;
 pub use party::{Party, Role};

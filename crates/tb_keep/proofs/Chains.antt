@@ -1,0 +1,65 @@
+-- A custodian's chain is that of the batches for which its file stands.
+use Rattle.std.proofs.Common.{◌≡◌, ◌∙◌, sym, ap, refl, subst, ℕ, Bool, true, false, List, [], ◌∷◌, ◌++◌, inl, inr}
+use Rattle.tb_ahead.specs.Keeping.{IsKeptPublish, IsKeptStep, KeptState}
+use Rattle.tb_ahead.specs.Publishing.{StateValue}
+use Rattle.tb_lines.specs.Outputs.{Lead, ReplyValue}
+use Rattle.tb_model.specs.Releases.{ReleaseValue}
+use Rattle.tb_model.specs.Setups.{SetupValue}
+use Rattle.tb_release.specs.Batches.{BatchValue, batch_of}
+use Rattle.tb_release.specs.Chains.{after_batch, release_after}
+use Rattle.tb_release.specs.declared.edits.Edit.{Edit}
+use Rattle.tb_session.specs.Asks.{asks_of}
+use Rattle.tb_session.specs.Replies.{IsReplyTo}
+use Rattle.tb_session.specs.declared.asks.Asks.{Asks}
+use Rattle.tb_session.specs.declared.asks.Asks.TheVariants as asks
+use Rattle.tb_session.specs.declared.party.Role.TheVariants as role
+use Rattle.tb_keep.specs.Chains.{IsOwnKeptStep, IsTheirs, StaysTheirs, batches_of}
+use Rattle.tb_keep.specs.Owners.{IsOwnStep, asks_to_publish, is_publish}
+
+-- one batch more
+pub batches_of-more : (release : ReleaseValue) (bs : List (List Edit)) (edits : List Edit) → batches_of release (bs ++ edits ∷ []) ≡ batches_of release bs ++ batch_of (release_after release (batches_of release bs)) edits ∷ []
+batches_of-more release [] edits = refl
+batches_of-more release (b ∷ bs) edits = ap (λ (l : List BatchValue). batch_of release b ∷ l) (batches_of-more (after_batch release (batch_of release b)) bs edits)
+
+abbrev chain_of : StateValue → List BatchValue
+chain_of s = s.chain
+
+-- a reply to `publish`
+by-publish : (base : ReleaseValue) (old next : KeptState) (text : List ℕ) → IsKeptPublish (release_after base old.state.chain) old text next → IsTheirs base old → IsTheirs base next
+by-publish base old next text (counts, inl ((can, is, goes), live, still, batches)) theirs =
+    ap chain_of goes ∙ ap (λ (c : List BatchValue). c ++ batch_of (release_after base c) old.state.held ∷ []) theirs ∙ sym (batches_of-more base old.batches old.state.held) ∙ sym (ap (batches_of base) batches)
+by-publish base old next text (counts, inr (inl ((kind, edit, why, is, goes), (batches, further)))) theirs = ap chain_of goes ∙ theirs ∙ sym (ap (batches_of base) batches)
+by-publish base old next text (counts, inr (inr (inl (can, is, same, inl (closed, (batches, further)))))) theirs = ap chain_of same ∙ theirs ∙ sym (ap (batches_of base) batches)
+by-publish base old next text (counts, inr (inr (inl (can, is, same, inr (risen, (none, batches, further)))))) theirs = ap chain_of same ∙ theirs ∙ sym (ap (batches_of base) batches)
+by-publish base old next text (counts, inr (inr (inr (is, same, inl (batches, further))))) theirs = ap chain_of same ∙ theirs ∙ sym (ap (batches_of base) batches)
+by-publish base old next text (counts, inr (inr (inr (is, same, inr (can, (none, batches, further)))))) theirs = ap chain_of same ∙ theirs ∙ sym (ap (batches_of base) batches)
+
+-- a reply to another line
+same-chain : (what : Asks) (setup : SetupValue) (release : ReleaseValue) (state : StateValue) (line : List ℕ) (reply : ReplyValue) (next : StateValue) → is_publish what ≡ false
+    → IsReplyTo what setup release state line reply next → next.chain ≡ state.chain
+same-chain asks.Nothing setup release state line reply next h is = ap chain_of is.1
+same-chain asks.Table setup release state line reply next h is = ap chain_of is.1
+same-chain asks.Edit setup release state line reply next h is = is.1
+same-chain asks.Publish setup release state line reply next h is = absurd (cc)
+same-chain asks.Stats setup release state line reply next h is = ap chain_of is.2
+same-chain asks.Clear setup release state line reply next h is = ap chain_of is.1
+same-chain (asks.Cache capacity) setup release state line reply next h is = ap chain_of is.2
+
+own-chain : (setup : SetupValue) (base : ReleaseValue) (old : StateValue) (line : List ℕ) (reply : ReplyValue) (new : StateValue) → asks_to_publish line ≡ false → IsOwnStep setup base old line reply new → new.chain ≡ old.chain
+own-chain setup base old line reply new h (at, same, is) = same-chain (asks_of role.Custodian line) setup _ at line reply new h is ∙ ap chain_of same
+
+module _ (setup : SetupValue) (base : ReleaseValue) where
+  by-line : (asks : Bool) (old next : KeptState) (line : List ℕ) (reply : ReplyValue) → asks_to_publish line ≡ asks → IsKeptStep asks (IsOwnStep setup base) base old line reply next → IsTheirs base old → IsTheirs base next
+  by-line true old next line reply h step theirs = by-publish base old next reply.text step.1 theirs
+  by-line false old next line reply h step theirs =
+      own-chain setup base old.state line reply next.state h step.0 ∙ theirs ∙ sym (ap (λ (at : KeptState). batches_of base at.batches) step.1)
+
+  lines-keep : (first last : KeptState) (lines : List (List ℕ)) (replies : List ReplyValue) → Lead (IsOwnKeptStep setup base) first lines replies last → IsTheirs base first → IsTheirs base last
+  lines-keep first last [] [] h theirs = subst (IsTheirs base) (sym h) theirs
+  lines-keep first last [] (reply ∷ replies) h theirs = absurd h
+  lines-keep first last (line ∷ lines) [] h theirs = absurd h
+  lines-keep first last (line ∷ lines) (reply ∷ replies) (next, step, more) theirs =
+      lines-keep next last lines replies more (by-line (asks_to_publish line) first next line reply refl step theirs)
+
+pub stays_theirs : StaysTheirs
+stays_theirs setup base first last lines replies = lines-keep setup base first last lines replies

@@ -1,0 +1,4 @@
+mod Chains
+mod Owning
+mod Recovering
+mod Writable

@@ -1,0 +1,4 @@
+pub mod Chains
+pub mod OwnerLaws
+pub mod Owners
+pub mod Playing
