@@ -14,7 +14,7 @@ use Rattle.tb_session.specs.declared.asks.Asks.{Asks}
 use Rattle.tb_session.specs.declared.asks.Asks.TheVariants as asks
 use Rattle.tb_session.specs.declared.party.Role.TheVariants as role
 use Rattle.tb_keep.specs.Chains.{IsOwnKeptStep, IsTheirs, StaysTheirs, batches_of}
-use Rattle.tb_keep.specs.Owners.{IsOwnStep, asks_to_publish, is_publish}
+use Rattle.tb_keep.specs.Publishers.{IsOwnStep, asks_to_publish, is_publish}
 
 -- one batch more
 pub batches_of-more : (release : ReleaseValue) (bs : List (List Edit)) (edits : List Edit) → batches_of release (bs ++ edits ∷ []) ≡ batches_of release bs ++ batch_of (release_after release (batches_of release bs)) edits ∷ []

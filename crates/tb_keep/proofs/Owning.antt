@@ -22,7 +22,7 @@ use Rattle.tb_session.specs.declared.party.Role.{Role}
 use Rattle.tb_session.specs.declared.party.Role.TheVariants as role
 use Rattle.tb_spelling.specs.declared.limits.TheConstants.{MOST_PARTS}
 use Rattle.tb_spelling.specs.Payloads.{CanBeWritten}
-use Rattle.tb_keep.specs.Owners.{CanWriteAhead, IsOwnStep}
+use Rattle.tb_keep.specs.Publishers.{CanWriteAhead, IsOwnStep}
 use Rattle.tb_keep.proofs.Writable.{can_be_written}
 
 -- it is a party of the board

@@ -7,7 +7,7 @@ use Rattle.tb_model.specs.Setups.{SetupValue}
 use Rattle.tb_release.specs.Batches.{BatchValue, batch_of}
 use Rattle.tb_release.specs.Chains.{after_batch}
 use Rattle.tb_release.specs.declared.edits.Edit.{Edit}
-use Rattle.tb_keep.specs.Owners.{IsOwnStep, asks_to_publish}
+use Rattle.tb_keep.specs.Publishers.{IsOwnStep, asks_to_publish}
 
 -- the batches of lists of edits, each on the release to which those before it led
 abbrev pub batches_of : ReleaseValue → List (List Edit) → List BatchValue

@@ -1,4 +1,4 @@
 pub mod Chains
-pub mod OwnerLaws
-pub mod Owners
+pub mod PublisherLaws
+pub mod Publishers
 pub mod Playing

@@ -3,9 +3,9 @@
 //!
 //! It stands on `tb_ahead` (what is written ahead), `tb_journal` (where batches are read from) and
 //! `tb_session` (the custodian's lines), and below them on `tb_board`. Its contracts cite
-//! `specs/Owners` (the custodian's party, each of whose held edits can be written), `Chains` (the
-//! chain to which batches lead, each as the list of its edits) and `Playing` (how a journal is
-//! played). `OwnerLaws` has what the trait of such a party asks for.
+//! `specs/Publishers` (the custodian's party, each of whose held edits can be written), `Chains`
+//! (the chain to which batches lead, each as the list of its edits) and `Playing` (how a journal is
+//! played). `PublisherLaws` has what the trait of such a party asks for.
 //!
 //! Of the proofs, `Writable` says that an edit which a line reads as can be written, `Owning` what
 //! that makes of a line, `Chains` that a chain stays that of the batches, and `Recovering` what one
@@ -13,8 +13,8 @@
 #![tactic(auto)]
 
 pub mod laws;
-mod owner;
 mod playing;
+mod publisher;
 
-pub use owner::Owner;
 pub use playing::{Played, play};
+pub use publisher::BoardPublisher;

@@ -11,7 +11,7 @@ use Rattle.tb_session.specs.Replies.{IsReplyTo}
 use Rattle.tb_session.specs.declared.asks.Asks.{Asks}
 use Rattle.tb_session.specs.declared.asks.Asks.TheVariants as asks
 use Rattle.tb_session.specs.declared.party.Role.TheVariants as role
-use Rattle.tb_keep.specs.Owners.{IsOwnStep, asks_to_publish, is_publish}
+use Rattle.tb_keep.specs.Publishers.{IsOwnStep, asks_to_publish, is_publish}
 
 -- false isn't true
 abbrev IsFalseBit : Bool → Type 0

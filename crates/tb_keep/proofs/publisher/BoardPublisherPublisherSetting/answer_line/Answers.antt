@@ -1,6 +1,6 @@
 use Rattle.tb_model.specs.Schemas.{shape_of}
 use Rattle.tb_keep.proofs.Owning.{owner_after, owner_party, owner_step, same_base}
-use Rattle.tb_keep.proofs.owner.OwnerPublisherSetting.answer_line.Goals as goal
+use Rattle.tb_keep.proofs.publisher.BoardPublisherPublisherSetting.answer_line.Goals as goal
 
 pub answer-requires-clause-own : goal.answer-requires-clause-own
 answer-requires-clause-own g c = λ κs within_κs. owner_party g.B.Named.name (shape_of c.args.setting.now.setup.now.schema) c.args.self.now.party c.requires.ready.1

@@ -2,9 +2,9 @@ use Rattle.std.proofs.Common.{◌∙◌, ap, subst, sym}
 use Rattle.tb_model.specs.Schemas.{shape_of}
 use Rattle.tb_session.specs.Parties.{seen_by, state_of}
 use Rattle.tb_session.specs.declared.party.Party.{Party}
-use Rattle.tb_keep.specs.Owners.{CanWriteAhead}
+use Rattle.tb_keep.specs.Publishers.{CanWriteAhead}
 use Rattle.tb_keep.proofs.Owning.{fresh_base, fresh_owner, fresh_state}
-use Rattle.tb_keep.proofs.owner.OwnerPublisherSetting.begin.Goals as goal
+use Rattle.tb_keep.proofs.publisher.BoardPublisherPublisherSetting.begin.Goals as goal
 
 pub returns-clause-ready : goal.returns-clause-ready
 returns-clause-ready g c = (

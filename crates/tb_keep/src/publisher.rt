@@ -21,7 +21,7 @@ use tb_text::Setup;
 
 /// The custodian's party.
 #[derive(Drop)]
-pub struct Owner {
+pub struct BoardPublisher {
     pub party: Party,
 }
 
@@ -45,12 +45,13 @@ fn has_few_variables(setup: &Setup)
     let _ = setup.schema.variables();
 }
 
-impl<'a, B: Named, R: Threads + Wait + Sync, G: Gate> Publisher<Setting<'a, B, R>, G> for Owner {
+impl<'a, B: Named, R: Threads + Wait + Sync, G: Gate> Publisher<Setting<'a, B, R>, G>
+    for BoardPublisher {
     ghost use Rattle.std.specs.Thread.{IsSync};
     ghost use Rattle.tb_model.specs.Schemas.{shape_of};
     ghost use Rattle.tb_session.specs.Parties.{seen_by, state_of};
-    ghost use Rattle.tb_keep.specs.OwnerLaws.{own_publishing};
-    ghost use Rattle.tb_keep.specs.Owners.{CanWriteAhead, IsOwnStep, asks_to_publish};
+    ghost use Rattle.tb_keep.specs.PublisherLaws.{own_publishing};
+    ghost use Rattle.tb_keep.specs.Publishers.{CanWriteAhead, IsOwnStep, asks_to_publish};
 
     ghost base = { λ o. (seen_by o.party).start.base };
 
