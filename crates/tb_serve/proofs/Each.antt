@@ -82,3 +82,7 @@ others_at {A = A} R xs zs y ys u us is then r zero d some lt = absurd (omega ari
 others_at {A = A} R xs zs y ys u us is then r (suc i) d some lt =
     let long : length xs ≡ length (y ∷ ys) = ap length is in
     subst (λ (p : List A × List A). R (slice_index_or p.0 (suc i) d) (slice_index_or p.1 (suc i) d)) (λ j. (sym is j, sym then j)) (r.at i d (omega (arith, long, lt)))
+
+-- lists that are others
+pub each_of : {A : Type 0} (R : ℕ → A → A → Type 0) (xs ys us vs : List A) → xs ≡ us → ys ≡ vs → Each R xs ys → Each R us vs
+each_of {A = A} R xs ys us vs p q each = subst (λ (l : List A × List A). Each R l.0 l.1) (λ i. (p i, q i)) each

@@ -1,3 +1,4 @@
+pub mod Beside
 pub mod Each
 pub mod Ports
 pub mod PortCodes

@@ -4,6 +4,7 @@ ghost use Rattle.std.specs.Prelude.{◌≡◌, ◌<◌, ℕ, true, All, length, 
 ghost use Rattle.std.specs.Thread.{IsSync};
 ghost use Rattle.tb_io.specs.Listeners.{CanAccept};
 ghost use Rattle.tb_lines.specs.Outputs.{Lead};
+ghost use Rattle.tb_serve.specs.Beside.{AcceptsAll, AcceptsBoth, ChangesAll, ChangesBoth};
 ghost use Rattle.tb_serve.specs.Each.{Each};
 ghost use Rattle.tb_serve.specs.Ports.{PortValue};
 ghost use Rattle.tb_serve.specs.Stages.{IsReady};
@@ -114,45 +115,47 @@ fn work_at_all<B: Named + Send + Sync, N: Listen + Send, R: Threads + Wait + Syn
     thread::for_each_mut(setting.rt, ports, threads, &worker);
 }
 
-// Serves the sessions of the first port as the owner, beside those of the others as the parties that
-// they have.
-fn work_beside<
-    C: Sync,
-    B: Named + Send + Sync,
-    W: Owner<C, B> + Send,
-    N: Listen + Send,
-    R: Threads + Wait + Sync,
->(
-    setting: &Setting<'_, B, R>,
-    own_setting: &C,
-    sessions: u32,
-    owner: &mut W,
-    first: &mut Port<N>,
-    others: &mut [Port<N>],
-)
-    requires ready { W.IsReady own_setting.now owner.old }
-    requires may { W.MayAsk own_setting.now tt }
-    requires first { IsReady first.old }
-    requires others { All (CanWork B.name setting.now.setup.now) others.old }
-    ensures ready { W.IsReady own_setting.now owner.new }
-    ensures first { HasWorkedAs (Lead (W.Step own_setting.now tt)) W.fresh sessions
-        (W.state owner.old) (W.state owner.new) first.old first.new }
-    ensures others { Each (λ _. HasWorkedAt B.name setting.now.setup.now sessions) others.old
-        others.new }
+// Calls it with these two.
+fn call_with_both<A, P, F: Fn(&mut A, &mut P)>(f: &F, a: &mut A, p: &mut P)
+    requires { AcceptsBoth F.Fn f.now a.old p.old }
+    ensures { ChangesBoth F.Fn f.now a.old a.new p.old p.new }
 {
-    let mut own = ||
-        requires { W.IsReady own_setting.now owner.now × W.MayAsk own_setting.now tt
-            × IsReady first.now }
-        ensures { W.IsReady own_setting.entry.now owner.exit.now
-            × HasWorkedAs (Lead (W.Step own_setting.entry.now tt)) W.fresh sessions
-            (W.state owner.entry.now) (W.state owner.exit.now) first.entry.now first.exit.now }
-    { work_as(own_setting, sessions, owner, first) };
-    let mut rest = ||
-        requires { IsSync R.row × All (CanWork B.name setting.now.setup.now) others.now }
-        ensures { Each (λ _. HasWorkedAt B.name setting.entry.now.setup.now sessions)
-            others.entry.now others.exit.now }
-    { work_at_all(setting, sessions, others) };
-    thread::join_mut(setting.rt, &mut own, &mut rest);
+    f(a, p);
+}
+
+// Calls it with this slice.
+fn call_with_all<P, F: Fn(&mut [P])>(f: &F, ps: &mut [P])
+    requires { AcceptsAll F.Fn f.now ps.old }
+    ensures { ChangesAll F.Fn f.now ps.old ps.new }
+{
+    f(ps);
+}
+
+// Calls one with the first two and the other with the slice, at the same time where a thread can be
+// made.
+fn call_beside<A: Send, P: Send, F: Fn(&mut A, &mut P) + Sync, G: Fn(&mut [P]) + Sync, R: Threads>(
+    rt: &R,
+    own: &F,
+    a: &mut A,
+    first: &mut P,
+    rest: &G,
+    others: &mut [P],
+)
+    requires own { AcceptsBoth F.Fn own.now a.old first.old }
+    requires rest { AcceptsAll G.Fn rest.now others.old }
+    ensures own { ChangesBoth F.Fn own.now a.old a.new first.old first.new }
+    ensures rest { ChangesAll G.Fn rest.now others.old others.new }
+{
+    let mut left = ||
+        requires { AcceptsBoth F.Fn own.now a.now first.now }
+        ensures { ChangesBoth F.Fn own.entry.now a.entry.now a.exit.now first.entry.now
+            first.exit.now }
+    { call_with_both(own, a, first) };
+    let mut right = ||
+        requires { AcceptsAll G.Fn rest.now others.now }
+        ensures { ChangesAll G.Fn rest.entry.now others.entry.now others.exit.now }
+    { call_with_all(rest, others) };
+    thread::join_mut(rt, &mut left, &mut right);
 }
 
 // Serves the sessions of all ports, of the first as the owner and of the others as the parties that
@@ -181,5 +184,17 @@ pub(crate) fn work_all<
     let Some((first, others)) = ports.split_first_mut() else {
         unreachable!()
     };
-    work_beside(setting, own_setting, sessions, owner, first, others);
+    let own = |owner: &mut W, port: &mut Port<N>|
+        requires { W.IsReady own_setting.now owner.now × W.MayAsk own_setting.now tt
+            × IsReady port.now }
+        ensures { W.IsReady own_setting.entry.now owner.exit.now
+            × HasWorkedAs (Lead (W.Step own_setting.entry.now tt)) W.fresh sessions
+            (W.state owner.entry.now) (W.state owner.exit.now) port.entry.now port.exit.now }
+    { work_as(own_setting, sessions, owner, port) };
+    let rest = |ports: &mut [Port<N>]|
+        requires { IsSync R.row × All (CanWork B.name setting.now.setup.now) ports.now }
+        ensures { Each (λ _. HasWorkedAt B.name setting.entry.now.setup.now sessions)
+            ports.entry.now ports.exit.now }
+    { work_at_all(setting, sessions, ports) };
+    call_beside(setting.rt, &own, owner, first, &rest, others);
 }
