@@ -82,8 +82,8 @@ impl<'a, B: Named, R: Threads + Wait + Sync, G: Gate> Publisher<Setting<'a, B, R
         match &self.party {
             Party::Analyst(_) => unreachable!(),
             Party::Custodian(custodian, held) => {
-                let shape = setting.setup.schema.shape();
-                try_on(setting.alloc, shape, custodian.release(), held)
+                let setup = setting.setup;
+                try_on(setting.alloc, setup.schema.shape(), custodian.release(), held)
             }
         }
     }
