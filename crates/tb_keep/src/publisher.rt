@@ -83,7 +83,12 @@ impl<'a, B: Named, R: Threads + Wait + Sync, G: Gate> Publisher<Setting<'a, B, R
             Party::Analyst(_) => unreachable!(),
             Party::Custodian(custodian, held) => {
                 let setup = setting.setup;
-                try_on(setting.alloc, setup.schema.shape(), custodian.release(), held)
+                try_on(
+                    setting.alloc,
+                    setup.schema.shape(),
+                    custodian.release(),
+                    held,
+                )
             }
         }
     }
