@@ -2,3 +2,4 @@ mod Chains
 mod Owning
 mod Recovering
 mod Writable
+mod KeptRunning
