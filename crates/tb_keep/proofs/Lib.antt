@@ -2,4 +2,3 @@ mod Chains
 mod Owning
 mod Recovering
 mod Writable
-mod KeptRunning

@@ -2,5 +2,3 @@ pub mod Chains
 pub mod PublisherLaws
 pub mod Publishers
 pub mod Playing
-pub mod JournalOwners
-pub mod KeptRuns

@@ -12,13 +12,9 @@
 //! batch more makes of the batches so far.
 #![tactic(auto)]
 
-mod journal_owner;
 pub mod laws;
 mod playing;
 mod publisher;
-mod running;
 
-pub use journal_owner::JournalOwner;
 pub use playing::{Played, play};
 pub use publisher::BoardPublisher;
-pub use running::run_kept;

@@ -47,6 +47,15 @@ risen_cleared a b c lines bs risen cleared same =
           (risen.2 d),
     )
 
+-- ---- the number of the last release
+number_more : (base : ReleaseValue) (chain : List BatchValue) → (release_after base chain).number ≡ base.number + length chain
+number_more base [] = omega arith
+number_more base (batch ∷ chain) = let e = number_more (after_batch base batch) chain in omega (arith, e)
+
+pub number_is : (k : CustodianValue) → IsWhole k → k.writer.start.base.number ≡ 0 → k.release.number ≡ length k.writer.list
+number_is k whole first = ap (λ (r : ReleaseValue). r.number) whole.current ∙
+    (let e = number_more k.writer.start.base k.writer.list in omega (arith, e, first))
+
 -- ---- from parties to ends
 -- what is true of the first port and of each other one is true of each
 pub each_along : (R : ℕ → PortValue → PortValue → Type 0) (a e : List PortValue) → length e ≡ length a → ((d : PortValue) → R 0 (slice_index_or a 0 d) (slice_index_or e 0 d))

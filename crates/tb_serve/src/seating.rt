@@ -4,10 +4,10 @@ ghost use Rattle.std.specs.Prelude.{◌≡◌};
 ghost use Rattle.tb_serve.specs.Each.{Each};
 ghost use Rattle.tb_serve.specs.Stages.{IsSeated};
 
+use crate::owner::Owner;
 use crate::port::Port;
 use tb_board::Named;
 use tb_io::Listen;
-use tb_session::Owner;
 
 // Gives each port but the first, which is the owner's, an analyst who has seen what the owner's
 // custodian wrote.

@@ -1,7 +1,6 @@
 pub mod SomeReplies
 pub mod Analysts
 pub mod LegalParties
-pub mod Owning
 mod Texts
 mod Revising
 mod Leading
