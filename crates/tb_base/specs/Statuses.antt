@@ -4,6 +4,7 @@ use Rattle.tb_base.specs.declared.status.Status.{Status}
 use Rattle.tb_base.specs.declared.status.Status.TheVariants.{Done, Usage, Schema, Perturbation}
 use Rattle.tb_base.specs.declared.status.Status.TheVariants.{Microdata, Script, ReadFault}
 use Rattle.tb_base.specs.declared.status.Status.TheVariants.{WriteFault, Memory, NetFault}
+use Rattle.tb_base.specs.declared.status.Status.TheVariants.{Journal, DiskFault}
 
 -- the number with which the program ends; 1 is left to the runtime
 abbrev pub number_of : Status → ℕ
@@ -17,3 +18,5 @@ number_of ReadFault = 7
 number_of WriteFault = 8
 number_of Memory = 9
 number_of NetFault = 10
+number_of Journal = 11
+number_of DiskFault = 12

@@ -14,6 +14,8 @@ pub enum Status {
     WriteFault,
     Memory,
     NetFault,
+    Journal,
+    DiskFault,
 }
 
 impl Status {
@@ -32,6 +34,8 @@ impl Status {
             Status::WriteFault => 8,
             Status::Memory => 9,
             Status::NetFault => 10,
+            Status::Journal => 11,
+            Status::DiskFault => 12,
         }
     }
 }
