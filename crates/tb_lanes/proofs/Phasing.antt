@@ -13,7 +13,6 @@ use Rattle.tb_session.proofs.LegalParties.{lines_legal}
 use Rattle.tb_lanes.proofs.Names.{same_lane}
 use Rattle.tb_model.specs.Setups.{SetupValue}
 use Rattle.tb_script.specs.Scripts.{ScriptValue, lanes_of, role_of_lane}
-use Rattle.tb_script.proofs.Running.{stays_owner}
 use Rattle.tb_serve.specs.Each.{Each}
 use Rattle.tb_session.specs.Parties.{GoesOn, IsAnalystOf, IsOwnerOf, IsPartyOf, role_of, seen_by}
 use Rattle.tb_session.specs.declared.party.Party.{Party}
@@ -29,6 +28,12 @@ analyst_is name shape (party.Custodian c h) is = absurd is
 pub owner_is : (name : Name) (shape : List ℕ) (p : Party) → IsOwnerOf name shape p → IsPartyOf name shape p
 owner_is name shape (party.Analyst pass) is = absurd is
 owner_is name shape (party.Custodian c h) is = is
+
+-- who goes on as the custodian's party is it still
+stays_owner : (name : Name) (shape : List ℕ) (old new : Party) → IsOwnerOf name shape old → GoesOn old new → IsPartyOf name shape new → IsOwnerOf name shape new
+stays_owner name shape (party.Analyst a) new own on is = absurd own
+stays_owner name shape (party.Custodian c h) (party.Analyst a) own on is = let who : role.Analyst ≡ role.Custodian = on.who in absurd (cc)
+stays_owner name shape (party.Custodian c h) (party.Custodian d i) own on is = is
 
 -- over the shape that a custodian has seen
 pub owner_shape : (name : Name) (shape : List ℕ) (p : Party) → IsOwnerOf name shape p → (seen_by p).start.shape ≡ shape

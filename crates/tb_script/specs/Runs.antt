@@ -1,23 +1,27 @@
 -- The replies to the lines of a script. Each lane is a party of one board, at the batches that the
 -- custodian has published by then.
 use Rattle.std.specs.Prelude.{◌≡◌, ◌<◌, ℕ, List, All, Option, length}
-use Rattle.tb_board.specs.Custodians.{CustodianValue}
 use Rattle.tb_front.specs.Holders.{Name}
-use Rattle.tb_lines.specs.Lists.{AreAnswered, AreCutShort, StepBy}
+use Rattle.tb_lines.specs.Lists.{AreAnswered, AreCutShort}
 use Rattle.tb_lines.specs.Outputs.{AtPrice, Charged, Lead, ReplyValue, charged}
 use Rattle.tb_model.specs.Releases.{ReleaseValue}
 use Rattle.tb_model.specs.Setups.{SetupValue}
+use Rattle.tb_release.specs.Batches.{BatchValue}
 use Rattle.tb_release.specs.declared.edits.Edit.{Edit}
 use Rattle.tb_script.specs.Scripts.{ScriptLine, ScriptValue, lanes_of, role_of_lane}
 use Rattle.tb_script.specs.declared.asker.Asker.{Asker}
 use Rattle.tb_script.specs.declared.run.RunEnd.{RunEnd}
 use Rattle.tb_script.specs.declared.run.RunEnd.TheVariants as run_end
 use Rattle.tb_ahead.specs.Publishing.{StateValue}
-use Rattle.tb_session.specs.Parties.{IsAnalystOf, IsOwnerOf, seen_by, state_at, state_of}
+use Rattle.tb_session.specs.Parties.{IsAnalystOf}
 use Rattle.tb_session.specs.Replies.{IsReply}
 use Rattle.tb_session.specs.declared.party.Party.{Party}
 use Rattle.tb_session.specs.declared.party.Role.{Role}
 use Rattle.tb_session.specs.declared.party.Role.TheVariants as role
+
+-- where one stands that has seen this chain and holds these edits
+abbrev pub standing : List BatchValue → List Edit → StateValue
+standing chain held = record { chain = chain; held = held }
 
 -- a reply to a lane's line, over the release to which the custodian's batches have led from
 -- release 0, and what comes after
@@ -46,33 +50,44 @@ pub record Asks (script : ScriptValue) (line : ScriptLine) (who : Asker) : Type 
   pub lane : who.lane < length (lanes_of script.lines)
   pub role : who.role ≡ role_of_lane line.lane
 
--- ---- what the functions of a run say
+-- ---- lines that an owner answers, and analysts beside it
 
--- an analyst's line is answered over what the custodian wrote, whatever edits are held, and changes
--- nothing
-abbrev pub IsStepBeside : SetupValue → CustodianValue → List ℕ → ReplyValue → CustodianValue
+-- of an owner whose state tells on which release 0 its custodian wrote which chain
+module _ {S : Type 0} (setup : SetupValue) (base : S → ReleaseValue) (chain : S → List BatchValue)
+  where
+    -- an analyst's line is answered over that chain, whatever edits are held, and changes nothing
+    abbrev pub IsBeside : S → List ℕ → ReplyValue → S → Type 0
+    IsBeside old line reply new =
+        (new ≡ old)
+        × ((held : List Edit) → IsReply role.Analyst setup (base old) (standing (chain old) held)
+        line reply (standing (chain old) held))
+
+    -- a line of a lane: the custodian's is answered by the owner's own step, where that is given
+    abbrev pub IsOwnedStep : (S → List ℕ → ReplyValue → S → Type 0) → Role → S → List ℕ
+        → ReplyValue → S → Type 0
+    IsOwnedStep Own role.Custodian = Own
+    IsOwnedStep Own role.Analyst = IsBeside
+
+    -- the same, of a line of a script
+    abbrev pub IsOwnedReply : (S → List ℕ → ReplyValue → S → Type 0) → S → ScriptLine
+        → ReplyValue → S → Type 0
+    IsOwnedReply Own old one = IsOwnedStep Own (role_of_lane one.lane) old one.line
+
+-- what a run did with the lines of a script, where it is given which reply to a line leads from a
+-- state to which, and at which state a list begins; by how it ended: it answered all, or some until
+-- a write failed, or was out of memory before the first
+abbrev pub IsOwnedRun : {S : Type 0} → (S → ScriptLine → ReplyValue → S → Type 0) → (S → S)
+    → List ScriptLine → RunEnd → (first last : Charged S) → (before after : Option (List ℕ))
     → Type 0
-IsStepBeside setup old line reply new =
-    (new ≡ old)
-    × ((held : List Edit) → IsReply role.Analyst setup old.writer.start.base
-    (state_at old.writer held) line reply (state_at old.writer held))
+IsOwnedRun Step fresh lines run_end.Done first last before after =
+    AreAnswered (Lead (AtPrice Step)) lines (charged (fresh first.at) first.steps) last before after
+IsOwnedRun Step fresh lines run_end.WriteFault first last before after =
+    AreCutShort (Lead (AtPrice Step)) lines (charged (fresh first.at) first.steps) last before after
+IsOwnedRun Step fresh lines run_end.Memory first last before after =
+    (after ≡ before) × (last ≡ first)
 
--- a lane's line leads from one state of the custodian's party to the next, over one release 0
-abbrev pub IsLaneStep : SetupValue → Role → Party → List ℕ → ReplyValue → Party → Type 0
-IsLaneStep setup who old line reply new =
-    ((seen_by new).start.base ≡ (seen_by old).start.base)
-    × IsReply who setup (seen_by old).start.base (state_of old) line reply (state_of new)
-
--- the same, of a line of a script by who asks it
-abbrev pub IsAskedStep : SetupValue → ScriptValue → Party → ScriptLine → ReplyValue → Party
-    → Type 0
-IsAskedStep setup script =
-    StepBy (Asks script) (λ line. line.line) (λ who. IsLaneStep setup who.role)
-
--- the parties of so many lanes, over this shape: the custodian of the front of this name, and an
--- analyst for each lane
-pub record AreParties (name : Name) (shape : List ℕ) (lanes : ℕ) (custodian : Party)
-    (analysts : List Party) : Type 0 where
-  pub own : IsOwnerOf name shape custodian
-  pub others : All (IsAnalystOf name shape) analysts
+-- so many analysts of the front of this name, over this shape
+pub record AreAnalysts (name : Name) (shape : List ℕ) (lanes : ℕ) (analysts : List Party)
+    : Type 0 where
+  pub own : All (IsAnalystOf name shape) analysts
   pub many : length analysts ≡ lanes

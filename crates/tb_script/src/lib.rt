@@ -22,5 +22,5 @@ mod script;
 pub use asker::Asker;
 pub use fault::ScriptFault;
 pub use limits::{MOST_LANE_BYTES, MOST_LANES, MOST_SCRIPT_BYTES};
-pub use run::{RunEnd, analysts, run_script};
+pub use run::{RunEnd, run_owned, run_script};
 pub use script::Script;

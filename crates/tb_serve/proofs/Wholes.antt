@@ -1,7 +1,7 @@
 -- All ports, from their making to their ends.
-use Rattle.std.proofs.Common.{◌≡◌, ◌∙◌, sym, ap, ℕ, zero, suc, ◌+◌, ◌<◌, List, [], ◌∷◌, length, arith, subst}
+use Rattle.std.proofs.Common.{◌≡◌, ◌∙◌, sym, ap, ℕ, zero, suc, ◌<◌, List, [], length, arith, subst}
 use Rattle.std.specs.Prelude.{All, slice_index_or}
-use Rattle.tb_board.specs.Custodians.{CustodianValue, IsWhole}
+use Rattle.tb_board.specs.Custodians.{CustodianValue}
 use Rattle.tb_board.specs.Holders.{HolderValue}
 use Rattle.tb_front.specs.Holders.{Name}
 use Rattle.tb_io.specs.Faults.{HasRisen}
@@ -9,7 +9,6 @@ use Rattle.tb_lines.specs.Outputs.{Lead, ReplyValue}
 use Rattle.tb_model.specs.Releases.{ReleaseValue}
 use Rattle.tb_model.specs.Setups.{SetupValue}
 use Rattle.tb_release.specs.Batches.{BatchValue}
-use Rattle.tb_release.specs.Chains.{after_batch, release_after}
 use Rattle.tb_serve.specs.Each.{Each}
 use Rattle.tb_serve.specs.Ports.{PortValue}
 use Rattle.tb_serve.specs.Serves.{HasServed, IsVisited}
@@ -46,15 +45,6 @@ risen_cleared a b c lines bs risen cleared same =
           ))
           (risen.2 d),
     )
-
--- ---- the number of the last release
-number_more : (base : ReleaseValue) (chain : List BatchValue) → (release_after base chain).number ≡ base.number + length chain
-number_more base [] = omega arith
-number_more base (batch ∷ chain) = let e = number_more (after_batch base batch) chain in omega (arith, e)
-
-pub number_is : (k : CustodianValue) → IsWhole k → k.writer.start.base.number ≡ 0 → k.release.number ≡ length k.writer.list
-number_is k whole first = ap (λ (r : ReleaseValue). r.number) whole.current ∙
-    (let e = number_more k.writer.start.base k.writer.list in omega (arith, e, first))
 
 -- ---- from parties to ends
 -- what is true of the first port and of each other one is true of each

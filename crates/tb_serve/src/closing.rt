@@ -5,11 +5,10 @@ ghost use Rattle.tb_serve.specs.Each.{Each};
 ghost use Rattle.tb_serve.specs.Stages.{HasOwnParty, IsCleared, IsConfirmed, IsOfFront};
 ghost use Rattle.tb_session.specs.Parties.{IsBehind};
 
-use crate::owner::Owner;
 use crate::port::Port;
 use tb_board::Named;
 use tb_io::Listen;
-use tb_session::Party;
+use tb_session::{Owner, Party};
 
 // Has the owner's custodian confirm a port's party, and lets it go.
 fn confirm_one<C, B: Named, W: Owner<C, B>>(setting: &C, owner: &mut W, party: Option<Party>)

@@ -15,9 +15,7 @@
 #![tactic(auto)]
 
 mod closing;
-mod custody;
 mod over_board;
-mod owner;
 mod port;
 mod preparing;
 mod readiness;
@@ -26,9 +24,7 @@ mod seating;
 mod serving;
 mod workers;
 
-pub use custody::informed_analyst;
 pub use over_board::serve_from;
-pub use owner::Owner;
 pub use port::Port;
 pub use preparing::prepare;
 pub use readiness::Readiness;

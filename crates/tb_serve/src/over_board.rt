@@ -10,7 +10,6 @@ ghost use Rattle.tb_serve.specs.Stages.{IsLeft, IsReady};
 ghost use Rattle.tb_session.specs.Parties.{IsPassOf};
 
 use crate::closing::{clear_all, confirm_all};
-use crate::owner::Owner;
 use crate::port::Port;
 use crate::report::end_with_report;
 use crate::seating::seat_all;
@@ -20,7 +19,7 @@ use std::thread::Threads;
 use tb_base::Status;
 use tb_board::Named;
 use tb_io::{Listen, Sink};
-use tb_session::Setting;
+use tb_session::{Owner, Seat, Setting};
 
 /// Serves the sessions of ports that are ready, over one board: at the first port as the owner, who
 /// holds the board's custodian and answers over a setting of its own, and at each other one as an
@@ -44,34 +43,35 @@ pub fn serve_from<
     setting: &Setting<'_, B, R>,
     own_setting: &C,
     sessions: u32,
-    owner: &mut W,
+    mut owner: W,
     out: &mut O,
     ports: &mut [Port<N>],
-) -> Status
-    requires ready { W.IsReady own_setting.now owner.old }
-    requires may { W.MayAsk own_setting.now tt }
-    requires writer { IsPassOf B.name (shape_of setting.now.setup.now.schema) (W.writer owner.old) }
+) -> (Status, W)
+    requires ready { W.IsReady own_setting.now owner }
+    requires writer { IsPassOf B.name (shape_of setting.now.setup.now.schema) (W.writer owner) }
     requires some { 0 < length ports.old }
     requires few { length ports.old < 2 ^ 32 }
     requires can { All IsReady ports.old }
-    ensures ready { W.IsReady own_setting.now owner.new }
+    ensures ready { W.IsReady own_setting.now result.1 }
     // Its own replies led the owner from one state to the other.
-    ensures first { (d : PortValue) → IsVisited (Lead (W.Step own_setting.now tt)) W.fresh sessions
-        (W.state owner.old) (W.state owner.new) (slice_index_or ports.old 0 d)
+    ensures first { (d : PortValue) → IsVisited (Lead (W.Step own_setting.now)) W.fresh sessions
+        (W.state owner) (W.state result.1) (slice_index_or ports.old 0 d)
         (slice_index_or ports.new 0 d) }
     // An analyst began at what the custodian had written, and ended at a beginning of what it has.
     ensures others { (i : ℕ) (d : PortValue) → 0 < i → i < length ports.old
-        → HasServed setting.now.setup.now (W.writer owner.old).start.base sessions
-        (W.writer owner.old).list (W.writer owner.new).list i (slice_index_or ports.old i d)
+        → HasServed setting.now.setup.now (W.writer owner).start.base sessions
+        (W.writer owner).list (W.writer result.1).list i (slice_index_or ports.old i d)
         (slice_index_or ports.new i d) }
     ensures left { Each (λ _. IsLeft) ports.old ports.new }
-    ensures reported { IsReported ports.new (W.writer owner.new).list (output (O.taken out.old)
-        (O.taken out.new) (O.faults out.old) (O.faults out.new)) result }
+    ensures reported { IsReported ports.new (W.writer result.1).list (output (O.taken out.old)
+        (O.taken out.new) (O.faults out.old) (O.faults out.new)) result.0 }
 {
-    seat_all(own_setting, owner, ports);
-    work_all(setting, own_setting, sessions, owner, ports);
-    confirm_all(own_setting, owner, ports);
+    seat_all(own_setting, &mut owner, ports);
+    let mut seat = Seat::<W, B>::new(owner);
+    work_all(setting, own_setting, sessions, &mut seat, ports);
+    confirm_all(own_setting, &mut seat.owner, ports);
     clear_all(ports);
-    let release = owner.release(own_setting);
-    end_with_report(out, ports, release)
+    let release = seat.owner.release(own_setting);
+    let status = end_with_report(out, ports, release);
+    (status, seat.owner)
 }

@@ -11,7 +11,6 @@ ghost use Rattle.tb_serve.specs.Serves.{HasServed, IsReported, Serves, output};
 ghost use Rattle.tb_serve.specs.Stages.{IsFresh, IsLeft, IsReady};
 
 use crate::closing::clear_all;
-use crate::custody::Custody;
 use crate::over_board::serve_from;
 use crate::port::Port;
 use crate::preparing::prepare;
@@ -25,7 +24,7 @@ use tb_base::{Memory, Status};
 use tb_board::{Board, Named, Opening};
 use tb_io::{Listen, Sink};
 use tb_release::Release;
-use tb_session::{FIRST_CAPACITY, Setting};
+use tb_session::{Custody, FIRST_CAPACITY, Setting};
 use tb_text::Setup;
 
 // What the board is made of.
@@ -67,8 +66,9 @@ fn serve_opened<B: Named + Send + Sync, O: Sink, N: Listen + Send, R: Threads + 
         rt,
         alloc,
     };
-    let mut owner = Custody::new(alloc, custodian);
-    serve_from(&setting, &setting, sessions, &mut owner, out, ports)
+    let owner = Custody::new(alloc, custodian);
+    let (status, _) = serve_from(&setting, &setting, sessions, owner, out, ports);
+    status
 }
 
 // The whole command, over just the ports that are served.

@@ -10,7 +10,6 @@ ghost use Rattle.tb_serve.specs.Ports.{PortValue};
 ghost use Rattle.tb_serve.specs.Stages.{IsReady};
 ghost use Rattle.tb_serve.specs.Workers.{CanWork, HasWorkedAs, HasWorkedAt};
 
-use crate::owner::Owner;
 use crate::port::Port;
 use std::marker::Brand;
 use std::sync::Wait;
@@ -22,7 +21,7 @@ use tb_board::Named;
 use tb_build::Open;
 use tb_io::Listen;
 use tb_lines::Answerer;
-use tb_session::Setting;
+use tb_session::{Owner, Seat, Setting};
 use tb_worker::serve_sessions;
 
 // Serves the sessions of a port as this party, and counts its steps.
@@ -166,16 +165,21 @@ pub(crate) fn work_all<
     W: Owner<C, B> + Send,
     N: Listen + Send,
     R: Threads + Wait + Sync,
->(setting: &Setting<'_, B, R>, own_setting: &C, sessions: u32, owner: &mut W, ports: &mut [Port<N>])
-    requires ready { W.IsReady own_setting.now owner.old }
-    requires may { W.MayAsk own_setting.now tt }
+>(
+    setting: &Setting<'_, B, R>,
+    own_setting: &C,
+    sessions: u32,
+    seat: &mut Seat<W, B>,
+    ports: &mut [Port<N>],
+)
+    requires ready { W.IsReady own_setting.now seat.old.owner }
     requires some { 0 < length ports.old }
     requires first { (d : PortValue) → IsReady (slice_index_or ports.old 0 d) }
     requires others { (i : ℕ) (d : PortValue) → 0 < i → i < length ports.old
         → CanWork B.name setting.now.setup.now (slice_index_or ports.old i d) }
-    ensures ready { W.IsReady own_setting.now owner.new }
-    ensures first { (d : PortValue) → HasWorkedAs (Lead (W.Step own_setting.now tt)) W.fresh
-        sessions (W.state owner.old) (W.state owner.new) (slice_index_or ports.old 0 d)
+    ensures ready { W.IsReady own_setting.now seat.new.owner }
+    ensures first { (d : PortValue) → HasWorkedAs (Lead (W.Step own_setting.now)) W.fresh
+        sessions (W.state seat.old.owner) (W.state seat.new.owner) (slice_index_or ports.old 0 d)
         (slice_index_or ports.new 0 d) }
     ensures others { (i : ℕ) (d : PortValue) → 0 < i → i < length ports.old
         → HasWorkedAt B.name setting.now.setup.now sessions (slice_index_or ports.old i d)
@@ -184,17 +188,17 @@ pub(crate) fn work_all<
     let Some((first, others)) = ports.split_first_mut() else {
         unreachable!()
     };
-    let own = |owner: &mut W, port: &mut Port<N>|
-        requires { W.IsReady own_setting.now owner.now × W.MayAsk own_setting.now tt
-            × IsReady port.now }
-        ensures { W.IsReady own_setting.entry.now owner.exit.now
-            × HasWorkedAs (Lead (W.Step own_setting.entry.now tt)) W.fresh sessions
-            (W.state owner.entry.now) (W.state owner.exit.now) port.entry.now port.exit.now }
-    { work_as(own_setting, sessions, owner, port) };
+    let own = |seat: &mut Seat<W, B>, port: &mut Port<N>|
+        requires { W.IsReady own_setting.now seat.now.owner × IsReady port.now }
+        ensures { W.IsReady own_setting.entry.now seat.exit.now.owner
+            × HasWorkedAs (Lead (W.Step own_setting.entry.now)) W.fresh sessions
+            (W.state seat.entry.now.owner) (W.state seat.exit.now.owner) port.entry.now
+            port.exit.now }
+    { work_as(own_setting, sessions, seat, port) };
     let rest = |ports: &mut [Port<N>]|
         requires { IsSync R.row × All (CanWork B.name setting.now.setup.now) ports.now }
         ensures { Each (λ _. HasWorkedAt B.name setting.entry.now.setup.now sessions)
             ports.entry.now ports.exit.now }
     { work_at_all(setting, sessions, ports) };
-    call_beside(setting.rt, &own, owner, first, &rest, others);
+    call_beside(setting.rt, &own, seat, first, &rest, others);
 }

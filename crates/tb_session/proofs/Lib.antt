@@ -1,6 +1,7 @@
 pub mod SomeReplies
 pub mod Analysts
 pub mod LegalParties
+pub mod Owning
 mod Texts
 mod Revising
 mod Leading

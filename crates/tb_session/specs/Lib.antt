@@ -7,3 +7,5 @@ pub mod RunWorlds
 pub mod ReplyTexts
 pub mod Parties
 pub mod PartySessions
+pub mod Owners
+pub mod OwnerLaws

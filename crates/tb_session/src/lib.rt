@@ -8,7 +8,8 @@
 //! lines come from, and where replies go) and `tb_lines` (lines that are answered one after
 //! another: what a session did). Its contracts cite `specs/Asks` (what a line asks for), `Replies`
 //! (what the reply to it is), `Transcripts` (which replies are legal), `Parties` (who asks, and
-//! what an answer says) and `PartySessions` (whose session); `laws` cites `Laws`, and `RunWorlds`
+//! what an answer says), `PartySessions` (whose session) and
+//! `Owners` (who answers the custodian's lines); `laws` cites `Laws`, and `RunWorlds`
 //! (what a reply of a run of `tb_core`'s events shows at a place of a table).
 //!
 //! Of the proofs, `Leading` leads from what a line asks for to where the party stands then, and
@@ -24,18 +25,24 @@ mod answering;
 mod asks;
 mod confirming;
 mod count;
+mod custody;
 pub mod laws;
 mod limits;
+mod owner;
 mod party;
 mod query;
 mod reply;
 mod revise;
+mod seat;
 mod sessions;
 
 pub use answering::answer;
 pub use asks::{Asks, asks_of};
 pub use confirming::{analyst_of, confirm, tell};
+pub use custody::{Custody, informed_analyst};
 pub use limits::FIRST_CAPACITY;
+pub use owner::Owner;
 pub use party::{Party, Role};
+pub use seat::Seat;
 pub use sessions::{Setting, session};
 pub use tb_lines::SessionEnd;

@@ -1,4 +1,4 @@
-use Rattle.std.proofs.Common.{◌<◌, ℕ, length, arith, subst, sym}
+use Rattle.std.proofs.Common.{◌∙◌, ◌<◌, ap, ℕ, length, arith, subst, sym}
 use Rattle.std.specs.Prelude.{slice_index_or}
 use Rattle.tb_board.specs.Holders.{HolderValue}
 use Rattle.tb_lines.specs.Outputs.{Lead}
@@ -10,20 +10,20 @@ use Rattle.tb_serve.proofs.over_board.serve_from.Goals as goal
 
 pub work_all-requires-clause-first : goal.work_all-requires-clause-first
 work_all-requires-clause-first g c = λ κs within_κs d.
-    first_ready (g.W.Owner.writer c.args.owner.now) (slice_index_or c.args.ports.now 0 d) (slice_index_or c.seat_all.new.ports 0 d) (c.requires.can 0 d c.requires.some) (c.seat_all.ensures.seated.at 0 d c.requires.some)
+    first_ready (g.W.Owner.writer c.args.owner) (slice_index_or c.args.ports.now 0 d) (slice_index_or c.seat_all.new.ports 0 d) (c.requires.can 0 d c.requires.some) (c.seat_all.ensures.seated.at 0 d c.requires.some)
 
 pub work_all-requires-clause-others : goal.work_all-requires-clause-others
 work_all-requires-clause-others g c = λ κs within_κs i d later lt.
     let within : i < length c.args.ports.now = (let l = c.seat_all.ensures.seated.same_length in omega arith) in
-    can_work g.B.Named.name c.args.setting.now.setup.now (g.W.Owner.writer c.args.owner.now) i (slice_index_or c.args.ports.now i d) (slice_index_or c.seat_all.new.ports i d) c.requires.writer later
+    can_work g.B.Named.name c.args.setting.now.setup.now (g.W.Owner.writer c.args.owner) i (slice_index_or c.args.ports.now i d) (slice_index_or c.seat_all.new.ports i d) c.requires.writer later
     (c.requires.can i d within) (c.seat_all.ensures.seated.at i d within)
 
 pub confirm_all-requires-clause-own : goal.confirm_all-requires-clause-own
 confirm_all-requires-clause-own g c = λ κs within_κs.
     all_own g.B.Named.name c.work_all.new.ports
-    (λ d. none_own (Lead (g.W.Answerer.Step c.args.own_setting.now tt)) g.W.Answerer.fresh g.B.Named.name c.args.sessions (g.W.Answerer.state c.seat_all.new.owner) (g.W.Answerer.state c.work_all.new.owner)
+    (λ d. none_own (Lead (g.W.Owner.Step c.args.own_setting.now)) g.W.Owner.fresh g.B.Named.name c.args.sessions (g.W.Owner.state c.new-seat.result.owner) (g.W.Owner.state c.work_all.new.seat.owner)
     (slice_index_or c.seat_all.new.ports 0 d) (slice_index_or c.work_all.new.ports 0 d)
-    (first_ready (g.W.Owner.writer c.args.owner.now) (slice_index_or c.args.ports.now 0 d) (slice_index_or c.seat_all.new.ports 0 d) (c.requires.can 0 d c.requires.some) (c.seat_all.ensures.seated.at 0 d c.requires.some))
+    (first_ready (g.W.Owner.writer c.args.owner) (slice_index_or c.args.ports.now 0 d) (slice_index_or c.seat_all.new.ports 0 d) (c.requires.can 0 d c.requires.some) (c.seat_all.ensures.seated.at 0 d c.requires.some))
     (c.work_all.ensures.first d))
     (λ i d later lt.
     still_own g.B.Named.name c.args.setting.now.setup.now c.args.sessions (slice_index_or c.seat_all.new.ports i d) (slice_index_or c.work_all.new.ports i d)
@@ -31,30 +31,30 @@ confirm_all-requires-clause-own g c = λ κs within_κs.
 
 pub returns-clause-first : goal.returns-clause-first
 returns-clause-first g c = λ d.
-    subst (λ (x : g.W.Answerer.State × g.W.Answerer.State). IsVisited (Lead (g.W.Answerer.Step c.args.own_setting.now tt)) g.W.Answerer.fresh c.args.sessions x.0 x.1 (slice_index_or c.args.ports.now 0 d) (slice_index_or c.clear_all.new.ports 0 d))
-    (λ j. (c.seat_all.ensures.same.1 j, sym c.confirm_all.ensures.same.1 j))
-    (first_visited (Lead (g.W.Answerer.Step c.args.own_setting.now tt)) g.W.Answerer.fresh (g.W.Answerer.state c.seat_all.new.owner) (g.W.Answerer.state c.work_all.new.owner) g.B.Named.name c.args.setting.now.setup.now c.args.sessions
-    (g.W.Owner.writer c.args.owner.now) (g.W.Owner.writer c.work_all.new.owner)
+    subst (λ (x : g.W.Owner.State × g.W.Owner.State). IsVisited (Lead (g.W.Owner.Step c.args.own_setting.now)) g.W.Owner.fresh c.args.sessions x.0 x.1 (slice_index_or c.args.ports.now 0 d) (slice_index_or c.clear_all.new.ports 0 d))
+    (λ j. ((ap g.W.Owner.state c.new-seat.ensures ∙ c.seat_all.ensures.same.1) j, sym c.confirm_all.ensures.same.1 j))
+    (first_visited (Lead (g.W.Owner.Step c.args.own_setting.now)) g.W.Owner.fresh (g.W.Owner.state c.new-seat.result.owner) (g.W.Owner.state c.work_all.new.seat.owner) g.B.Named.name c.args.setting.now.setup.now c.args.sessions
+    (g.W.Owner.writer c.args.owner) (g.W.Owner.writer c.work_all.new.seat.owner)
     c.args.ports.now c.seat_all.new.ports c.work_all.new.ports c.confirm_all.new.ports c.clear_all.new.ports c.requires.some c.seat_all.ensures.seated c.work_all.auto.ports c.work_all.ensures.first c.work_all.ensures.others
     c.confirm_all.ensures.confirmed c.clear_all.ensures d)
 
 pub returns-clause-others : goal.returns-clause-others
 returns-clause-others g c = λ i d later lt.
-    subst (λ (h : HolderValue). HasServed c.args.setting.now.setup.now (g.W.Owner.writer c.args.owner.now).start.base c.args.sessions (g.W.Owner.writer c.args.owner.now).list h.list i (slice_index_or c.args.ports.now i d) (slice_index_or c.clear_all.new.ports i d))
+    subst (λ (h : HolderValue). HasServed c.args.setting.now.setup.now (g.W.Owner.writer c.args.owner).start.base c.args.sessions (g.W.Owner.writer c.args.owner).list h.list i (slice_index_or c.args.ports.now i d) (slice_index_or c.clear_all.new.ports i d))
     (sym c.confirm_all.ensures.same.0)
-    (others_served (Lead (g.W.Answerer.Step c.args.own_setting.now tt)) g.W.Answerer.fresh (g.W.Answerer.state c.seat_all.new.owner) (g.W.Answerer.state c.work_all.new.owner) g.B.Named.name c.args.setting.now.setup.now c.args.sessions
-    (g.W.Owner.writer c.args.owner.now) (g.W.Owner.writer c.work_all.new.owner)
+    (others_served (Lead (g.W.Owner.Step c.args.own_setting.now)) g.W.Owner.fresh (g.W.Owner.state c.new-seat.result.owner) (g.W.Owner.state c.work_all.new.seat.owner) g.B.Named.name c.args.setting.now.setup.now c.args.sessions
+    (g.W.Owner.writer c.args.owner) (g.W.Owner.writer c.work_all.new.seat.owner)
     c.args.ports.now c.seat_all.new.ports c.work_all.new.ports c.confirm_all.new.ports c.clear_all.new.ports c.requires.some c.seat_all.ensures.seated c.work_all.auto.ports c.work_all.ensures.first c.work_all.ensures.others
     c.confirm_all.ensures.confirmed c.clear_all.ensures i d later lt)
 
 pub returns-clause-left : goal.returns-clause-left
 returns-clause-left g c =
-    all_left (Lead (g.W.Answerer.Step c.args.own_setting.now tt)) g.W.Answerer.fresh (g.W.Answerer.state c.seat_all.new.owner) (g.W.Answerer.state c.work_all.new.owner) g.B.Named.name c.args.setting.now.setup.now c.args.sessions
-    (g.W.Owner.writer c.args.owner.now) (g.W.Owner.writer c.work_all.new.owner)
+    all_left (Lead (g.W.Owner.Step c.args.own_setting.now)) g.W.Owner.fresh (g.W.Owner.state c.new-seat.result.owner) (g.W.Owner.state c.work_all.new.seat.owner) g.B.Named.name c.args.setting.now.setup.now c.args.sessions
+    (g.W.Owner.writer c.args.owner) (g.W.Owner.writer c.work_all.new.seat.owner)
     c.args.ports.now c.seat_all.new.ports c.work_all.new.ports c.confirm_all.new.ports c.clear_all.new.ports c.requires.some c.seat_all.ensures.seated c.work_all.auto.ports c.work_all.ensures.first c.work_all.ensures.others
     c.confirm_all.ensures.confirmed c.clear_all.ensures
 
 pub returns-clause-reported : goal.returns-clause-reported
 returns-clause-reported g c =
-    subst (λ (n : ℕ). IsEnded (report c.clear_all.new.ports n) (final_status c.clear_all.new.ports) (output (g.O.Sink.taken c.args.out.now) (g.O.Sink.taken c.end_with_report.new.out) (g.O.Sink.faults c.args.out.now) (g.O.Sink.faults c.end_with_report.new.out)) c.end_with_report.result)
-    c.release-release.ensures c.end_with_report.ensures.ended
+    subst (λ (n : ℕ). IsEnded (report c.clear_all.new.ports n) (final_status c.clear_all.new.ports) (output (g.O.Sink.taken c.args.out.now) (g.O.Sink.taken c.end_with_report-status.new.out) (g.O.Sink.faults c.args.out.now) (g.O.Sink.faults c.end_with_report-status.new.out)) c.end_with_report-status.result)
+    c.release-release.ensures c.end_with_report-status.ensures.ended

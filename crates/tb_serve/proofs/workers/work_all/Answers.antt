@@ -1,4 +1,4 @@
-use Rattle.std.proofs.Common.{rules, ◌∷◌, refl}
+use Rattle.std.proofs.Common.{◌∷◌, refl}
 use Rattle.std.proofs.iter.Serving.{serving}
 use Rattle.tb_serve.specs.Stages.{IsReady}
 use Rattle.tb_serve.specs.Workers.{CanWork, HasWorkedAt}

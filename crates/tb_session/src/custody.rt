@@ -1,10 +1,13 @@
-// The custodian of a board, as the owner of the first port.
+// The custodian of a board, who answers its own lines.
 
 ghost use Rattle.std.specs.Prelude.{◌≡◌, [], length};
 ghost use Rattle.tb_board.specs.Custodians.{IsWhole};
 ghost use Rattle.tb_session.specs.declared.party.Party.TheVariants as party;
 
+use crate::confirming::{analyst_of, confirm, tell};
 use crate::owner::Owner;
+use crate::party::Party;
+use crate::sessions::Setting;
 use std::alloc::Global;
 use std::sync::Wait;
 use std::sync::ledger::Ledger;
@@ -15,7 +18,6 @@ use tb_build::Open;
 use tb_io::{Sink, Wrote};
 use tb_lines::Answerer;
 use tb_release::Edits;
-use tb_session::{Party, Setting, analyst_of, confirm, tell};
 
 /// An analyst of a board who has seen what its custodian has: its pass learns that, and is
 /// confirmed.
@@ -46,13 +48,13 @@ fn release_of(custodian: &Custodian) -> u32
 
 /// The custodian of a board with the edits that are held.
 #[derive(Drop)]
-pub(crate) struct Custody {
-    party: Party,
+pub struct Custody {
+    pub party: Party,
 }
 
 impl Custody {
     /// The custodian, who holds no edits.
-    pub(crate) fn new(alloc: Global, custodian: Custodian) -> Custody
+    pub fn new(alloc: Global, custodian: Custodian) -> Custody
         ensures { result.party ≡ party.Custodian custodian [] }
     {
         Custody {
@@ -61,10 +63,11 @@ impl Custody {
     }
 }
 
-impl<'a, B: Named, R: Threads + Wait + Sync> Answerer<Setting<'a, B, R>, Open, ()> for Custody {
+impl<'a, B: Named, R: Threads + Wait + Sync> Owner<Setting<'a, B, R>, B> for Custody {
     ghost use Rattle.std.specs.Thread.{IsSync};
     ghost use Rattle.tb_model.specs.Schemas.{shape_of};
-    ghost use Rattle.tb_session.specs.Parties.{IsOwnerOf};
+    ghost use Rattle.tb_session.specs.OwnerLaws.{has_written};
+    ghost use Rattle.tb_session.specs.Parties.{IsOwnerOf, seen_by};
     ghost use Rattle.tb_session.specs.PartySessions.{IsPartyStep, with_none_held};
     ghost use Rattle.tb_session.specs.declared.party.Party.{Party as PartyValue};
 
@@ -77,9 +80,15 @@ impl<'a, B: Named, R: Threads + Wait + Sync> Answerer<Setting<'a, B, R>, Open, (
     ghost IsReady = { λ c custody. IsSync R.row
         × IsOwnerOf B.name (shape_of c.setup.now.schema) custody.party };
 
-    ghost MayAsk = { λ c who. Unit {0} };
+    ghost Step = { λ c. IsPartyStep c.setup.now };
 
-    ghost Step = { λ c who old line reply new. IsPartyStep c.setup.now old line reply new };
+    ghost shape = { λ c. shape_of c.setup.now.schema };
+
+    ghost base = { λ one. (seen_by one).start.base };
+
+    ghost chain = { λ one. (seen_by one).list };
+
+    ghost writer = { λ custody. seen_by custody.party };
 
     fn begin(&mut self, _setting: &Setting<'a, B, R>) {
         self.party.drop_held();
@@ -88,26 +97,26 @@ impl<'a, B: Named, R: Threads + Wait + Sync> Answerer<Setting<'a, B, R>, Open, (
     fn answer<K: Sink, L: Ledger>(
         &mut self,
         setting: &Setting<'a, B, R>,
-        who: (),
         line: &[u8],
         sink: &mut K,
         gate: &mut Open,
         steps: &mut Steps<L>,
     ) -> Wrote {
-        self.party.answer(setting, who, line, sink, gate, steps)
+        self.party.answer(setting, (), line, sink, gate, steps)
     }
-}
-
-impl<'a, B: Named, R: Threads + Wait + Sync> Owner<Setting<'a, B, R>, B> for Custody {
-    ghost use Rattle.tb_session.specs.Parties.{seen_by};
-
-    ghost writer = { λ custody. seen_by custody.party };
 
     fn analyst(&mut self, setting: &Setting<'a, B, R>) -> Party {
         match &mut self.party {
             Party::Custodian(custodian, _) => {
                 informed_analyst(setting.board, setting.rt, custodian)
             }
+            Party::Analyst(_) => unreachable!(),
+        }
+    }
+
+    fn tell(&mut self, setting: &Setting<'a, B, R>, party: &mut Party) {
+        match &mut self.party {
+            Party::Custodian(custodian, _) => tell(setting.board, custodian, party),
             Party::Analyst(_) => unreachable!(),
         }
     }
@@ -125,4 +134,7 @@ impl<'a, B: Named, R: Threads + Wait + Sync> Owner<Setting<'a, B, R>, B> for Cus
             Party::Analyst(_) => unreachable!(),
         }
     }
+
+    ghost written = { λ c custody ready.
+        has_written B.name (shape_of c.setup.now.schema) custody.party ready.1 };
 }

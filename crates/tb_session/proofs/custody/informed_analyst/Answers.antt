@@ -1,8 +1,8 @@
 use Rattle.std.proofs.Common.{◌∙◌, subst}
 use Rattle.tb_board.specs.Custodians.{CustodianValue}
 use Rattle.tb_session.specs.Parties.{IsBehind, Learns}
-use Rattle.tb_serve.proofs.Seats.{informed}
-use Rattle.tb_serve.proofs.custody.informed_analyst.Goals as goal
+use Rattle.tb_session.proofs.Owning.{informed}
+use Rattle.tb_session.proofs.custody.informed_analyst.Goals as goal
 
 pub returns-clause-party : goal.returns-clause-party
 returns-clause-party g c =
