@@ -8,12 +8,15 @@ use Rattle.tb_model.specs.Setups.{SetupValue}
 use Rattle.tb_release.specs.Batches.{BatchValue, batch_of}
 use Rattle.tb_release.specs.Chains.{after_batch, release_after}
 use Rattle.tb_release.specs.declared.edits.Edit.{Edit}
+use Rattle.tb_script.specs.Scripts.{role_of_lane}
 use Rattle.tb_session.specs.Asks.{asks_of}
 use Rattle.tb_session.specs.Replies.{IsReplyTo}
 use Rattle.tb_session.specs.declared.asks.Asks.{Asks}
 use Rattle.tb_session.specs.declared.asks.Asks.TheVariants as asks
+use Rattle.tb_session.specs.declared.party.Role.{Role}
 use Rattle.tb_session.specs.declared.party.Role.TheVariants as role
 use Rattle.tb_keep.specs.Chains.{IsOwnKeptStep, IsTheirs, StaysTheirs, batches_of}
+use Rattle.tb_keep.specs.KeptRuns.{IsKeptReply, IsKeptStepOf}
 use Rattle.tb_keep.specs.Publishers.{IsOwnStep, asks_to_publish, is_publish}
 
 -- one batch more
@@ -48,18 +51,29 @@ same-chain (asks.Cache capacity) setup release state line reply next h is = ap c
 own-chain : (setup : SetupValue) (base : ReleaseValue) (old : StateValue) (line : List ℕ) (reply : ReplyValue) (new : StateValue) → asks_to_publish line ≡ false → IsOwnStep setup base old line reply new → new.chain ≡ old.chain
 own-chain setup base old line reply new h (at, same, is) = same-chain (asks_of role.Custodian line) setup _ at line reply new h is ∙ ap chain_of same
 
-module _ (setup : SetupValue) (base : ReleaseValue) where
-  by-line : (asks : Bool) (old next : KeptState) (line : List ℕ) (reply : ReplyValue) → asks_to_publish line ≡ asks → IsKeptStep asks (IsOwnStep setup base) base old line reply next → IsTheirs base old → IsTheirs base next
-  by-line true old next line reply h step theirs = by-publish base old next reply.text step.1 theirs
-  by-line false old next line reply h step theirs =
-      own-chain setup base old.state line reply next.state h step.0 ∙ theirs ∙ sym (ap (λ (at : KeptState). batches_of base at.batches) step.1)
+by-line : (asks : Bool) (setup : SetupValue) (base : ReleaseValue) (old next : KeptState) (line : List ℕ) (reply : ReplyValue) → asks_to_publish line ≡ asks → IsKeptStep asks (IsOwnStep setup base) base old line reply next → IsTheirs base old → IsTheirs base next
+by-line true setup base old next line reply h step theirs = by-publish base old next reply.text step.1 theirs
+by-line false setup base old next line reply h step theirs =
+    own-chain setup base old.state line reply next.state h step.0 ∙ theirs ∙ sym (ap (λ (at : KeptState). batches_of base at.batches) step.1)
 
-  lines-keep : (first last : KeptState) (lines : List (List ℕ)) (replies : List ReplyValue) → Lead (IsOwnKeptStep setup base) first lines replies last → IsTheirs base first → IsTheirs base last
-  lines-keep first last [] [] h theirs = subst (IsTheirs base) (sym h) theirs
-  lines-keep first last [] (reply ∷ replies) h theirs = absurd h
-  lines-keep first last (line ∷ lines) [] h theirs = absurd h
-  lines-keep first last (line ∷ lines) (reply ∷ replies) (next, step, more) theirs =
-      lines-keep next last lines replies more (by-line (asks_to_publish line) first next line reply refl step theirs)
+-- what each line keeps, all lines keep
+module _ {S L : Type 0} (Step : S → L → ReplyValue → S → Type 0) (P : S → Type 0) (each : (old next : S) (line : L) (reply : ReplyValue) → Step old line reply next → P old → P next) where
+  pub lines-keep : (first last : S) (lines : List L) (replies : List ReplyValue) → Lead Step first lines replies last → P first → P last
+  lines-keep first last [] [] h so = subst P (sym h) so
+  lines-keep first last [] (reply ∷ replies) h so = absurd h
+  lines-keep first last (line ∷ lines) [] h so = absurd h
+  lines-keep first last (line ∷ lines) (reply ∷ replies) (next, step, more) so = lines-keep next last lines replies more (each first next line reply step so)
 
-pub stays_theirs : StaysTheirs
-stays_theirs setup base first last lines replies = lines-keep setup base first last lines replies
+own-line : (setup : SetupValue) (base : ReleaseValue) (old next : KeptState) (line : List ℕ) (reply : ReplyValue) → IsOwnKeptStep setup base old line reply next → IsTheirs base old → IsTheirs base next
+own-line setup base old next line reply step theirs = by-line (asks_to_publish line) setup base old next line reply refl step theirs
+
+-- an analyst's line changes nothing
+any-line : (who : Role) (setup : SetupValue) (base : ReleaseValue) (old next : KeptState) (line : List ℕ) (reply : ReplyValue) → IsKeptStepOf who setup base old line reply next → IsTheirs base old → IsTheirs base next
+any-line role.Custodian setup base old next line reply step theirs = own-line setup base old next line reply step theirs
+any-line role.Analyst setup base old next line reply (same, is) theirs = subst (IsTheirs base) (sym same) theirs
+
+pub stays_theirs : StaysTheirs IsOwnKeptStep
+stays_theirs setup base = lines-keep (IsOwnKeptStep setup base) (IsTheirs base) (own-line setup base)
+
+pub stays_theirs_in_scripts : StaysTheirs IsKeptReply
+stays_theirs_in_scripts setup base = lines-keep (IsKeptReply setup base) (IsTheirs base) (λ old next line reply. any-line (role_of_lane line.lane) setup base old next line.line reply)

@@ -25,9 +25,11 @@ abbrev pub IsOwnKeptStep : SetupValue → ReleaseValue → KeptState → List �
 IsOwnKeptStep setup base old line reply new =
     IsKeptStep (asks_to_publish line) (IsOwnStep setup base) base old line reply new
 
--- whatever lines are answered, the chain stays that of the batches
-abbrev pub StaysTheirs : Type 0
-StaysTheirs =
-    (setup : SetupValue) (base : ReleaseValue) (first last : KeptState) (lines : List (List ℕ))
-    (replies : List ReplyValue) → Lead (IsOwnKeptStep setup base) first lines replies last
+-- whatever lines are answered, the chain stays that of the batches, where each line is answered by
+-- such a step over a setup and a release 0
+abbrev pub StaysTheirs : {L : Type 0}
+    → (SetupValue → ReleaseValue → KeptState → L → ReplyValue → KeptState → Type 0) → Type 0
+StaysTheirs {L = L} Step =
+    (setup : SetupValue) (base : ReleaseValue) (first last : KeptState) (lines : List L)
+    (replies : List ReplyValue) → Lead (Step setup base) first lines replies last
     → IsTheirs base first → IsTheirs base last

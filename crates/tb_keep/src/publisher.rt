@@ -16,13 +16,13 @@ use tb_board::Named;
 use tb_build::Gate;
 use tb_io::{Sink, Wrote};
 use tb_release::{EditFault, Edits, Release, next};
-use tb_session::{Asks, Party, Role, Setting, answer, asks_of};
+use tb_session::{Asks, Custody, Party, Role, Setting, answer, asks_of};
 use tb_text::Setup;
 
-/// The custodian's party.
+/// The custodian of a board, with edits that can be written ahead.
 #[derive(Drop)]
 pub struct BoardPublisher {
-    pub party: Party,
+    pub custody: Custody,
 }
 
 // Whether edits can follow a release.
@@ -53,21 +53,21 @@ impl<'a, B: Named, R: Threads + Wait + Sync, G: Gate> Publisher<Setting<'a, B, R
     ghost use Rattle.tb_keep.specs.PublisherLaws.{own_publishing};
     ghost use Rattle.tb_keep.specs.Publishers.{CanWriteAhead, IsOwnStep, asks_to_publish};
 
-    ghost base = { λ o. (seen_by o.party).start.base };
+    ghost base = { λ o. (seen_by o.custody.party).start.base };
 
-    ghost state = { λ o. state_of o.party };
+    ghost state = { λ o. state_of o.custody.party };
 
     ghost publishes = { asks_to_publish };
 
     ghost IsReady = { λ c o. IsSync R.row
-        × CanWriteAhead B.name (shape_of c.setup.now.schema) o.party };
+        × CanWriteAhead B.name (shape_of c.setup.now.schema) o.custody.party };
 
     ghost Step = { λ c base. IsOwnStep c.setup.now base };
 
     ghost publishing = { λ c base. own_publishing c.setup.now base };
 
     fn begin(&mut self, _setting: &Setting<'a, B, R>) {
-        self.party.drop_held();
+        self.custody.party.drop_held();
     }
 
     fn asks_to_publish(&self, line: &[u8]) -> bool {
@@ -79,7 +79,7 @@ impl<'a, B: Named, R: Threads + Wait + Sync, G: Gate> Publisher<Setting<'a, B, R
     }
 
     fn try_next(&mut self, setting: &Setting<'a, B, R>) -> Trial {
-        match &self.party {
+        match &self.custody.party {
             Party::Analyst(_) => unreachable!(),
             Party::Custodian(custodian, held) => {
                 let setup = setting.setup;
@@ -94,7 +94,7 @@ impl<'a, B: Named, R: Threads + Wait + Sync, G: Gate> Publisher<Setting<'a, B, R
     }
 
     fn held(&self, _setting: &Setting<'a, B, R>) -> &Edits {
-        match &self.party {
+        match &self.custody.party {
             Party::Analyst(_) => unreachable!(),
             Party::Custodian(_, held) => held,
         }
@@ -114,7 +114,7 @@ impl<'a, B: Named, R: Threads + Wait + Sync, G: Gate> Publisher<Setting<'a, B, R
             setting.board,
             setting.rt,
             setting.alloc,
-            &mut self.party,
+            &mut self.custody.party,
             line,
             sink,
             gate,

@@ -10,11 +10,11 @@ pub returns-clause-ready : goal.returns-clause-ready
 returns-clause-ready g c = (
   c.requires.0,
   subst (λ (p : Party). CanWriteAhead g.B.Named.name (shape_of c.args._setting.now.setup.now.schema) p) (sym c.drop_held.ensures)
-      (fresh_owner g.B.Named.name (shape_of c.args._setting.now.setup.now.schema) c.args.self.now.party c.requires.1),
+      (fresh_owner g.B.Named.name (shape_of c.args._setting.now.setup.now.schema) c.args.self.now.custody.party c.requires.1),
 )
 
 pub returns-clause-base : goal.returns-clause-base
-returns-clause-base g c = ap (λ (p : Party). (seen_by p).start.base) c.drop_held.ensures ∙ fresh_base c.args.self.now.party
+returns-clause-base g c = ap (λ (p : Party). (seen_by p).start.base) c.drop_held.ensures ∙ fresh_base c.args.self.now.custody.party
 
 pub returns-clause-state : goal.returns-clause-state
-returns-clause-state g c = ap state_of c.drop_held.ensures ∙ fresh_state c.args.self.now.party
+returns-clause-state g c = ap state_of c.drop_held.ensures ∙ fresh_state c.args.self.now.custody.party

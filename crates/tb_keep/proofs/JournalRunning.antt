@@ -1,0 +1,157 @@
+-- A journal that was opened and played, and the lines that are answered then.
+use Rattle.std.proofs.Common.{◌≡◌, ◌≤◌, ◌+◌, ◌∙◌, sym, ap, refl, subst, ℕ, Bool, true, false, List, [], ◌++◌, length, drop, Option, None, Some, arith}
+use Rattle.std.specs.Prelude.{is_none}
+use Rattle.tb_ahead.specs.Keepers.{IsAt, Reaches}
+use Rattle.tb_ahead.specs.Keeping.{KeptState}
+use Rattle.tb_ahead.specs.Publishing.{StateValue, after_seeing}
+use Rattle.tb_board.specs.Custodians.{CustodianValue}
+use Rattle.tb_board.specs.Holders.{release_seen}
+use Rattle.tb_board.specs.Starts.{StartValue}
+use Rattle.tb_disk.specs.Images.{Leads, WhereTold}
+use Rattle.tb_disk.proofs.Telling.{forward, told-of}
+use Rattle.tb_journal.specs.Opening.{IsOpened, IsOurs, opened_file}
+use Rattle.tb_journal.specs.Reading.{IsBad}
+use Rattle.tb_journal.specs.States.{JournalState}
+use Rattle.tb_journal.specs.Stops.{IsOn}
+use Rattle.tb_journal.proofs.Keeping.{ends-on}
+use Rattle.tb_journal_file.specs.Files.{EachStandsFor, IsFileOf}
+use Rattle.tb_journal_file.proofs.Recovering.{none-read}
+use Rattle.tb_lines.specs.Outputs.{Charged, charged}
+use Rattle.tb_model.specs.Releases.{ReleaseValue}
+use Rattle.tb_model.specs.Setups.{SetupValue}
+use Rattle.tb_release.specs.Batches.{BatchValue}
+use Rattle.tb_release.specs.Chains.{release_after}
+use Rattle.tb_release.specs.declared.edits.Edit.{Edit}
+use Rattle.tb_script.specs.Scripts.{ScriptLine}
+use Rattle.tb_script.specs.declared.run.RunEnd.{RunEnd}
+use Rattle.tb_script.specs.declared.run.RunEnd.TheVariants as run_end
+use Rattle.tb_session.specs.Parties.{seen_by, state_of}
+use Rattle.tb_session.specs.declared.party.Party.{Party}
+use Rattle.tb_session.specs.declared.party.Party.TheVariants as party
+use Rattle.tb_keep.specs.Chains.{batches_of}
+use Rattle.tb_keep.specs.JournalRuns.{AreKeptFrom, AreRecovered, ComesAfter, IsJournalFault, IsJournalRun, JournalRun, after_playing}
+use Rattle.tb_keep.specs.KeptRuns.{IsKeptRun}
+use Rattle.tb_keep.specs.Playing.{ArePublished, CanAllFollow, DoesNotFollow, HasPlayed, IsNextRecord, LiesBehind}
+use Rattle.tb_keep.proofs.KeptRunning.{run_counts}
+use Rattle.tb_keep.specs.declared.journal_run.JournalFault.TheVariants as journal_fault
+use Rattle.tb_keep.specs.declared.journal_run.KeepEnd.TheVariants as keep_end
+use Rattle.tb_keep.specs.declared.playing.Played.TheVariants as played
+
+-- release 0 of a custodian's chain
+abbrev base_of : CustodianValue → ReleaseValue
+base_of custodian = custodian.writer.start.base
+
+-- ---- what was published of the file, by what it had before it was opened
+module _ (setup : SetupValue) (before opened : Option (List ℕ)) (leads : Leads before opened IsOpened) (first last : CustodianValue) (none : first.writer.list ≡ []) where
+  at-base : release_seen first.writer ≡ base_of first
+  at-base = ap (release_after (base_of first)) none
+
+  -- they are the custodian's chain
+  pub chain-is : (h : HasPlayed setup opened first last played.All) → last.writer.list ≡ batches_of (base_of first) h.batches
+  chain-is h =
+      h.published.chain
+      ∙ ap (λ (l : List BatchValue). l ++ batches_of (release_seen first.writer) h.batches) none
+      ∙ ap (λ (r : ReleaseValue). batches_of r h.batches) at-base
+
+  -- at the end it is a file of them
+  module _ (h : HasPlayed setup opened first last played.All) (ours : WhereTold before IsOurs) (content : Option (List ℕ)) (images : List ℕ → Type 0) (journal : JournalState) (same : content ≡ opened)
+      (on : WhereTold content (λ file. IsOn file images journal)) (ended : journal.at_end ≡ true) where
+    file-is : WhereTold content (IsFileOf h.batches)
+    file-is file now =
+        let was = sym same ∙ now in
+        let ends = ends-on file images journal ended (on file now) in
+        record { begins = (none-read before opened leads ours file was).begins; stands = h.ends file was; shut = ends.shut }
+
+    -- and so is each that a stop then may leave
+    pub stands-for-all : ((image : List ℕ) → images image → is_none content ≡ false) → EachStandsFor images h.batches None
+    stands-for-all told = λ image left.
+        let (file, now) = told-of content (told image left) in
+        subst (IsFileOf h.batches) (sym ((on file now).durable image left)) (file-is file now)
+
+    -- by what it had before it was opened
+    pub recovered : AreRecovered setup (base_of first) before h.batches
+    recovered = record {
+      all = λ file told. let (next, now, is) = forward before opened IsOpened leads file told in subst (IsFileOf h.batches) is.is (file-is next (same ∙ now));
+      follow = subst (λ (r : ReleaseValue). CanAllFollow setup r h.batches) at-base h.published.follow;
+    }
+
+  -- the batches before a fault
+  comes-after : (batches : List (List Edit)) (place r : ℕ) → ArePublished setup opened place batches first last → r ≡ length batches + 1
+      → (file next : List ℕ) → opened ≡ Some next → IsOpened file next → ComesAfter setup (base_of first) batches (opened_file file) place r
+  comes-after batches place r published number file next now is = record {
+    behind = subst (λ (f : List ℕ). LiesBehind f place batches) is.is (published.behind next now);
+    follow = subst (λ (b : ReleaseValue). CanAllFollow setup b batches) at-base published.follow;
+    number = number;
+  }
+
+  pub bad-record : (r : ℕ) → HasPlayed setup opened first last (played.BadRecord r) → WhereTold before (λ file. IsJournalFault setup (base_of first) file (journal_fault.BadRecord r))
+  bad-record r h = λ file told.
+      let (next, now, is) = forward before opened IsOpened leads file told in
+      (h.batches, h.place, comes-after h.batches h.place r h.published h.ends.0 file next now is, subst (λ (f : List ℕ). IsBad (drop h.place f)) is.is (h.ends.1 next now))
+
+  pub does-not-follow : (r : ℕ) → HasPlayed setup opened first last (played.DoesNotFollow r) → WhereTold before (λ file. IsJournalFault setup (base_of first) file (journal_fault.DoesNotFollow r))
+  does-not-follow r h = λ file told.
+      let (next, now, is) = forward before opened IsOpened leads file told in (
+        h.batches,
+        h.place,
+        h.ends.1,
+        comes-after h.batches h.place r h.published h.ends.0 file next now is,
+        subst (λ (f : List ℕ). IsNextRecord f h.place h.ends.1) is.is (h.ends.3 next now),
+        subst (λ (b : ReleaseValue). DoesNotFollow setup (release_after b (batches_of b h.batches)) h.ends.1) at-base h.ends.2,
+      )
+
+-- ---- the lines, from where a custodian stands that published some batches
+module _ {D : Type 0} (may_leave : D → List ℕ → Type 0) (faults : D → ℕ) (old now new : D) (same : new ≡ now) (content : Option (List ℕ)) (setup : SetupValue) (lines : List ScriptLine) (end : RunEnd) (custodian : CustodianValue)
+    (one : Party) (is : one ≡ party.Custodian custodian []) (live later : Bool) (lives : live ≡ true) (state : StateValue) (before after : ℕ) (a b : Option (List ℕ))
+    (reaches : Reaches (IsAt (EachStandsFor (may_leave old)) live (faults old) (state_of one)) (IsAt (EachStandsFor (may_leave now)) later (faults now) state)
+    (λ first last. IsKeptRun setup (seen_by one).start.base lines end (charged first before) (charged last after) a b)) where
+  pub lines-kept : (batches : List (List Edit)) → custodian.writer.list ≡ batches_of (base_of custodian) batches → EachStandsFor (may_leave old) batches None
+      → AreKeptFrom (after_playing (base_of custodian) batches (faults old)) setup (base_of custodian) lines end
+      (record { content = content; may_leave = may_leave new; faults = faults old; faults_after = faults new; steps = before; steps_after = after; taken = a; taken_after = b })
+  lines-kept batches chain stands =
+      let first = after_playing (base_of custodian) batches (faults old) in
+      let stood : first.state ≡ state_of one = ap after_seeing (sym chain) ∙ ap state_of (sym is) in
+      let (last, at, run) = reaches first (record { same = stood; count = refl; lives = sym lives; stands = stands }) in
+      record {
+        last = last;
+        run = subst (λ (p : Party). IsKeptRun setup (seen_by p).start.base lines end (charged first before) (charged last after) a b) is run;
+        left = subst (λ (d : D). EachStandsFor (may_leave d) last.batches last.further) (sym same) at.stands;
+        counted = at.count ∙ ap faults (sym same);
+      }
+
+-- ---- the run, where all of the file's batches were published
+by-end : (setup : SetupValue) (base : ReleaseValue) (lines : List ScriptLine) (batches : List (List Edit)) (first_faults : ℕ) (saw : JournalRun) (end : RunEnd) → AreRecovered setup base saw.content batches → saw.faults ≤ first_faults
+    → AreKeptFrom (after_playing base batches first_faults) setup base lines end saw → IsJournalRun setup base lines (keep_end.Ran end) saw
+by-end setup base lines batches first_faults saw run_end.Done are since kept = record { batches = batches; recovered = are; first_faults = first_faults; since = since; kept = kept }
+by-end setup base lines batches first_faults saw run_end.WriteFault are since kept = record { batches = batches; recovered = are; first_faults = first_faults; since = since; kept = kept }
+by-end setup base lines batches first_faults saw run_end.Memory are since kept = (kept.run.0, ap (λ (c : Charged KeptState). c.steps) kept.run.1)
+
+module _ {D : Type 0} (content : D → Option (List ℕ)) (may_leave : D → List ℕ → Type 0) (faults : D → ℕ) (setup : SetupValue) (first last : CustodianValue) (none : first.writer.list ≡ []) (before opened played_by new : D)
+    (leads : Leads (content before) (content opened) IsOpened) (ours : WhereTold (content before) IsOurs) (h : HasPlayed setup (content opened) first last played.All)
+    (journal : JournalState) (same : content played_by ≡ content opened) (told : (image : List ℕ) → may_leave played_by image → is_none (content played_by) ≡ false)
+    (on : WhereTold (content played_by) (λ file. IsOn file (may_leave played_by) journal)) (ended : journal.at_end ≡ true)
+    (lines : List ScriptLine) (end : RunEnd) (steps steps_after : ℕ) (taken taken_after : Option (List ℕ))
+    (runs : (batches : List (List Edit)) → last.writer.list ≡ batches_of (base_of last) batches → EachStandsFor (may_leave played_by) batches None
+    → AreKeptFrom (after_playing (base_of last) batches (faults played_by)) setup (base_of last) lines end
+    (record { content = content played_by; may_leave = may_leave new; faults = faults played_by; faults_after = faults new; steps = steps; steps_after = steps_after; taken = taken; taken_after = taken_after })) where
+  abbrev seen_since : D → JournalRun
+  seen_since old = record { content = content old; may_leave = may_leave new; faults = faults old; faults_after = faults new; steps = steps; steps_after = steps_after; taken = taken; taken_after = taken_after }
+
+  -- from where it stands that published them
+  kept : AreKeptFrom (after_playing (base_of first) h.batches (faults played_by)) setup (base_of first) lines end (seen_since played_by)
+  kept =
+      let start : base_of last ≡ base_of first = ap (λ (s : StartValue). s.base) h.published.start in
+      let chain = chain-is setup (content before) (content opened) leads first last none h ∙ sym (ap (λ (b : ReleaseValue). batches_of b h.batches) start) in
+      let stands = stands-for-all setup (content before) (content opened) leads first last none h ours (content played_by) (may_leave played_by) journal same on ended told in
+      subst (λ (b : ReleaseValue). AreKeptFrom (after_playing b h.batches (faults played_by)) setup b lines end (seen_since played_by)) start (runs h.batches chain stands)
+
+  pub all-ran : faults before ≤ faults played_by → IsJournalRun setup (base_of first) lines (keep_end.Ran end) (seen_since before)
+  all-ran since =
+      by-end setup (base_of first) lines h.batches (faults played_by) (seen_since before) end (recovered setup (content before) (content opened) leads first last none h ours (content played_by) (may_leave played_by) journal same on ended) since
+      (record { last = kept.last; run = kept.run; left = kept.left; counted = kept.counted })
+
+  -- the disk's count didn't fall
+  pub all-counted : faults played_by ≤ faults new
+  all-counted =
+      let counts = run_counts setup (base_of first) (charged (after_playing (base_of first) h.batches (faults played_by)) steps) (charged kept.last steps_after) lines end taken taken_after kept.run in
+      omega (arith, counts, kept.counted)

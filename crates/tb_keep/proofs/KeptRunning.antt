@@ -1,0 +1,139 @@
+-- The lines of a script whose custodian writes its batches ahead, one after another.
+use Rattle.std.proofs.Common.{◌≡◌, ◌∙◌, sym, ap, subst, refl, ℕ, Bool, true, false, List, [], ◌∷◌, ◌++◌, Option, take, ◌+◌, ◌≤◌, arith}
+use Rattle.tb_ahead.specs.Keepers.{KeeperValue, KeepsTo, Reaches, at_start, keeper}
+use Rattle.tb_ahead.specs.Keeping.{IsKeptStep, KeptState}
+use Rattle.tb_ahead.specs.Publishing.{StateValue}
+use Rattle.tb_ahead.specs.Puts.{FileStands}
+use Rattle.tb_keep.specs.JournalOwners.{keeper_of}
+use Rattle.tb_keep.specs.KeptRuns.{IsKeptReply, IsKeptRun, IsKeptStepOf, RunsFrom, StandsAt}
+use Rattle.tb_keep.specs.Publishers.{IsOwnStep, asks_to_publish}
+use Rattle.tb_keep.proofs.Chains.{lines-keep}
+use Rattle.tb_lines.specs.Outputs.{AtPrice, Charged, Lead, ReplyValue, charged}
+use Rattle.tb_model.specs.Releases.{ReleaseValue}
+use Rattle.tb_model.specs.Setups.{SetupValue}
+use Rattle.tb_release.specs.Batches.{BatchValue}
+use Rattle.tb_release.specs.declared.edits.Edit.{Edit}
+use Rattle.tb_script.specs.Runs.{IsOwnedReply, IsOwnedRun, IsOwnedStep}
+use Rattle.tb_script.specs.Scripts.{ScriptLine, role_of_lane}
+use Rattle.tb_script.specs.declared.run.RunEnd.{RunEnd}
+use Rattle.tb_script.specs.declared.run.RunEnd.TheVariants as run_end
+use Rattle.tb_session.specs.Parties.{held_by, seen_by, state_at}
+use Rattle.tb_session.specs.Replies.{IsReply}
+use Rattle.tb_session.specs.declared.party.Party.{Party}
+use Rattle.tb_session.specs.declared.party.Role.{Role}
+use Rattle.tb_session.specs.declared.party.Role.TheVariants as role
+
+-- who holds no edits is as it begins
+pub none_held : {W : Type 0} (one : Party) (ahead : W) → held_by one ≡ [] → at_start (keeper_of one ahead) ≡ keeper_of one ahead
+none_held {W = W} one ahead none =
+    ap (λ (held : List Edit). keeper (seen_by one).start.base (state_at (seen_by one) held) ahead) (sym none)
+
+module _ {W : Type 0} (target : W → ℕ) (live : W → Bool) (faults : W → ℕ) (standing : W → FileStands) (setup : SetupValue) where
+  abbrev Step : KeeperValue W → List ℕ → ReplyValue → KeeperValue W → Type 0
+  Step = KeepsTo target live faults standing (IsOwnStep setup) asks_to_publish
+
+  abbrev base_of : KeeperValue W → ReleaseValue
+  base_of one = one.base
+
+  abbrev chain_of : KeeperValue W → List BatchValue
+  chain_of one = one.state.chain
+
+  abbrev Here : KeeperValue W → KeptState → Type 0
+  Here = StandsAt live faults standing
+
+  -- one line of a lane
+  one_line : (who : Role) (old new : KeeperValue W) (line : List ℕ) (reply : ReplyValue) → IsOwnedStep setup base_of chain_of Step who old line reply new
+      → (new.base ≡ old.base) × (target new.ahead ≡ target old.ahead) × Reaches (Here old) (Here new) (λ first last. IsKeptStepOf who setup old.base first line reply last)
+  one_line role.Custodian old new line reply leads = leads
+  one_line role.Analyst old new line reply (same, is) = (
+    ap base_of same,
+    ap (λ (one : KeeperValue W). target one.ahead) same,
+    λ first here. (
+      first,
+      subst (λ (one : KeeperValue W). Here one first) (sym same) here,
+      (refl, subst (λ (s : StateValue). IsReply role.Analyst setup old.base s line reply s) (sym here.same) (is old.state.held)),
+    ),
+  )
+
+  -- all lines
+  all_lines : (p : Charged (KeeperValue W)) (lines : List ScriptLine) (replies : List ReplyValue) (q : Charged (KeeperValue W)) → Lead (AtPrice (IsOwnedReply setup base_of chain_of Step)) p lines replies q
+      → (q.at.base ≡ p.at.base) × (target q.at.ahead ≡ target p.at.ahead)
+      × Reaches (Here p.at) (Here q.at) (λ first last. Lead (AtPrice (IsKeptReply setup p.at.base)) (charged first p.steps) lines replies (charged last q.steps))
+  all_lines p [] [] q e = (
+    ap (λ (c : Charged (KeeperValue W)). c.at.base) e,
+    ap (λ (c : Charged (KeeperValue W)). target c.at.ahead) e,
+    λ first here. (first, subst (λ (c : Charged (KeeperValue W)). Here c.at first) (sym e) here, ap (λ (c : Charged (KeeperValue W)). charged first c.steps) e),
+  )
+  all_lines p [] (reply ∷ replies) q e = absurd e
+  all_lines p (line ∷ lines) [] q e = absurd e
+  all_lines p (line ∷ lines) (reply ∷ replies) q (next, (step, cost), others) =
+      let (base, same, reach) = one_line (role_of_lane line.lane) p.at next.at line.line reply step in
+      let (later, still, onward) = all_lines next lines replies q others in (
+        later ∙ base,
+        still ∙ same,
+        λ first here.
+            let (mid, there, kept) = reach first here in
+            let (last, at, lead) = onward mid there in (
+              last,
+              at,
+              (
+                charged mid next.steps,
+                (kept, cost),
+                subst (λ (b : ReleaseValue). Lead (AtPrice (IsKeptReply setup b)) (charged mid next.steps) lines replies (charged last q.steps)) base lead,
+              ),
+            ),
+      )
+
+  module _ (lines : List ScriptLine) (old new : Charged (KeeperValue W)) (a b : Option (List ℕ)) (none : at_start old.at ≡ old.at) where
+    begun : (first : KeptState) → Here old.at first → Here (at_start old.at) first
+    begun first here = subst (λ (one : KeeperValue W). Here one first) (sym none) here
+
+    -- by how it ended
+    pub kept_run : (end : RunEnd) → IsOwnedRun (IsOwnedReply setup base_of chain_of Step) at_start lines end old new a b → RunsFrom target live faults standing setup lines end old new a b
+    kept_run run_end.Done h =
+        let (base, same, reach) = all_lines (charged (at_start old.at) old.steps) lines h.replies new h.legal in (
+          base,
+          same,
+          λ first here.
+              let (last, at, lead) = reach first (begun first here) in
+              (last, at, record { replies = h.replies; legal = lead; took = h.took }),
+        )
+    kept_run run_end.WriteFault h =
+        let (base, same, reach) = all_lines (charged (at_start old.at) old.steps) (take (h.count + 1) lines) (h.replies ++ h.cut ∷ []) new h.legal in (
+          base,
+          same,
+          λ first here.
+              let (last, at, lead) = reach first (begun first here) in
+              (last, at, record { count = h.count; among = h.among; replies = h.replies; cut = h.cut; legal = lead; part = h.part; took = h.took }),
+        )
+    kept_run run_end.Memory (none_taken, stays) = (
+      ap (λ (c : Charged (KeeperValue W)). c.at.base) stays,
+      ap (λ (c : Charged (KeeperValue W)). target c.at.ahead) stays,
+      λ first here. (
+        first,
+        subst (λ (c : Charged (KeeperValue W)). Here c.at first) (sym stays) here,
+        (none_taken, ap (λ (c : Charged (KeeperValue W)). charged first c.steps) stays),
+      ),
+    )
+
+-- ---- the disk's count doesn't fall
+module _ (setup : SetupValue) (base : ReleaseValue) where
+  own_counts : (asks : Bool) (old next : KeptState) (line : List ℕ) (reply : ReplyValue) → IsKeptStep asks (IsOwnStep setup base) base old line reply next → old.faults ≤ next.faults
+  own_counts true old next line reply (price, (counts, is)) = counts
+  own_counts false old next line reply (is, same) = omega (arith, ap (λ (s : KeptState). s.faults) same)
+
+  role_counts : (who : Role) (old next : KeptState) (line : List ℕ) (reply : ReplyValue) → IsKeptStepOf who setup base old line reply next → old.faults ≤ next.faults
+  role_counts role.Custodian old next line reply step = own_counts (asks_to_publish line) old next line reply step
+  role_counts role.Analyst old next line reply (same, is) = omega (arith, ap (λ (s : KeptState). s.faults) same)
+
+  module _ (first last : Charged KeptState) where
+    lead_counts : (lines : List ScriptLine) (replies : List ReplyValue) → Lead (AtPrice (IsKeptReply setup base)) first lines replies last → first.at.faults ≤ last.at.faults
+    lead_counts lines replies lead =
+        lines-keep (AtPrice (IsKeptReply setup base)) (λ (c : Charged KeptState). first.at.faults ≤ c.at.faults)
+        (λ old next line reply step so_far. omega (arith, so_far, role_counts (role_of_lane line.lane) old.at next.at line.line reply step.0))
+        first last lines replies lead (omega arith)
+
+    pub run_counts : (lines : List ScriptLine) (end : RunEnd) (a b : Option (List ℕ)) → IsKeptRun setup base lines end first last a b → first.at.faults ≤ last.at.faults
+    run_counts lines run_end.Done a b h = lead_counts _ _ h.legal
+    run_counts lines run_end.WriteFault a b h = lead_counts _ _ h.legal
+    run_counts lines run_end.Memory a b (none, same) = omega (arith, ap (λ (c : Charged KeptState). c.at.faults) same)

@@ -1,0 +1,34 @@
+use Rattle.std.proofs.Common.{arith, refl}
+use Rattle.tb_keep.proofs.JournalRunning.{all-counted, all-ran, bad-record, does-not-follow}
+use Rattle.tb_keep.proofs.journal_run.run_with_journal.Goals as goal
+
+pub returns-in-NotJournal-default-clause-run : goal.returns-in-NotJournal-default-clause-run
+returns-in-NotJournal-default-clause-run g c = ((refl, refl), c.open.ensures.foreign c.in-NotJournal-default.is-0)
+
+pub returns-in-BadRecord-clause-run : goal.returns-in-BadRecord-clause-run
+returns-in-BadRecord-clause-run g c = (
+  (refl, refl),
+  bad-record c.args.setting.now.setup.now (g.D.Disk.content c.args.disk.now) (g.D.Disk.content c.open.new.disk) (c.open.ensures.opened c.in-Open-Some.is-0) c.args.custodian c.play-played.new.custodian c.requires.first c.in-BadRecord.r c.in-BadRecord.ensures.played,
+)
+
+pub returns-in-DoesNotFollow-clause-run : goal.returns-in-DoesNotFollow-clause-run
+returns-in-DoesNotFollow-clause-run g c = (
+  (refl, refl),
+  does-not-follow c.args.setting.now.setup.now (g.D.Disk.content c.args.disk.now) (g.D.Disk.content c.open.new.disk) (c.open.ensures.opened c.in-Open-Some.is-0) c.args.custodian c.play-played.new.custodian c.requires.first c.in-DoesNotFollow.r c.in-DoesNotFollow.ensures.played,
+)
+
+pub returns-in-All-clause-run : goal.returns-in-All-clause-run
+returns-in-All-clause-run g c =
+    all-ran g.D.Disk.content g.D.Disk.may_leave g.D.Disk.faults c.args.setting.now.setup.now c.args.custodian c.play-played.new.custodian c.requires.first
+    c.args.disk.now c.open.new.disk c.play-played.new.disk c.run_played.new.disk (c.open.ensures.opened c.in-Open-Some.is-0) (c.open.ensures.ours c.in-Open-Some.is-0) c.in-All.ensures.played
+    c.play-played.new.journal c.in-All.ensures.quiet.same (g.met.D.Disk.told_beside c.play-played.new.disk) c.in-All.ensures.on (c.in-All.ensures.at_end refl)
+    c.args.script.now.lines c.run_played.result _ _ _ _ c.run_played.ensures.run
+    (omega (arith, c.open.ensures.count, c.in-All.ensures.count))
+
+pub returns-in-All-clause-disk_count : goal.returns-in-All-clause-disk_count
+returns-in-All-clause-disk_count g c =
+    let counts = all-counted g.D.Disk.content g.D.Disk.may_leave g.D.Disk.faults c.args.setting.now.setup.now c.args.custodian c.play-played.new.custodian c.requires.first
+    c.args.disk.now c.open.new.disk c.play-played.new.disk c.run_played.new.disk (c.open.ensures.opened c.in-Open-Some.is-0) (c.open.ensures.ours c.in-Open-Some.is-0) c.in-All.ensures.played
+    c.play-played.new.journal c.in-All.ensures.quiet.same (g.met.D.Disk.told_beside c.play-played.new.disk) c.in-All.ensures.on (c.in-All.ensures.at_end refl)
+    c.args.script.now.lines c.run_played.result _ _ _ _ c.run_played.ensures.run in
+    omega (arith, c.open.ensures.count, c.in-All.ensures.count, counts)

@@ -1,0 +1,112 @@
+-- A script whose custodian keeps a journal: its batches are published first, and each further one
+-- is written into it ahead.
+use Rattle.std.specs.Prelude.{◌≡◌, ◌≤◌, ◌+◌, ℕ, List, length, drop, Option, None}
+use Rattle.tb_ahead.specs.Keeping.{KeptState}
+use Rattle.tb_ahead.specs.Publishing.{after_seeing}
+use Rattle.tb_disk.specs.Images.{WhereTold}
+use Rattle.tb_journal.specs.Opening.{IsForeign, opened_file}
+use Rattle.tb_journal.specs.Reading.{IsBad}
+use Rattle.tb_journal_file.specs.Files.{EachStandsFor, IsFileOf}
+use Rattle.tb_keep.specs.Chains.{batches_of}
+use Rattle.tb_keep.specs.KeptRuns.{IsKeptRun}
+use Rattle.tb_keep.specs.Playing.{CanAllFollow, DoesNotFollow, IsNextRecord, LiesBehind}
+use Rattle.tb_keep.specs.declared.journal_run.JournalFault.{JournalFault}
+use Rattle.tb_keep.specs.declared.journal_run.JournalFault.TheVariants as journal_fault
+use Rattle.tb_keep.specs.declared.journal_run.KeepEnd.{KeepEnd}
+use Rattle.tb_keep.specs.declared.journal_run.KeepEnd.TheVariants as keep_end
+use Rattle.tb_lines.specs.Outputs.{charged}
+use Rattle.tb_model.specs.Releases.{ReleaseValue}
+use Rattle.tb_model.specs.Setups.{SetupValue}
+use Rattle.tb_release.specs.Chains.{release_after}
+use Rattle.tb_release.specs.declared.edits.Edit.{Edit}
+use Rattle.tb_script.specs.Scripts.{ScriptLine}
+use Rattle.tb_script.specs.declared.run.RunEnd.{RunEnd}
+use Rattle.tb_script.specs.declared.run.RunEnd.TheVariants as run_end
+
+-- batches are those of a journal's file, where what it had is told: it stands for just these, and
+-- behind them lies a gate that isn't open; and each fits the setup and can follow
+pub record AreRecovered (setup : SetupValue) (base : ReleaseValue) (content : Option (List ℕ))
+    (batches : List (List Edit)) : Type 0 where
+  pub all : WhereTold content (λ file. IsFileOf batches (opened_file file))
+  pub follow : CanAllFollow setup base batches
+
+-- where a custodian stands that has published them, with a live journal, and holds no edits
+abbrev pub after_playing : ReleaseValue → List (List Edit) → ℕ → KeptState
+after_playing base batches faults = record {
+  state = after_seeing (batches_of base batches);
+  batches = batches;
+  further = None;
+  faults = faults;
+}
+
+-- the record of number r, from 1, is at this place of the file: before it are these batches, which
+-- can all follow
+pub record ComesAfter (setup : SetupValue) (base : ReleaseValue) (batches : List (List Edit))
+    (file : List ℕ) (place r : ℕ) : Type 0 where
+  pub behind : LiesBehind file place batches
+  pub follow : CanAllFollow setup base batches
+  pub number : r ≡ length batches + 1
+
+-- the first fault of a journal's file: it is of another kind; or a record of it, once it was
+-- opened, is none or doesn't follow
+abbrev pub IsJournalFault : SetupValue → ReleaseValue → List ℕ → JournalFault → Type 0
+IsJournalFault setup base file journal_fault.NotJournal = IsForeign file
+IsJournalFault setup base file (journal_fault.BadRecord r) =
+    (batches : List (List Edit)) × (place : ℕ)
+    × ComesAfter setup base batches (opened_file file) place r
+    × IsBad (drop place (opened_file file))
+IsJournalFault setup base file (journal_fault.DoesNotFollow r) =
+    (batches : List (List Edit)) × (place : ℕ) × (edits : List Edit)
+    × ComesAfter setup base batches (opened_file file) place r
+    × IsNextRecord (opened_file file) place edits
+    × DoesNotFollow setup (release_after base (batches_of base batches)) edits
+
+-- what is seen of a run with a journal: what its file had, where that is told; what a stop at its
+-- end may leave; and before and after it the disk's count of faults, how far the counter of steps
+-- has come, and the bytes that the sink took, where it tells them
+pub record JournalRun : Type 1 where
+  pub content : Option (List ℕ)
+  pub may_leave : List ℕ → Type 0
+  pub faults : ℕ
+  pub faults_after : ℕ
+  pub steps : ℕ
+  pub steps_after : ℕ
+  pub taken : Option (List ℕ)
+  pub taken_after : Option (List ℕ)
+
+-- The lines of a script were answered, by how that ended, from where the custodian stood first.
+-- Each file that a stop now may leave stands for the batches to which the replies led, and at most
+-- one further batch.
+pub record AreKeptFrom (first : KeptState) (setup : SetupValue) (base : ReleaseValue)
+    (lines : List ScriptLine) (end : RunEnd) (saw : JournalRun) : Type 0 where
+  pub last : KeptState
+  pub run : IsKeptRun setup base lines end (charged first saw.steps) (charged last saw.steps_after)
+      saw.taken saw.taken_after
+  pub left : EachStandsFor saw.may_leave last.batches last.further
+  pub counted : last.faults ≡ saw.faults_after
+
+-- and first it had published the batches of the journal's file, and the journal was live
+pub record AreLinesKept (setup : SetupValue) (base : ReleaseValue) (lines : List ScriptLine)
+    (end : RunEnd) (saw : JournalRun) : Type 0 where
+  pub batches : List (List Edit)
+  pub recovered : AreRecovered setup base saw.content batches
+  pub first_faults : ℕ
+  pub since : saw.faults ≤ first_faults
+  pub kept : AreKeptFrom (after_playing base batches first_faults) setup base lines end saw
+
+-- no line was answered
+abbrev pub IsNoneAnswered : JournalRun → Type 0
+IsNoneAnswered saw = (saw.taken_after ≡ saw.taken) × (saw.steps_after ≡ saw.steps)
+
+-- how a script with a journal was run: its lines were answered, or memory ran out before the first;
+-- or the journal's file is refused, or the disk failed, and none was
+abbrev pub IsJournalRun : SetupValue → ReleaseValue → List ScriptLine → KeepEnd → JournalRun
+    → Type 0
+IsJournalRun setup base lines (keep_end.Ran run_end.Done) saw =
+    AreLinesKept setup base lines run_end.Done saw
+IsJournalRun setup base lines (keep_end.Ran run_end.WriteFault) saw =
+    AreLinesKept setup base lines run_end.WriteFault saw
+IsJournalRun setup base lines (keep_end.Ran run_end.Memory) saw = IsNoneAnswered saw
+IsJournalRun setup base lines (keep_end.Refused fault) saw =
+    IsNoneAnswered saw × WhereTold saw.content (λ file. IsJournalFault setup base file fault)
+IsJournalRun setup base lines keep_end.DiskFault saw = IsNoneAnswered saw
