@@ -11,6 +11,9 @@ const ROOM: usize = 64;
 // How such a line begins, and no other text does.
 const BEGINNING: &[u8] = b"fault ";
 
+// How a reply begins that tells of a publication.
+const PUBLISHED: &[u8] = b"published ";
+
 // As many bytes of a line as are kept.
 fn first_of(line: &[u8]) -> [u8; ROOM] {
     let mut first = [0; ROOM];
@@ -20,18 +23,28 @@ fn first_of(line: &[u8]) -> [u8; ROOM] {
     first
 }
 
-/// The standard output, and the last line that it took, where that tells of a refusal.
+/// The standard output, and the last line that it took, where that tells of a refusal. It waits in a
+/// buffer, but that a reply that tells of a publication may be written out at once.
 #[derive(Drop)]
 pub struct LastLine<'a, P: Print> {
     out: RealSink<'a, P>,
     line: [u8; ROOM],
+    at_once: bool,
 }
 
 impl<'a, P: Print> LastLine<'a, P> {
     /// This output, of which no line is known.
     pub fn new(out: RealSink<'a, P>) -> LastLine<'a, P> {
-        let line = [0; ROOM];
-        LastLine { out, line }
+        LastLine {
+            out,
+            line: [0; ROOM],
+            at_once: false,
+        }
+    }
+
+    /// From now on a reply that tells of a publication is written out at once, with all before it.
+    pub fn acknowledge_at_once(&mut self) {
+        self.at_once = true;
     }
 
     /// Writes out what waits.
@@ -55,6 +68,9 @@ impl<'a, P: Print> Sink for LastLine<'a, P> {
         if bytes.starts_with(BEGINNING) {
             self.line = first_of(bytes);
         }
-        self.out.write(bytes)
+        match self.out.write(bytes) {
+            Wrote::All if self.at_once && bytes.starts_with(PUBLISHED) => self.out.flush(),
+            wrote => wrote,
+        }
     }
 }

@@ -2,8 +2,8 @@
 //! scratch over the records and perturbed by the cell key method.
 //!
 //! The program runs the top call of `tb_top`, whose contract tells what was written with each
-//! status, over the system's arguments, files, output and listeners. It keeps the last line of a
-//! run that was refused (`last_line`), and says in words on the standard error what that means
+//! status, over the system's arguments, files, output, listeners and disk. It keeps the last line
+//! of a run that was refused (`last_line`), and says in words on the standard error what that means
 //! (`refusals`, and `kinds` for the records of files).
 #![tactic(auto)]
 
@@ -18,6 +18,7 @@ ghost use Rattle.std.specs.Prelude.{◌≡◌, ◌<◌};
 use last_line::LastLine;
 use refusals::Refusal;
 use std::alloc::AllocError;
+use std::fs::File;
 use std::io::ErrorKind;
 use std::marker::Brand;
 use std::net::{Net, TcpListener, TcpStream};
@@ -29,7 +30,8 @@ use std::thread::Threads;
 use std::{env, io};
 use tb_base::{Status, Steps};
 use tb_io::{RealFiles, RealSink, Wrote};
-use tb_top::{End, end_by, read_command, tablebuilder};
+use tb_real_disk::RealDisk;
+use tb_top::{Command, End, end_by, read_command, tablebuilder};
 use unbuffered::Unbuffered;
 
 // The arguments after the program's name.
@@ -51,10 +53,10 @@ fn end_of(fault: &io::Error) -> End {
     }
 }
 
-// Runs the command of these arguments over the system's files and listeners, writing into `out`,
-// with a counter of its own.
+// Runs the command of these arguments over the system's files, listeners and disk, writing into
+// `out`, with a counter of its own.
 fn run_words<
-    R: FileSystem
+    R: FileSystem<File = File>
         + Print
         + Eprint
         + AllocGlobal
@@ -79,6 +81,7 @@ fn run_words<
         &mut RealFiles::new(rt),
         out,
         &mut net,
+        &mut RealDisk::new(rt),
         &mut steps,
     )
 }
@@ -90,6 +93,12 @@ fn explain(rt: &impl Eprint, words: &[String], status: Status, line: Option<&str
         // Where that can't be written nothing can be said of it either.
         let _ = rt.eprintln(refusal);
     }
+}
+
+// Whether the command of these arguments keeps its batches in a journal: each `published` of its
+// replies then acknowledges one.
+fn keeps(words: &[String]) -> bool {
+    matches!(read_command(words), Some(Command::Keep { .. }))
 }
 
 // Writes out what waits and explains how the run of these arguments ended, which is returned.
@@ -110,7 +119,7 @@ fn finish<R: Print + Eprint>(
 // Runs the command of the arguments.
 fn run<
     R: Env
-        + FileSystem
+        + FileSystem<File = File>
         + Print
         + Eprint
         + AllocGlobal
@@ -127,6 +136,9 @@ fn run<
     let mut out = LastLine::new(out);
     match arguments(rt) {
         Ok(words) => {
+            if keeps(&words) {
+                out.acknowledge_at_once();
+            }
             let status = run_words::<R, Brand>(rt, &words, &mut out, Blank::new(1));
             finish(rt, &words, status, &mut out)
         }

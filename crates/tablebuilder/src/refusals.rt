@@ -10,6 +10,7 @@ use thiserror::Error;
 pub enum Refusal<'a> {
     #[error("usage: tablebuilder script CLASSES RECODES PTABLE PEOPLE THRESHOLD SCRIPT\n       \
         tablebuilder lanes CLASSES RECODES PTABLE PEOPLE THRESHOLD SCRIPT\n       \
+        tablebuilder keep CLASSES RECODES PTABLE PEOPLE THRESHOLD JOURNAL SCRIPT\n       \
         tablebuilder serve CLASSES RECODES PTABLE PEOPLE THRESHOLD PORT WORKERS SESSIONS\n       \
         tablebuilder gen N START")]
     Usage,
@@ -25,6 +26,17 @@ pub enum Refusal<'a> {
         letters and digits), a blank and the lane's line, or begin with #; it may have 4096 \
         bytes, and a script 64 lanes")]
     BadLine { file: &'a str, at: u32 },
+    #[error("{file}: the file must be a journal that `keep` has written, or not be there yet")]
+    NotJournal { file: &'a str },
+    #[error("{file}, record {at}: the record must be as `keep` wrote it; the file was changed since \
+        then, so put a copy of the journal in its place")]
+    BadRecord { file: &'a str, at: u32 },
+    #[error("{file}, record {at}: the batch must fit the classification and follow the microdata \
+        and the batches before it, so name the files that this journal was begun with")]
+    DoesNotFollow { file: &'a str, at: u32 },
+    #[error("{file}: the file must be there or its folder, this user must be allowed to read and \
+        write it, no other process may have it, and the disk must take what is written")]
+    Disk { file: &'a str },
     #[error("the standard output must take what is written")]
     Unwritten,
     #[error("out of memory")]
@@ -56,6 +68,11 @@ fn inputs_of<'c, 'a>(command: &'c Command<'a>) -> Option<&'c Inputs<'a>> {
     match command {
         Command::Script { inputs, script: _ } => Some(inputs),
         Command::Lanes { inputs, script: _ } => Some(inputs),
+        Command::Keep {
+            inputs,
+            journal: _,
+            script: _,
+        } => Some(inputs),
         Command::Serve { inputs, service: _ } => Some(inputs),
         Command::Gen { .. } => None,
     }
@@ -72,8 +89,28 @@ fn name_of<'a>(command: &Command<'a>, file: Input) -> Option<&'a str> {
         Input::Script => match command {
             Command::Script { inputs: _, script } => Some(script.as_str()),
             Command::Lanes { inputs: _, script } => Some(script.as_str()),
+            Command::Keep {
+                inputs: _,
+                journal: _,
+                script,
+            } => Some(script.as_str()),
             Command::Serve { .. } | Command::Gen { .. } => None,
         },
+    }
+}
+
+// The name that the arguments give the journal's file.
+fn journal_of<'a>(command: &Command<'a>) -> Option<&'a str> {
+    match command {
+        Command::Keep {
+            inputs: _,
+            journal,
+            script: _,
+        } => Some(journal.as_str()),
+        Command::Script { .. }
+        | Command::Lanes { .. }
+        | Command::Serve { .. }
+        | Command::Gen { .. } => None,
     }
 }
 
@@ -107,6 +144,20 @@ fn of_file<'a>(command: &Command<'a>, line: &str) -> Option<Refusal<'a>> {
     }
 }
 
+// What a last line says of the journal's file.
+fn of_journal<'a>(command: &Command<'a>, line: &str) -> Option<Refusal<'a>> {
+    let file = journal_of(command)?;
+    let mut words = line.split(' ').skip(3);
+    let kind = words.next()?;
+    let at = read_at(words.next()?)?;
+    match kind {
+        "NotJournal" => Some(Refusal::NotJournal { file }),
+        "BadRecord" => Some(Refusal::BadRecord { file, at }),
+        "DoesNotFollow" => Some(Refusal::DoesNotFollow { file, at }),
+        _ => None,
+    }
+}
+
 impl<'a> Refusal<'a> {
     /// Why a run of a command, of which there is none where the arguments are refused, ended with
     /// this status and this last line. None where it was done.
@@ -125,8 +176,16 @@ impl<'a> Refusal<'a> {
                     port: service.port(),
                     workers: service.workers(),
                 }),
-                Command::Script { .. } | Command::Lanes { .. } | Command::Gen { .. } => None,
+                Command::Script { .. }
+                | Command::Lanes { .. }
+                | Command::Keep { .. }
+                | Command::Gen { .. } => None,
             },
+            Status::Journal => of_journal(command?, line?),
+            Status::DiskFault => {
+                let file = journal_of(command?)?;
+                Some(Refusal::Disk { file })
+            }
             Status::Schema
             | Status::Perturbation
             | Status::Microdata

@@ -7,9 +7,10 @@ use Rattle.tb_words.specs.Words.{AreTested}
 use Rattle.tb_top.specs.declared.command.Command.{Command}
 use Rattle.tb_top.specs.declared.endings.End.{End}
 use Rattle.tb_top.specs.declared.endings.End.TheVariants as end
-use Rattle.tb_top.specs.Asking.{AskedValue, Contents, asked_over, is_service}
+use Rattle.tb_top.specs.Asking.{AskedValue, Contents, asked_over, is_keep, is_service}
 use Rattle.tb_top.specs.Calls.{Call}
-use Rattle.tb_top.specs.Commands.{NamedFile, asks_to_generate, asks_to_serve, command_files, command_of}
+use Rattle.tb_top.specs.Commands.{NamedFile, asks_to_generate, asks_to_keep, asks_to_serve, command_files, command_of}
+use Rattle.tb_top.specs.KeepOutputs.{IsStill}
 use Rattle.tb_top.specs.Loading.{Loads, Reading}
 use Rattle.tb_top.specs.Promises.{Keeps}
 use Rattle.tb_top.proofs.Finishing.{IsAnsweredBy, IsToldBy, keeps_by_load, keeps_by_task, keeps_by_usage, reading_of}
@@ -61,12 +62,15 @@ pub keeps_asked : {A : Type 0} (view : A → AskedValue) (call : Call) (after : 
     → (command_of call.words ≡ None → Ok x ≡ Err end.Usage)
     → ((command : Command) → command_of call.words ≡ Some command
     → Loads (reading_of call after) 0 (command_files command) view (asked_over command) (Ok x))
-    → is_service (view x) ≡ asks_to_serve (command_of call.words) → All IsFresh call.ports → IsAnsweredBy call (view x) s → Keeps call s
-keeps_asked view call after x s usage loads serves fresh answered = go (command_of call.words) refl
+    → is_service (view x) ≡ asks_to_serve (command_of call.words) → is_keep (view x) ≡ asks_to_keep (command_of call.words)
+    → All IsFresh call.ports → IsAnsweredBy call (view x) s → Keeps call s
+keeps_asked view call after x s usage loads serves keeps fresh answered = go (command_of call.words) refl
   where
     go : (o : Option Command) → command_of call.words ≡ o → Keeps call s
     go None none = let bad = usage none in cc
-    go (Some command) named = keeps_by_task view call after command x s named (loads command named) (serves ∙ ap asks_to_serve named) fresh answered
+    go (Some command) named =
+        keeps_by_task view call after command x s named (loads command named) (serves ∙ ap asks_to_serve named) (keeps ∙ ap asks_to_keep named)
+        fresh answered
 
 abbrev failed : (A : Type 0) → End → Result A End
 failed A e = Err e
@@ -77,12 +81,13 @@ pub keeps_unasked : {A : Type 0} (view : A → AskedValue) (call : Call) (after 
     → ((command : Command) → command_of call.words ≡ Some command
     → Loads (reading_of call after) 0 (command_files command) view (asked_over command) (Err e))
     → (asks_to_generate (command_of call.words) ≡ true → e ≡ end.Memory)
-    → call.steps_after ≡ call.steps → All IsFresh call.ports → call.ports_after ≡ call.ports → IsToldBy call e s → Keeps call s
-keeps_unasked view call after e s usage loads accepted free fresh same told = go (command_of call.words) refl
+    → call.steps_after ≡ call.steps → All IsFresh call.ports → call.ports_after ≡ call.ports → IsStill call.disk → IsToldBy call e s
+    → Keeps call s
+keeps_unasked view call after e s usage loads accepted free fresh same still told = go (command_of call.words) refl
   where
     go : (o : Option Command) → command_of call.words ≡ o → Keeps call s
     go None none =
         let is = usage none in
         let ended : e ≡ end.Usage = cc in
-        keeps_by_usage call s none free fresh same (subst (λ x. IsToldBy call x s) ended told)
-    go (Some command) named = keeps_by_load view call after command e s named (loads command named) accepted free fresh same told
+        keeps_by_usage call s none free fresh same still (subst (λ x. IsToldBy call x s) ended told)
+    go (Some command) named = keeps_by_load view call after command e s named (loads command named) accepted free fresh same still told

@@ -1,16 +1,27 @@
 -- What a script's run over a new board says of what was asked for.
-use Rattle.std.proofs.Common.{◌≡◌, subst, ℕ, ◌≤◌, List, [], Option, inl, inr}
+use Rattle.std.proofs.Common.{◌≡◌, ◌∙◌, ap, subst, ℕ, ◌≤◌, List, [], Option, inl, inr, refl, arith}
+use Rattle.std.specs.Prelude.{codes}
 use Rattle.tb_base.specs.declared.status.Status.{Status}
 use Rattle.tb_board.specs.Custodians.{CustodianValue, OpeningValue, first_custodian}
+use Rattle.tb_disk.specs.Images.{WhereTold}
 use Rattle.tb_io.proofs.FaultLemmas.{HasRisen-earlier}
 use Rattle.tb_model.specs.Releases.{ReleaseValue}
 use Rattle.tb_model.specs.Setups.{SetupValue}
+use Rattle.tb_rows.specs.FaultNames.{FaultNameValue}
 use Rattle.tb_script.specs.Runs.{IsLaneReply}
-use Rattle.tb_script.specs.Scripts.{ScriptValue}
+use Rattle.tb_script.specs.Scripts.{ScriptLine, ScriptValue}
+use Rattle.tb_script.specs.declared.run.RunEnd.{RunEnd}
+use Rattle.tb_script.specs.declared.run.RunEnd.TheVariants as run_end
+use Rattle.tb_serve.specs.Serves.{Output, output}
+use Rattle.tb_serve.specs.Serves as serves
+use Rattle.tb_keep.specs.JournalRuns.{AreLinesKept, IsJournalFault, IsJournalRun, JournalRun}
+use Rattle.tb_keep.specs.declared.journal_run.JournalFault.{JournalFault}
+use Rattle.tb_keep.specs.declared.journal_run.KeepEnd.TheVariants as keep_end
 use Rattle.tb_lines.specs.Outputs.{AreReplies, ReplyValue}
 use Rattle.tb_session.specs.Parties.{state_at}
-use Rattle.tb_top.specs.Asking.{Script}
-use Rattle.tb_top.specs.Endings.{IsEnded}
+use Rattle.tb_top.specs.Asking.{CensusValue, Script, base_of}
+use Rattle.tb_top.specs.Endings.{IsEnded, fault_line, last_line, status_of}
+use Rattle.tb_top.specs.KeepOutputs.{IsKeepAnswered, IsKeepLine, journal_fault_at, journal_fault_name, journal_line}
 use Rattle.tb_top.specs.Loading.{IsBase, census_over}
 use Rattle.tb_top.specs.Outputs.{AreAnswers}
 use Rattle.tb_top.specs.declared.endings.End.{End}
@@ -34,3 +45,75 @@ ended-later e s f between f' t mid t' le up same h =
       | inl all ↦ inl all
       | inr part ↦ inr (part.0, HasRisen-earlier f between f' le part.1 up, part.2)
     ]
+
+-- ---- with a journal
+
+-- a last line that was written, as it is told elsewhere
+pub ended-so : (e : End) (s : Status) (f f' : ℕ) (t t' : Option (List ℕ)) → IsEnded e s f f' t t'
+    → serves.IsEnded (last_line e) (status_of e) (output t t' f f') s
+ended-so e s f f' t t' (inl all) = inl all
+ended-so e s f f' t t' (inr (is, rose, part)) = inr (is, part, rose)
+
+-- that of a journal's file, by the parts of its fault's name
+pub refused-line : (fault : JournalFault) (name : FaultNameValue) (number at : ℕ) (word : List ℕ) → name ≡ journal_fault_name fault
+    → number ≡ name.number → word ≡ name.word → at ≡ journal_fault_at fault
+    → fault_line (codes "journal") (record { number = number; word = word }) at ≡ journal_line fault
+refused-line fault name number at word is one two three = rw (one, two, three, is) refl
+
+-- one that was written from some moment on was so from an earlier one, if nothing was taken between
+pub line-later : (text : List ℕ) (final s : Status) (f between f' : ℕ) (t mid t' : Option (List ℕ)) → f ≤ between → between ≤ f' → mid ≡ t
+    → serves.IsEnded text final (output mid t' between f') s → serves.IsEnded text final (output t t' f f') s
+line-later text final s f between f' t mid t' le up same h =
+    let P : Option (List ℕ) → Type 0 = λ x. serves.IsEnded text final (output x t' between f') s in
+    elim (subst P same h) [
+      | inl all ↦ inl all
+      | inr part ↦ inr (part.0, part.1, HasRisen-earlier f between f' le part.2 up)
+    ]
+
+-- a run with a journal over the new board of a census
+module _ (setup : SetupValue) (opening : OpeningValue) (custodian : CustodianValue) (made : custodian ≡ first_custodian opening)
+    (first : IsBase opening.start.base) where
+  same-base : custodian.writer.start.base ≡ base_of (census_over setup opening.start.base)
+  same-base = ap (λ (c : CustodianValue). c.writer.start.base) made ∙ first
+
+  -- what became of its lines
+  pub lines-on-board : (lines : List ScriptLine) (e end : RunEnd) (saw : JournalRun) → e ≡ end
+      → IsJournalRun setup custodian.writer.start.base lines (keep_end.Ran e) saw
+      → IsJournalRun setup (base_of (census_over setup opening.start.base)) lines (keep_end.Ran end) saw
+  lines-on-board lines e end saw is run =
+      let P : ReleaseValue → Type 0 = λ base. IsJournalRun setup base lines (keep_end.Ran end) saw in
+      let Q : RunEnd → Type 0 = λ x. IsJournalRun setup custodian.writer.start.base lines (keep_end.Ran x) saw in
+      subst P same-base (subst Q is run)
+
+  -- the fault of its journal's file
+  pub fault-on-board : (content : Option (List ℕ)) (fault : JournalFault)
+      → WhereTold content (λ file. IsJournalFault setup custodian.writer.start.base file fault)
+      → WhereTold content (λ file. IsJournalFault setup (base_of (census_over setup opening.start.base)) file fault)
+  fault-on-board content fault told = λ file h.
+      subst (λ (base : ReleaseValue). IsJournalFault setup base file fault) same-base (told file h)
+
+-- the disk's count of faults at an earlier moment
+module _ (census : CensusValue) (script : ScriptValue) (s : Status) (out : Output) (saw : JournalRun) (faults : ℕ) (le : faults ≤ saw.faults)
+    (up : saw.faults ≤ saw.faults_after) where
+  abbrev earlier : JournalRun
+  earlier = record saw { faults = faults }
+
+  lines-earlier : (end : RunEnd) → AreLinesKept census.setup (base_of census) script.lines end saw
+      → AreLinesKept census.setup (base_of census) script.lines end earlier
+  lines-earlier end h = record {
+    batches = h.batches;
+    recovered = h.recovered;
+    first_faults = h.first_faults;
+    since = omega (arith, le, h.since);
+    kept = record { last = h.kept.last; run = h.kept.run; left = h.kept.left; counted = h.kept.counted };
+  }
+
+  line-earlier : (final : Status) (text : List ℕ) → IsKeepLine census saw final text → IsKeepLine census earlier final text
+  line-earlier final text (inl refused) = inl refused
+  line-earlier final text (inr (rose, is, line)) = inr (HasRisen-earlier faults saw.faults saw.faults_after le rose up, is, line)
+
+  pub answered-earlier : IsKeepAnswered census script s out saw → IsKeepAnswered census script s out earlier
+  answered-earlier (inl (inl (is, lines))) = inl (inl (is, lines-earlier run_end.Done lines))
+  answered-earlier (inl (inr (is, rose, lines))) = inl (inr (is, rose, lines-earlier run_end.WriteFault lines))
+  answered-earlier (inr (free, inl ended)) = inr (free, inl ended)
+  answered-earlier (inr (free, inr (final, text, line, ended))) = inr (free, inr (final, text, line-earlier final text line, ended))

@@ -2,7 +2,7 @@
 use Rattle.std.proofs.Common.{◌≡◌, ◌∙◌, ap, sym, refl, ℕ, ◌<◌, List, [], length, map, Bool, true, false, not}
 use Rattle.std.specs.Prelude.{bytes_eq, codes, get_or}
 use Rattle.std.proofs.lemmas.List.{get_or-map}
-use Rattle.tb_top.specs.Commands.{gen_named, gen_words, serve_named, serve_words, with_script, word_at, words_with_script}
+use Rattle.tb_top.specs.Commands.{gen_named, gen_words, keep_named, keep_words, serve_named, serve_words, with_script, word_at, words_with_script}
 
 pub word-read : {S : Type 0} (words : List S) (f : S → List ℕ) (i : ℕ) (s : S) (text : List ℕ) → i < length words → s ≡ get_or words i s
     → text ≡ f s → word_at (map f words) i ≡ text
@@ -17,6 +17,12 @@ pub with-script : (word : List ℕ) (words : List (List ℕ)) (a b c d e f g : L
     → word_at words 1 ≡ b → word_at words 2 ≡ c → word_at words 3 ≡ d → word_at words 4 ≡ e → word_at words 5 ≡ f → word_at words 6 ≡ g
     → with_script b c d e f g ≡ words_with_script word words
 with-script word words a b c d e f g len first is h1 h2 h3 h4 h5 h6 = rw (len, first, is, h1, h2, h3, h4, h5, h6) refl
+
+pub keep-named : (words : List (List ℕ)) (a b c d e f g h : List ℕ) → length words ≡ 8 → word_at words 0 ≡ a → bytes_eq a
+    (codes "keep") ≡ true
+    → word_at words 1 ≡ b → word_at words 2 ≡ c → word_at words 3 ≡ d → word_at words 4 ≡ e → word_at words 5 ≡ f → word_at words 6 ≡ g
+    → word_at words 7 ≡ h → keep_named b c d e f g h ≡ keep_words words
+keep-named words a b c d e f g h len first is h1 h2 h3 h4 h5 h6 h7 = rw (len, first, is, h1, h2, h3, h4, h5, h6, h7) refl
 
 pub serve-named : (words : List (List ℕ)) (a b c d e f g h i : List ℕ) → length words ≡ 9 → word_at words 0 ≡ a → bytes_eq a
     (codes "serve") ≡ true

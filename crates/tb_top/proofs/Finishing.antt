@@ -11,20 +11,25 @@ use Rattle.tb_top.specs.declared.endings.End.TheVariants as end
 use Rattle.tb_top.specs.declared.command.Command.{Command}
 use Rattle.tb_top.specs.declared.command.Command.TheVariants as command
 use Rattle.tb_top.specs.declared.command.Inputs.{Inputs}
-use Rattle.tb_top.specs.Asking.{AskedValue, CensusValue, Gen, Lanes, Script, Serve, asked_of, asked_over, contents_at, is_service}
+use Rattle.tb_top.specs.Asking.{AskedValue, CensusValue, Gen, Keep, Lanes, Script, Serve, asked_of, asked_over, contents_at, is_keep, is_service}
 use Rattle.tb_top.specs.Calls.{Call, HasTaken, IsReadTo, NetFailed, ReadFailed, WriteFailed}
-use Rattle.tb_top.specs.Commands.{asks_to_generate, asks_to_serve, command_of, command_files, input_files, named}
+use Rattle.tb_top.specs.Commands.{asks_to_generate, asks_to_keep, asks_to_serve, command_of, command_files, input_files, named}
 use Rattle.tb_top.specs.Endings.{IsEnded, IsLineWritten, last_line, status_of}
+use Rattle.tb_top.specs.KeepOutputs.{HasFailed, IsStill}
 use Rattle.tb_top.specs.Loading.{Hold, Loads, Reading}
 use Rattle.tb_top.specs.Populations.{Population}
 use Rattle.tb_top.specs.Promises.{EndsBy, IsCaused, IsDefined, IsLastLine, IsPriced, IsTextOf, IsWhole, Keeps, defined_status}
-use Rattle.tb_top.specs.Outputs.{AreScriptReplies, IsAnswered, IsBegun, IsGenAnswered, IsOutput, IsScriptAnswered}
+use Rattle.tb_top.specs.Outputs.{AreScriptReplies, IsAnswered, IsBegun, IsGenAnswered, IsScriptAnswered}
 use Rattle.tb_top.specs.Summaries.{summary_line}
 use Rattle.tb_top.specs.Summing.{most_counted}
+use Rattle.tb_top.proofs.Boards.{ended-so}
+use Rattle.tb_top.proofs.DiskKept.{KeepsDisk, ended-on-disk, left-alone}
+use Rattle.tb_top.proofs.Keeping.{keeps_by_keep}
 use Rattle.tb_top.proofs.PortLemmas.{all-unserved, same-idle}
 use Rattle.tb_top.proofs.LanesRun.{keeps_by_lanes}
 use Rattle.tb_top.proofs.Serving.{keeps_by_service}
 use Rattle.tb_top.proofs.Telling.{always_told, where_told}
+use Rattle.tb_top.proofs.Writing.{keeps_by_written}
 use Rattle.tb_script.specs.Scripts.{ScriptValue}
 use Rattle.tb_serve.specs.Stages.{IsFresh}
 use Rattle.tb_lines.specs.Outputs.{ReplyValue, price_of, text_of}
@@ -34,37 +39,52 @@ use Rattle.tb_io.proofs.TakenLemmas.{TookPart-all}
 abbrev pub IsToldBy : Call → End → Status → Type 0
 IsToldBy call e s = IsEnded e s call.write_faults call.write_faults_after call.taken call.taken_after
 
--- an end has neither of these statuses
-not_of_ends : (e : End) → (status_of e ≢ status.NetFault) × (status_of e ≢ status.WriteFault) × (status_of e ≢ status.Done)
-not_of_ends end.Usage = (λ h. cc, λ h. cc, λ h. cc)
-not_of_ends (end.TooLong input.Classes) = (λ h. cc, λ h. cc, λ h. cc)
-not_of_ends (end.TooLong input.Recodes) = (λ h. cc, λ h. cc, λ h. cc)
-not_of_ends (end.TooLong input.Ptable) = (λ h. cc, λ h. cc, λ h. cc)
-not_of_ends (end.TooLong input.People) = (λ h. cc, λ h. cc, λ h. cc)
-not_of_ends (end.TooLong input.Script) = (λ h. cc, λ h. cc, λ h. cc)
-not_of_ends (end.Unread file) = (λ h. cc, λ h. cc, λ h. cc)
-not_of_ends (end.Refused input.Classes name at) = (λ h. cc, λ h. cc, λ h. cc)
-not_of_ends (end.Refused input.Recodes name at) = (λ h. cc, λ h. cc, λ h. cc)
-not_of_ends (end.Refused input.Ptable name at) = (λ h. cc, λ h. cc, λ h. cc)
-not_of_ends (end.Refused input.People name at) = (λ h. cc, λ h. cc, λ h. cc)
-not_of_ends (end.Refused input.Script name at) = (λ h. cc, λ h. cc, λ h. cc)
-not_of_ends (end.BadLine at) = (λ h. cc, λ h. cc, λ h. cc)
-not_of_ends end.Memory = (λ h. cc, λ h. cc, λ h. cc)
+-- the statuses of ends
+abbrev IsOfEnd : Status → Type 0
+IsOfEnd status.Done = ⊥
+IsOfEnd status.Usage = Unit {0}
+IsOfEnd status.Schema = Unit {0}
+IsOfEnd status.Perturbation = Unit {0}
+IsOfEnd status.Microdata = Unit {0}
+IsOfEnd status.Script = Unit {0}
+IsOfEnd status.ReadFault = Unit {0}
+IsOfEnd status.WriteFault = ⊥
+IsOfEnd status.Memory = Unit {0}
+IsOfEnd status.NetFault = ⊥
+IsOfEnd status.Journal = ⊥
+IsOfEnd status.DiskFault = ⊥
+
+of_end : (e : End) → IsOfEnd (status_of e)
+of_end end.Usage = tt
+of_end (end.TooLong input.Classes) = tt
+of_end (end.TooLong input.Recodes) = tt
+of_end (end.TooLong input.Ptable) = tt
+of_end (end.TooLong input.People) = tt
+of_end (end.TooLong input.Script) = tt
+of_end (end.Unread file) = tt
+of_end (end.Refused input.Classes name at) = tt
+of_end (end.Refused input.Recodes name at) = tt
+of_end (end.Refused input.Ptable name at) = tt
+of_end (end.Refused input.People name at) = tt
+of_end (end.Refused input.Script name at) = tt
+of_end (end.BadLine at) = tt
+of_end end.Memory = tt
 
 module _ (call : Call) (at : List ℕ → Option (List ℕ)) (same : call.ports_after ≡ call.ports) where
   -- a last line is the text of its status
-  whole_by_status : (s : Status) (text : List ℕ) → s ≢ status.Done → s ≢ status.WriteFault → s ≢ status.NetFault → s ≢ status.Memory
-      → IsLastLine call at s text → IsWhole call at s text
-  whole_by_status status.Done text d w n m h = absurd (d refl)
-  whole_by_status status.Usage text d w n m h = h
-  whole_by_status status.Schema text d w n m h = h
-  whole_by_status status.Perturbation text d w n m h = h
-  whole_by_status status.Microdata text d w n m h = h
-  whole_by_status status.Script text d w n m h = h
-  whole_by_status status.ReadFault text d w n m h = h
-  whole_by_status status.WriteFault text d w n m h = absurd (w refl)
-  whole_by_status status.Memory text d w n m h = absurd (m refl)
-  whole_by_status status.NetFault text d w n m h = absurd (n refl)
+  whole_by_status : (s : Status) (text : List ℕ) → IsOfEnd s → s ≢ status.Memory → IsLastLine call at s text → IsWhole call at s text
+  whole_by_status status.Done text of m h = absurd of
+  whole_by_status status.Usage text of m h = h
+  whole_by_status status.Schema text of m h = h
+  whole_by_status status.Perturbation text of m h = h
+  whole_by_status status.Microdata text of m h = h
+  whole_by_status status.Script text of m h = h
+  whole_by_status status.ReadFault text of m h = h
+  whole_by_status status.WriteFault text of m h = absurd of
+  whole_by_status status.Memory text of m h = absurd (m refl)
+  whole_by_status status.NetFault text of m h = absurd of
+  whole_by_status status.Journal text of m h = absurd of
+  whole_by_status status.DiskFault text of m h = absurd of
 
   -- an end is memory's, or has another status
   memory_or_not : (e : End) → (e ≡ end.Memory) ⊎ ((e ≢ end.Memory) × (status_of e ≢ status.Memory))
@@ -86,9 +106,7 @@ module _ (call : Call) (at : List ℕ → Option (List ℕ)) (same : call.ports_
   whole_by_end : (e : End) → (e ≢ end.Memory → EndsBy call at e) → IsWhole call at (status_of e) (last_line e)
   whole_by_end e ends = elim (memory_or_not e) [
     | inl memory ↦ rw memory (inl refl, all-unserved call.ports call.ports_after same)
-    | inr (other, other_status) ↦
-        let (net, write, done) = not_of_ends e in
-        whole_by_status (status_of e) (last_line e) done write net other_status (e, ends other, refl, refl)
+    | inr (other, other_status) ↦ whole_by_status (status_of e) (last_line e) (of_end e) other_status (e, ends other, refl, refl)
   ]
 
   text_by_end : (e : End) (s : Status) → (e ≢ end.Memory → EndsBy call at e) → IsToldBy call e s →
@@ -152,7 +170,7 @@ module _ (call : Call) (e : End) (s : Status) (usage : e ≡ end.Usage → comma
     (rose : (file : Input) → e ≡ end.Unread file → ReadFailed call) (ends : IfSome call.content (λ at. e ≢ end.Memory → EndsBy call at e))
     (accepted : asks_to_generate (command_of call.words) ≡ true → e ≡ end.Memory)
     (priced : IfSome call.content (λ at. (call.steps_after ≡ call.steps) ⊎ IsPriced call at s)) (fresh : All IsFresh call.ports)
-    (same : call.ports_after ≡ call.ports) where
+    (same : call.ports_after ≡ call.ports) (disk : KeepsDisk call s) where
   usage_told : IsToldBy call e s → s ≡ status.Usage → (command_of call.words ≡ None) × HasTaken call (last_line end.Usage)
   usage_told (inl (is, took)) h = let u = status-usage e (sym is ∙ h) in (usage u, subst (λ x. HasTaken call (last_line x)) u took)
   usage_told (inr (is, failed, part)) h = cc
@@ -166,12 +184,16 @@ module _ (call : Call) (e : End) (s : Status) (usage : e ≡ end.Usage → comma
   read_told (inr (is, failed, part)) h = cc
 
   write_told : IsToldBy call e s → s ≡ status.WriteFault → WriteFailed call
-  write_told (inl (is, took)) h = let (net, write, done) = not_of_ends e in absurd (write (sym is ∙ h))
+  write_told (inl (is, took)) h = absurd (subst IsOfEnd (sym is ∙ h) (of_end e))
   write_told (inr (is, failed, part)) h = failed
 
   net_told : IsToldBy call e s → s ≡ status.NetFault → NetFailed call
-  net_told (inl (is, took)) h = let (net, write, done) = not_of_ends e in absurd (net (sym is ∙ h))
+  net_told (inl (is, took)) h = absurd (subst IsOfEnd (sym is ∙ h) (of_end e))
   net_told (inr (is, failed, part)) h = cc
+
+  disk_told : IsToldBy call e s → s ≡ status.DiskFault → HasFailed call.disk
+  disk_told (inl (is, took)) h = absurd (subst IsOfEnd (sym is ∙ h) (of_end e))
+  disk_told (inr (is, failed, part)) h = cc
 
   generated_told : IsToldBy call e s → asks_to_generate (command_of call.words) ≡ true → (s ≡ status.Done) ⊎ ((s ≡ status.WriteFault) ⊎ (s ≡ status.Memory))
   generated_told (inl (is, took)) h = inr (inr (is ∙ ap status_of (accepted h)))
@@ -186,16 +208,24 @@ module _ (call : Call) (e : End) (s : Status) (usage : e ≡ end.Usage → comma
     read_fault = read_told told;
     write_fault = write_told told;
     net_fault = net_told told;
+    disk_fault = disk_told told;
     exact = where_told _ _ call.content (λ at by. exact_by_end call at same e s by rose told) ends;
     price = priced;
     generated = generated_told told;
     idle = same-idle call.ports call.ports_after same fresh;
     others = λ h. same;
+    kept = disk.kept;
+    still = disk.still;
   }
 
 -- no line was answered
 unpriced : (call : Call) (s : Status) → call.steps_after ≡ call.steps → IfSome call.content (λ at. (call.steps_after ≡ call.steps) ⊎ IsPriced call at s)
 unpriced call s free = always_told _ call.content (λ at. inl free)
+
+-- no line was answered, nor anything done with the disk
+undone : (call : Call) (e : End) (s : Status) → call.steps_after ≡ call.steps → IsToldBy call e s → IsStill call.disk → KeepsDisk call s
+undone call e s free told still =
+    ended-on-disk call s (status_of e) (last_line e) free (inl (e, refl, refl)) (ended-so e s _ _ _ _ told) (λ h. still)
 
 -- how a script was answered, and the status
 abbrev pub IsScriptAnsweredBy : Call → CensusValue → ScriptValue → Status → Type 0
@@ -203,50 +233,25 @@ IsScriptAnsweredBy call census script s = IsScriptAnswered (Script census script
     call.taken_after call.steps call.steps_after
 
 -- a run that comes to its script keeps all
-keeps_by_script : (call : Call) (command : Command) (census : CensusValue) (script : ScriptValue) (s : Status)
-    → command_of call.words ≡ Some command → IfSome call.content (λ at. asked_of at call.words ≡ Ok (Script census script))
-    → All IsFresh call.ports → call.ports_after ≡ call.ports → IsScriptAnsweredBy call census script s → Keeps call s
-keeps_by_script call command census script s named told fresh same (inl (is, (replies, answers, took, cost))) =
-    let output : IsOutput (Script census script) call.ports call.ports_after status.Done (text_of replies) = (refl, (replies, answers, refl)) in
-    record {
-      text = where_told _ _ call.content (λ at h. (text_of replies, inl (rw is (Script census script, h, output)), took)) told;
-      usage = λ h. cc;
-      words = λ h. cc;
-      read_fault = λ h. cc;
-      write_fault = λ h. cc;
-      net_fault = λ h. cc;
-      exact = where_told _ _ call.content (λ at h. inl (is ∙ sym (ap defined_status h))) told;
-      price = where_told _ _ call.content (λ at h. inr (
+module _ (call : Call) (command : Command) (census : CensusValue) (script : ScriptValue) (s : Status)
+    (named : command_of call.words ≡ Some command) (told : IfSome call.content (λ at. asked_of at call.words ≡ Ok (Script census script)))
+    (fresh : All IsFresh call.ports) (same : call.ports_after ≡ call.ports) (still : IsStill call.disk) where
+  keeps_by_script : IsScriptAnsweredBy call census script s → Keeps call s
+  keeps_by_script (inl (is, (replies, answers, took, cost))) =
+      keeps_by_written call command (Script census script) s (text_of replies) named told (refl, (replies, answers, refl))
+      (where_told _ _ call.content (λ at h. inr (
         Script census script,
         h,
         (replies, answers, (λ m. cc, TookPart-all call.taken call.taken_after (text_of replies) took), cost),
-      )) told;
-      generated = λ h. inl is;
-      idle = same-idle call.ports call.ports_after same fresh;
-      others = λ h. same;
-    }
-keeps_by_script call command census script s named told fresh same (inr (inl (is, failed, (replies, answers, part, cost)))) =
-    let text = text_of replies in
-    let output : IsOutput (Script census script) call.ports call.ports_after status.Done text = (refl, (replies, answers, refl)) in
-    record {
-      text = where_told _ _ call.content (λ at h.
-          let whole : IsWhole call at status.Done (take part.0 text ++ drop part.0 text) = rw (take-append-drop part.0 text)
-          (Script census script, h, output) in
-          (take part.0 text, inr (is, (status.Done, drop part.0 text, whole)), part.1)) told;
-      usage = λ h. cc;
-      words = λ h. cc;
-      read_fault = λ h. cc;
-      write_fault = λ h. failed;
-      net_fault = λ h. cc;
-      exact = where_told _ _ call.content (λ at h. inr (inr (inr (inl (is, failed))))) told;
-      price = where_told _ _ call.content (λ at h. inr (Script census script, h, (replies, answers, (λ m. cc, part), cost))) told;
-      generated = λ h. inr (inl is);
-      idle = same-idle call.ports call.ports_after same fresh;
-      others = λ h. same;
-    }
-keeps_by_script call command census script s named told fresh same (inr (inr (free, ended))) =
-    keeps_by_end call end.Memory s (λ h. cc) (λ h. cc) (λ file h. cc) (always_told _ call.content (λ at ne. absurd (ne refl)))
-    (λ h. refl) (unpriced call s free) fresh same ended
+      )) told)
+      fresh same (left-alone call (Script census script) s refl told still) (inl (is, took))
+  keeps_by_script (inr (inl (is, failed, (replies, answers, part, cost)))) =
+      keeps_by_written call command (Script census script) s (text_of replies) named told (refl, (replies, answers, refl))
+      (where_told _ _ call.content (λ at h. inr (Script census script, h, (replies, answers, (λ m. cc, part), cost))) told)
+      fresh same (left-alone call (Script census script) s refl told still) (inr (is, failed, part))
+  keeps_by_script (inr (inr (free, ended))) =
+      keeps_by_end call end.Memory s (λ h. cc) (λ h. cc) (λ file h. cc) (always_told _ call.content (λ at ne. absurd (ne refl)))
+      (λ h. refl) (unpriced call s free) fresh same (undone call end.Memory s free ended still) ended
 
 -- how a generated population was answered, and the status
 abbrev pub IsGenAnsweredBy : Call → Population → CensusValue → ScriptValue → Status → Type 0
@@ -256,89 +261,59 @@ IsGenAnsweredBy call population census script s = IsGenAnswered population censu
 -- a run that sums up replies keeps all, whatever of its line was taken
 module _ (call : Call) (command : Command) (population : Population) (census : CensusValue) (script : ScriptValue) (s : Status)
     (named : command_of call.words ≡ Some command) (told : IfSome call.content (λ at. asked_of at call.words ≡ Ok (Gen population census script)))
-    (fresh : All IsFresh call.ports) (same : call.ports_after ≡ call.ports) (replies : List ReplyValue)
-    (answers : AreScriptReplies census script replies) (cost : call.steps_after ≤ call.steps + price_of replies) where
-  abbrev line : List ℕ
-  line = summary_line population (text_of replies)
-
+    (fresh : All IsFresh call.ports) (same : call.ports_after ≡ call.ports) (still : IsStill call.disk) where
   -- the counter rose by no more than the replies' price
-  priced_by : IsBegun (Gen population census script) s replies call.taken call.taken_after
+  priced_by : (replies : List ReplyValue) → AreScriptReplies census script replies → call.steps_after ≤ call.steps + price_of replies
+      → IsBegun (Gen population census script) s replies call.taken call.taken_after
       → IfSome call.content (λ at. (call.steps_after ≡ call.steps) ⊎ IsPriced call at s)
-  priced_by begun = where_told _ _ call.content (λ at h. inr (Gen population census script, h, (replies, answers, begun, cost))) told
+  priced_by replies answers cost begun =
+      where_told _ _ call.content (λ at h. inr (Gen population census script, h, (replies, answers, begun, cost))) told
 
-  whole_line : (at : List ℕ → Option (List ℕ)) → asked_of at call.words ≡ Ok (Gen population census script) → IsWhole call at status.Done line
-  whole_line at h = (Gen population census script, h, (refl, (replies, answers, refl)))
-
-  keeps_by_line : IsLineWritten status.Done line s call.write_faults call.write_faults_after call.taken call.taken_after → Keeps call s
-  keeps_by_line (inl (is, took)) = record {
-    text = where_told _ _ call.content (λ at h. (line, inl (rw is (whole_line at h)), took)) told;
-    usage = λ h. cc;
-    words = λ h. cc;
-    read_fault = λ h. cc;
-    write_fault = λ h. cc;
-    net_fault = λ h. cc;
-    exact = where_told _ _ call.content (λ at h. inl (is ∙ sym (ap defined_status h))) told;
-    price = priced_by (inl (λ m. cc, TookPart-all call.taken call.taken_after line took));
-    generated = λ h. inl is;
-    idle = same-idle call.ports call.ports_after same fresh;
-    others = λ h. same;
-  }
-  keeps_by_line (inr (is, failed, part)) = record {
-    text = where_told _ _ call.content (λ at h.
-        let whole : IsWhole call at status.Done (take part.0 line ++ drop part.0 line) = rw (take-append-drop part.0 line) (whole_line at h) in
-        (take part.0 line, inr (is, (status.Done, drop part.0 line, whole)), part.1)) told;
-    usage = λ h. cc;
-    words = λ h. cc;
-    read_fault = λ h. cc;
-    write_fault = λ h. failed;
-    net_fault = λ h. cc;
-    exact = where_told _ _ call.content (λ at h. inr (inr (inr (inl (is, failed))))) told;
-    price = priced_by (inl (λ m. cc, part));
-    generated = λ h. inr (inl is);
-    idle = same-idle call.ports call.ports_after same fresh;
-    others = λ h. same;
-  }
+  -- a line was written, or a beginning of it
+  begun_line : (replies : List ReplyValue) → IsLineWritten status.Done (summary_line population (text_of replies)) s call.write_faults
+      call.write_faults_after call.taken call.taken_after → IsBegun (Gen population census script) s replies call.taken call.taken_after
+  begun_line replies (inl (is, took)) = inl (λ m. cc, TookPart-all call.taken call.taken_after (summary_line population (text_of replies)) took)
+  begun_line replies (inr (is, failed, part)) = inl (λ m. cc, part)
 
   -- the text of the replies has more bytes than are counted
-  begun_long : most_counted < length (text_of replies) → IsToldBy call end.Memory s
+  begun_long : (replies : List ReplyValue) → most_counted < length (text_of replies) → IsToldBy call end.Memory s
       → IsBegun (Gen population census script) s replies call.taken call.taken_after
-  begun_long long (inl (is, took)) = inr (long, TookPart-all call.taken call.taken_after (last_line end.Memory) took)
-  begun_long long (inr (is, failed, part)) = inr (long, part)
+  begun_long replies long (inl (is, took)) = inr (long, TookPart-all call.taken call.taken_after (last_line end.Memory) took)
+  begun_long replies long (inr (is, failed, part)) = inr (long, part)
 
-  keeps_by_long : most_counted < length (text_of replies) → IsToldBy call end.Memory s → Keeps call s
-  keeps_by_long long ended =
+  -- a run that comes to a generated population keeps all
+  keeps_by_gen : IsGenAnsweredBy call population census script s → Keeps call s
+  keeps_by_gen (inl (replies, answers, cost, inl written)) =
+      keeps_by_written call command (Gen population census script) s (summary_line population (text_of replies)) named told (refl, (replies, answers, refl))
+      (priced_by replies answers cost (begun_line replies written)) fresh same
+      (left-alone call (Gen population census script) s refl told still) written
+  keeps_by_gen (inl (replies, answers, cost, inr (long, ended))) =
       keeps_by_end call end.Memory s (λ h. cc) (λ h. cc) (λ file h. cc) (always_told _ call.content (λ at ne. absurd (ne refl)))
-      (λ h. refl) (priced_by (begun_long long ended)) fresh same ended
-
--- a run that comes to a generated population keeps all
-keeps_by_gen : (call : Call) (command : Command) (population : Population) (census : CensusValue) (script : ScriptValue) (s : Status)
-    → command_of call.words ≡ Some command → IfSome call.content (λ at. asked_of at call.words ≡ Ok (Gen population census script))
-    → All IsFresh call.ports → call.ports_after ≡ call.ports → IsGenAnsweredBy call population census script s → Keeps call s
-keeps_by_gen call command population census script s named told fresh same (inl (replies, answers, cost, inl written)) =
-    keeps_by_line call command population census script s named told fresh same replies answers cost written
-keeps_by_gen call command population census script s named told fresh same (inl (replies, answers, cost, inr (long, ended))) =
-    keeps_by_long call command population census script s named told fresh same replies answers cost long ended
-keeps_by_gen call command population census script s named told fresh same (inr (free, ended)) =
-    keeps_by_end call end.Memory s (λ h. cc) (λ h. cc) (λ file h. cc) (always_told _ call.content (λ at ne. absurd (ne refl)))
-    (λ h. refl) (unpriced call s free) fresh same ended
+      (λ h. refl) (priced_by replies answers cost (begun_long replies long ended)) fresh same
+      (left-alone call (Gen population census script) s refl told still) ended
+  keeps_by_gen (inr (free, ended)) =
+      keeps_by_end call end.Memory s (λ h. cc) (λ h. cc) (λ file h. cc) (always_told _ call.content (λ at ne. absurd (ne refl)))
+      (λ h. refl) (unpriced call s free) fresh same (undone call end.Memory s free ended still) ended
 
 -- how what is asked for was answered, and the status
 abbrev pub IsAnsweredBy : Call → AskedValue → Status → Type 0
-IsAnsweredBy call asked s = IsAnswered asked call.ports call.ports_after s call.write_faults call.write_faults_after call.taken
-    call.taken_after call.steps call.steps_after
+IsAnsweredBy call asked s = IsAnswered asked call.ports call.ports_after call.disk s call.write_faults call.write_faults_after
+    call.taken call.taken_after call.steps call.steps_after
 
 -- a run that comes to its task keeps all
 keeps_by_answer : (call : Call) (command : Command) (asked : AskedValue) (s : Status) → command_of call.words ≡ Some command
-    → is_service asked ≡ asks_to_serve (Some command)
+    → is_service asked ≡ asks_to_serve (Some command) → is_keep asked ≡ asks_to_keep (Some command)
     → IfSome call.content (λ at. asked_of at call.words ≡ Ok asked) → All IsFresh call.ports → IsAnsweredBy call asked s → Keeps call s
-keeps_by_answer call command (Script census script) s named serves told fresh (same, answered) =
-    keeps_by_script call command census script s named told fresh same answered
-keeps_by_answer call command (Lanes census script) s named serves told fresh (same, free, answered) =
-    keeps_by_lanes call command census script s named told free fresh same answered
-keeps_by_answer call command (Serve census service) s named serves told fresh answered =
-    keeps_by_service call command census service s named (sym serves) told answered.0 fresh answered.1
-keeps_by_answer call command (Gen population census script) s named serves told fresh (same, answered) =
-    keeps_by_gen call command population census script s named told fresh same answered
+keeps_by_answer call command (Script census script) s named serves keeps told fresh (same, still, answered) =
+    keeps_by_script call command census script s named told fresh same still answered
+keeps_by_answer call command (Lanes census script) s named serves keeps told fresh (same, still, free, answered) =
+    keeps_by_lanes call command census script s named told free fresh same still answered
+keeps_by_answer call command (Keep census journal script) s named serves keeps told fresh (same, answered) =
+    keeps_by_keep call command census journal script s named (sym keeps) told fresh same answered
+keeps_by_answer call command (Serve census service) s named serves keeps told fresh (still, free, answered) =
+    keeps_by_service call command census service s named (sym serves) told free fresh still answered
+keeps_by_answer call command (Gen population census script) s named serves keeps told fresh (same, still, answered) =
+    keeps_by_gen call command population census script s named told fresh same still answered
 
 -- what a call saw of its files
 abbrev pub reading_of : Call → Option (List ℕ → Option (List ℕ)) → Reading
@@ -385,6 +360,7 @@ holds-inputs at (Some name) classes ptable people threshold = (refl, (refl, (ref
 holds : (at : List ℕ → Option (List ℕ)) (c : Command) → Hold at (command_files c) (contents_at at (command_files c))
 holds at (command.Script inputs script) = holds-files at inputs.recodes inputs.classes inputs.ptable inputs.people script inputs.threshold
 holds at (command.Lanes inputs script) = holds-files at inputs.recodes inputs.classes inputs.ptable inputs.people script inputs.threshold
+holds at (command.Keep inputs journal script) = holds-files at inputs.recodes inputs.classes inputs.ptable inputs.people script inputs.threshold
 holds at (command.Serve inputs service) = holds-inputs at inputs.recodes inputs.classes inputs.ptable inputs.people inputs.threshold
 holds at (command.Gen population) = tt
 
@@ -393,8 +369,8 @@ pub keeps_by_load : {A : Type 0} (view : A → AskedValue) (call : Call) (after 
     (e : End) (s : Status) → command_of call.words ≡ Some command
     → Loads (reading_of call after) 0 (command_files command) view (asked_over command) (Err e)
     → (asks_to_generate (command_of call.words) ≡ true → e ≡ end.Memory) → call.steps_after ≡ call.steps
-    → All IsFresh call.ports → call.ports_after ≡ call.ports → IsToldBy call e s → Keeps call s
-keeps_by_load view call after command e s named loads accepted free fresh same told =
+    → All IsFresh call.ports → call.ports_after ≡ call.ports → IsStill call.disk → IsToldBy call e s → Keeps call s
+keeps_by_load view call after command e s named loads accepted free fresh same still told =
     let rose = λ (file : Input) (h : e ≡ end.Unread file). loads.risen file (ap (λ (x : End). Err x) h) in
     let last = λ (file : Input) (h : e ≡ end.Unread file). loads.last file (ap (λ (x : End). Err x) h) in
     keeps_by_end call e s
@@ -405,23 +381,25 @@ keeps_by_load view call after command e s named loads accepted free fresh same t
       caused call command e named rose last,
       same,
     )) loads.gives)
-    accepted (unpriced call s free) fresh same told
+    accepted (unpriced call s free) fresh same (undone call e s free told still) told
 
 -- other arguments end the run at once
 pub keeps_by_usage : (call : Call) (s : Status) → command_of call.words ≡ None → call.steps_after ≡ call.steps → All IsFresh call.ports
-    → call.ports_after ≡ call.ports → IsToldBy call end.Usage s → Keeps call s
-keeps_by_usage call s none free fresh same told =
+    → call.ports_after ≡ call.ports → IsStill call.disk → IsToldBy call end.Usage s → Keeps call s
+keeps_by_usage call s none free fresh same still told =
     keeps_by_end call end.Usage s (λ h. none) (λ h. refl) (λ file h. cc)
     (always_told _ call.content (λ at ne. (rw none refl, tt, same)))
-    (λ h. absurd (true≢false (sym h ∙ ap asks_to_generate none))) (unpriced call s free) fresh same told
+    (λ h. absurd (true≢false (sym h ∙ ap asks_to_generate none))) (unpriced call s free) fresh same
+    (undone call end.Usage s free told still) told
 
 -- files that were all read lead to the task
 pub keeps_by_task : {A : Type 0} (view : A → AskedValue) (call : Call) (after : Option (List ℕ → Option (List ℕ))) (command : Command)
     (x : A) (s : Status) → command_of call.words ≡ Some command
     → Loads (reading_of call after) 0 (command_files command) view (asked_over command) (Ok x)
-    → is_service (view x) ≡ asks_to_serve (Some command) → All IsFresh call.ports → IsAnsweredBy call (view x) s → Keeps call s
-keeps_by_task view call after command x s named loads serves fresh answered =
-    keeps_by_answer call command (view x) s named serves
+    → is_service (view x) ≡ asks_to_serve (Some command) → is_keep (view x) ≡ asks_to_keep (Some command)
+    → All IsFresh call.ports → IsAnsweredBy call (view x) s → Keeps call s
+keeps_by_task view call after command x s named loads serves keeps fresh answered =
+    keeps_by_answer call command (view x) s named serves keeps
     (where_told _ _ call.content (λ at g. rw named (g (contents_at at (command_files command)) (holds at command))) loads.gives) fresh answered
 
 -- the text of a read fault is the line that names the file of the last reading

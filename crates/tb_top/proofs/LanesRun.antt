@@ -1,5 +1,5 @@
 -- What a call keeps that answered the lanes of a script at the same time.
-use Rattle.std.proofs.Common.{◌≡◌, ◌⊎◌, ◌∙◌, refl, sym, subst, ℕ, ◌≤◌, List, [], ◌++◌, All, Option, Some, Ok, inl, inr}
+use Rattle.std.proofs.Common.{◌≡◌, ◌≢◌, ◌⊎◌, refl, subst, ℕ, ◌≤◌, List, [], ◌++◌, All, Option, Some, Ok, inl, inr}
 use Rattle.std.specs.Prelude.{IfSome}
 use Rattle.tb_base.specs.declared.status.Status.{Status}
 use Rattle.tb_base.specs.declared.status.Status.TheVariants as status
@@ -20,11 +20,13 @@ use Rattle.tb_top.specs.Asking.{CensusValue, Lanes, asked_of}
 use Rattle.tb_top.specs.Calls.{Call}
 use Rattle.tb_top.specs.Commands.{command_of}
 use Rattle.tb_top.specs.Endings.{IsEnded, last_line}
+use Rattle.tb_top.specs.KeepOutputs.{IsStill}
 use Rattle.tb_top.specs.LaneOutputs.{AreLanesAnswered, IsLanesText, IsTextOfPhases}
 use Rattle.tb_top.specs.Loading.{IsBase, census_over}
 use Rattle.tb_top.specs.Promises.{IsWhole, Keeps}
 use Rattle.tb_top.specs.declared.command.Command.{Command}
 use Rattle.tb_top.specs.declared.endings.End.TheVariants as end
+use Rattle.tb_top.proofs.DiskKept.{left-alone}
 use Rattle.tb_top.proofs.PortLemmas.{all-unserved, same-idle}
 use Rattle.tb_top.proofs.Serving.{IsFinal, keeps_by_final}
 
@@ -33,9 +35,14 @@ lanes_final : (census : CensusValue) (script : ScriptValue) (s : Status) (text :
 lanes_final census script s text (inl (done, phases)) = rw done tt
 lanes_final census script s text (inr (memory, cut)) = rw memory tt
 
-never_net : (census : CensusValue) (script : ScriptValue) (s : Status) (text : List ℕ) → IsLanesText census script s text → s ≡ status.NetFault → ⊥
-never_net census script s text (inl (done, phases)) net = let wrong = sym done ∙ net in cc
-never_net census script s text (inr (memory, cut)) net = let wrong = sym memory ∙ net in cc
+lanes_status : (census : CensusValue) (script : ScriptValue) (s : Status) (text : List ℕ) → IsLanesText census script s text
+    → (s ≡ status.Done) ⊎ (s ≡ status.Memory)
+lanes_status census script s text (inl (done, phases)) = inl done
+lanes_status census script s text (inr (memory, cut)) = inr memory
+
+no_fault : (s : Status) → (s ≡ status.Done) ⊎ (s ≡ status.Memory) → (s ≢ status.NetFault) × (s ≢ status.DiskFault)
+no_fault s (inl done) = (λ h. cc, λ h. cc)
+no_fault s (inr memory) = (λ h. cc, λ h. cc)
 
 -- and is what a run with it writes
 lanes_whole : (call : Call) (at : List ℕ → Option (List ℕ)) (census : CensusValue) (script : ScriptValue) (s : Status) (text : List ℕ)
@@ -48,12 +55,15 @@ lanes_whole call at census script s text asked same (inr (memory, cut)) =
 -- a run that came to its lanes keeps all
 pub keeps_by_lanes : (call : Call) (command : Command) (census : CensusValue) (script : ScriptValue) (s : Status)
     → command_of call.words ≡ Some command → IfSome call.content (λ at. asked_of at call.words ≡ Ok (Lanes census script))
-    → call.steps_after ≡ call.steps → All IsFresh call.ports → call.ports_after ≡ call.ports
+    → call.steps_after ≡ call.steps → All IsFresh call.ports → call.ports_after ≡ call.ports → IsStill call.disk
     → AreLanesAnswered census script s call.write_faults call.write_faults_after call.taken call.taken_after → Keeps call s
-keeps_by_lanes call command census script s named told free fresh same (final, text, is, ended) =
+keeps_by_lanes call command census script s named told free fresh same still (final, text, is, ended) =
+    let one = lanes_status census script final text is in
+    let none = no_fault final one in
     keeps_by_final call command (Lanes census script) s final text named told free (lanes_final census script final text is)
-    (λ net. absurd (never_net census script final text is net)) (same-idle call.ports call.ports_after same fresh) (λ h. same)
-    (λ h net. never_net census script final text is net) (λ at asked. lanes_whole call at census script final text asked same is) ended
+    (λ net. absurd (none.0 net)) (λ disk. absurd (none.1 disk)) (same-idle call.ports call.ports_after same fresh) (λ h. same)
+    (λ h. one) (λ at asked. lanes_whole call at census script final text asked same is)
+    (left-alone call (Lanes census script) s refl told still) ended
 
 -- ---- over a new board
 

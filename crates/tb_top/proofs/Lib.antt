@@ -1,8 +1,10 @@
 pub mod AskingSteps
 pub mod Boards
 pub mod CommandWords
+pub mod DiskKept
 pub mod Finishing
 pub mod Generating
+pub mod Keeping
 pub mod LanesRun
 pub mod LoadSteps
 pub mod PortLemmas
@@ -11,3 +13,4 @@ pub mod SummaryTexts
 pub mod SummedUp
 pub mod Telling
 pub mod Tested
+pub mod Writing

@@ -10,24 +10,24 @@ use Rattle.tb_release.specs.Batches.{BatchValue}
 use Rattle.tb_serve.specs.Each.{Each}
 use Rattle.tb_serve.specs.Ports.{PortValue}
 use Rattle.tb_serve.specs.Reports.{memory_line, net_line, report, some_failed}
-use Rattle.tb_serve.specs.Serves.{IsEnded, IsPortServed, Output, final_status, output}
+use Rattle.tb_serve.specs.Serves.{IsEnded, IsPortServed, final_status}
 use Rattle.tb_serve.specs.Stages.{HasRisenSome, IsFresh, IsUntouched}
 use Rattle.tb_top.specs.Asking.{AskedValue, CensusValue, Serve, asked_of, base_of}
-use Rattle.tb_top.specs.Calls.{Call, HasTaken, NetFailed}
+use Rattle.tb_top.specs.Calls.{Call, HasTaken, NetFailed, output_of}
 use Rattle.tb_top.specs.Commands.{asks_to_generate, asks_to_serve, command_of}
+use Rattle.tb_top.specs.KeepOutputs.{HasFailed, IsStill}
 use Rattle.tb_top.specs.ServicePorts.{Service}
-use Rattle.tb_top.specs.Promises.{IsAskedOutput, IsDefined, IsTextOf, IsWhole, Keeps, defined_status}
+use Rattle.tb_top.specs.Promises.{IsAskedOutput, IsDefined, IsJournalText, IsTextOf, IsWhole, Keeps, defined_status}
 use Rattle.tb_top.specs.Services.{IsIdle, IsServiceAnswered}
 use Rattle.tb_top.specs.declared.command.Command.{Command}
 use Rattle.tb_top.specs.declared.command.Command.TheVariants as command
+use Rattle.tb_top.proofs.DiskKept.{KeepsDisk, left-alone}
 use Rattle.tb_top.proofs.PortLemmas.{each-idle, each-unserved, each-whole, idle-whole, risen-whole, take-fresh, unserved}
 use Rattle.tb_top.proofs.Telling.{always_told, where_told}
 
--- the statuses of a service whose last line was written
+-- the statuses of a task whose last line was written
 abbrev pub IsFinal : Status → Type 0
 IsFinal status.Done = Unit {0}
-IsFinal status.Memory = Unit {0}
-IsFinal status.NetFault = Unit {0}
 IsFinal status.Usage = ⊥
 IsFinal status.Schema = ⊥
 IsFinal status.Perturbation = ⊥
@@ -35,19 +35,19 @@ IsFinal status.Microdata = ⊥
 IsFinal status.Script = ⊥
 IsFinal status.ReadFault = ⊥
 IsFinal status.WriteFault = ⊥
-
--- what a call saw of its sink
-abbrev pub output_of : Call → Output
-output_of call = output call.taken call.taken_after call.write_faults call.write_faults_after
+IsFinal status.Memory = Unit {0}
+IsFinal status.NetFault = Unit {0}
+IsFinal status.Journal = Unit {0}
+IsFinal status.DiskFault = Unit {0}
 
 -- a call that came to its task, and whose text is one of a final status
 module _ (call : Call) (command : Command) (task : AskedValue) (s final : Status) (text : List ℕ)
     (named : command_of call.words ≡ Some command)
     (told : IfSome call.content (λ at. asked_of at call.words ≡ Ok task)) (free : call.steps_after ≡ call.steps)
-    (is_final : IsFinal final) (failed : final ≡ status.NetFault → NetFailed call) (idle : All IsIdle call.ports_after)
-    (others : asks_to_serve (Some command) ≡ false → call.ports_after ≡ call.ports)
-    (no_net : asks_to_generate (Some command) ≡ true → final ≢ status.NetFault)
-    (whole : (at : List ℕ → Option (List ℕ)) → asked_of at call.words ≡ Ok task → IsWhole call at final text) where
+    (is_final : IsFinal final) (failed : final ≡ status.NetFault → NetFailed call) (disk_failed : final ≡ status.DiskFault → HasFailed call.disk)
+    (idle : All IsIdle call.ports_after) (others : asks_to_serve (Some command) ≡ false → call.ports_after ≡ call.ports)
+    (generated : asks_to_generate (Some command) ≡ true → (final ≡ status.Done) ⊎ (final ≡ status.Memory))
+    (whole : (at : List ℕ → Option (List ℕ)) → asked_of at call.words ≡ Ok task → IsWhole call at final text) (disk : KeepsDisk call s) where
   text_told : (at : List ℕ → Option (List ℕ)) → asked_of at call.words ≡ Ok task
       → IsEnded text final (output_of call) s → (bytes : List ℕ) × IsTextOf call at s bytes × HasTaken call bytes
   text_told at asked (inl (is, took)) = (text, inl (rw is (whole at asked)), took)
@@ -56,17 +56,19 @@ module _ (call : Call) (command : Command) (task : AskedValue) (s final : Status
       (take part.0 text, inr (is, (final, drop part.0 text, all)), part.1)
 
   defined_told : (at : List ℕ → Option (List ℕ)) → asked_of at call.words ≡ Ok task → (f : Status) → IsFinal f
-      → (f ≡ status.NetFault → NetFailed call) → s ≡ f → IsDefined call at s
-  defined_told at asked status.Done final net is = inl (is ∙ sym (ap defined_status asked))
-  defined_told at asked status.Memory final net is = inr (inl is)
-  defined_told at asked status.NetFault final net is = inr (inr (inr (inr (is, net refl))))
-  defined_told at asked status.Usage final net is = absurd final
-  defined_told at asked status.Schema final net is = absurd final
-  defined_told at asked status.Perturbation final net is = absurd final
-  defined_told at asked status.Microdata final net is = absurd final
-  defined_told at asked status.Script final net is = absurd final
-  defined_told at asked status.ReadFault final net is = absurd final
-  defined_told at asked status.WriteFault final net is = absurd final
+      → (f ≡ status.NetFault → NetFailed call) → IsWhole call at f text → s ≡ f → IsDefined call at s
+  defined_told at asked status.Done final net written is = inl (is ∙ sym (ap defined_status asked))
+  defined_told at asked status.Usage final net written is = absurd final
+  defined_told at asked status.Schema final net written is = absurd final
+  defined_told at asked status.Perturbation final net written is = absurd final
+  defined_told at asked status.Microdata final net written is = absurd final
+  defined_told at asked status.Script final net written is = absurd final
+  defined_told at asked status.ReadFault final net written is = absurd final
+  defined_told at asked status.WriteFault final net written is = absurd final
+  defined_told at asked status.Memory final net written is = inr (inl is)
+  defined_told at asked status.NetFault final net written is = inr (inr (inr (inr (inl (is, net refl)))))
+  defined_told at asked status.Journal final net written is = inr (inr (inr (inr (inr (text, subst (λ x. IsJournalText call at x text) (sym is) written)))))
+  defined_told at asked status.DiskFault final net written is = inr (inr (inr (inr (inr (text, subst (λ x. IsJournalText call at x text) (sym is) written)))))
 
   -- it has no other status than the final one and WriteFault
   never : (other : Status) → IsEnded text final (output_of call) s → other ≢ status.WriteFault → (IsFinal other → ⊥) → s ≢ other
@@ -75,7 +77,7 @@ module _ (call : Call) (command : Command) (task : AskedValue) (s final : Status
 
   exact_told : (at : List ℕ → Option (List ℕ)) → IsEnded text final (output_of call) s
       → asked_of at call.words ≡ Ok task → IsDefined call at s
-  exact_told at (inl (is, took)) asked = defined_told at asked final is_final failed is
+  exact_told at (inl (is, took)) asked = defined_told at asked final is_final failed (whole at asked) is
   exact_told at (inr (is, part, rose)) asked = inr (inr (inr (inl (is, rose))))
 
   write_told : IsEnded text final (output_of call) s → s ≡ status.WriteFault → HasRisen call.write_faults call.write_faults_after
@@ -86,25 +88,16 @@ module _ (call : Call) (command : Command) (task : AskedValue) (s final : Status
   net_told (inl (is, took)) h = failed (sym is ∙ h)
   net_told (inr (is, part, rose)) h = cc
 
-  -- where a generated population is asked for it isn't NetFault
-  final_told : (f : Status) → IsFinal f → f ≢ status.NetFault → (f ≡ status.Done) ⊎ ((f ≡ status.WriteFault) ⊎ (f ≡ status.Memory))
-  final_told status.Done is net = inl refl
-  final_told status.Memory is net = inr (inr refl)
-  final_told status.NetFault is net = absurd (net refl)
-  final_told status.Usage is net = absurd is
-  final_told status.Schema is net = absurd is
-  final_told status.Perturbation is net = absurd is
-  final_told status.Microdata is net = absurd is
-  final_told status.Script is net = absurd is
-  final_told status.ReadFault is net = absurd is
-  final_told status.WriteFault is net = absurd is
+  disk_told : IsEnded text final (output_of call) s → s ≡ status.DiskFault → HasFailed call.disk
+  disk_told (inl (is, took)) h = disk_failed (sym is ∙ h)
+  disk_told (inr (is, part, rose)) h = cc
 
-  generated_told : IsEnded text final (output_of call) s → asks_to_generate (Some command) ≡ true
+  -- where a generated population is asked for it is Done or Memory
+  generated_told : IsEnded text final (output_of call) s → (final ≡ status.Done) ⊎ (final ≡ status.Memory)
       → (s ≡ status.Done) ⊎ ((s ≡ status.WriteFault) ⊎ (s ≡ status.Memory))
-  generated_told (inl (is, took)) h =
-      let P : Status → Type 0 = λ x. (x ≡ status.Done) ⊎ ((x ≡ status.WriteFault) ⊎ (x ≡ status.Memory)) in
-      subst P (sym is) (final_told final is_final (no_net h))
-  generated_told (inr (is, part, rose)) h = inr (inl is)
+  generated_told (inl (is, took)) (inl done) = inl (is ∙ done)
+  generated_told (inl (is, took)) (inr memory) = inr (inr (is ∙ memory))
+  generated_told (inr (is, part, rose)) one = inr (inl is)
 
   pub keeps_by_final : IsEnded text final (output_of call) s → Keeps call s
   keeps_by_final ended = record {
@@ -114,11 +107,14 @@ module _ (call : Call) (command : Command) (task : AskedValue) (s final : Status
     read_fault = λ h. absurd (never status.ReadFault ended (λ k. cc) (λ x. x) h);
     write_fault = write_told ended;
     net_fault = net_told ended;
+    disk_fault = disk_told ended;
     exact = where_told _ _ call.content (λ at asked. exact_told at ended asked) told;
     price = always_told _ call.content (λ at. inl free);
-    generated = λ h. generated_told ended (ap asks_to_generate (sym named) ∙ h);
+    generated = λ h. generated_told ended (generated (ap asks_to_generate (sym named) ∙ h));
     idle = idle;
     others = λ h. others (ap asks_to_serve (sym named) ∙ h);
+    kept = disk.kept;
+    still = disk.still;
   }
 
 -- an output of a final status
@@ -151,6 +147,10 @@ final_is : (f : Status) → (f ≡ status.Done) ⊎ (f ≡ status.NetFault) → 
 final_is f (inl done) = rw done tt
 final_is f (inr net) = rw net tt
 
+no_disk_by : (f : Status) → (f ≡ status.Done) ⊎ (f ≡ status.NetFault) → f ≢ status.DiskFault
+no_disk_by f (inl done) h = cc
+no_disk_by f (inr net) h = cc
+
 -- the element at a place is the same whatever stands in for one that isn't there
 failed_at : (ports : List PortValue) (i : ℕ) (x d : PortValue) → i < length ports → x ≡ get_or ports i x → x.failed ≡ true
     → (get_or ports i d).failed ≡ true
@@ -176,6 +176,7 @@ failed-risen call census service chain ports ports' each some =
 serves-alone : (c : Command) → asks_to_serve (Some c) ≡ true → asks_to_generate (Some c) ≡ true → ⊥
 serves-alone (command.Script inputs script) serves generates = cc
 serves-alone (command.Lanes inputs script) serves generates = cc
+serves-alone (command.Keep inputs journal script) serves generates = cc
 serves-alone (command.Serve inputs service) serves generates = cc
 serves-alone (command.Gen population) serves generates = cc
 
@@ -184,7 +185,7 @@ module _ (call : Call) (command : Command) (census : CensusValue) (service : Ser
     (named : command_of call.words ≡ Some command) (serves : asks_to_serve (Some command) ≡ true)
     (told : IfSome call.content (λ at. asked_of at call.words ≡ Ok (Serve census service))) (free : call.steps_after ≡ call.steps)
     (fresh : All IsFresh call.ports) (long : service.workers + 1 ≤ length call.ports)
-    (rest : drop (service.workers + 1) call.ports_after ≡ drop (service.workers + 1) call.ports) where
+    (rest : drop (service.workers + 1) call.ports_after ≡ drop (service.workers + 1) call.ports) (still : IsStill call.disk) where
   abbrev n : ℕ
   n = service.workers + 1
 
@@ -195,30 +196,33 @@ module _ (call : Call) (command : Command) (census : CensusValue) (service : Ser
   no_others : asks_to_serve (Some command) ≡ false → call.ports_after ≡ call.ports
   no_others h = cc
 
-  -- and no generated population is
-  not_generated : (final : Status) → asks_to_generate (Some command) ≡ true → final ≢ status.NetFault
+  -- and no generated population or journal is
+  not_generated : (final : Status) → asks_to_generate (Some command) ≡ true → (final ≡ status.Done) ⊎ (final ≡ status.Memory)
   not_generated final h = absurd (serves-alone command serves h)
+
+  on_disk : KeepsDisk call s
+  on_disk = left-alone call (Serve census service) s refl told still
 
   -- nothing was accepted
   by_untouched : (text : List ℕ) (final : Status) → IsFinal final → Each (IsUntouched service.port) (take n call.ports) (take n call.ports_after)
-      → (final ≡ status.NetFault → NetFailed call)
+      → (final ≡ status.NetFault → NetFailed call) → final ≢ status.DiskFault
       → ((at : List ℕ → Option (List ℕ)) → asked_of at call.words ≡ Ok (Serve census service) → IsWhole call at final text)
       → IsEnded text final (output_of call) s → Keeps call s
-  by_untouched text final is each net whole ended =
+  by_untouched text final is each net no_disk whole ended =
       let idle = idle-whole n call.ports call.ports_after long each.same_length rest fresh (each-idle service.port _ _ each ours) in
-      keeps_by_final call command (Serve census service) s final text named told free is net idle no_others
-      (not_generated final) whole ended
+      keeps_by_final call command (Serve census service) s final text named told free is net (λ h. absurd (no_disk h)) idle no_others
+      (not_generated final) whole on_disk ended
 
   by_memory : Each (IsUntouched service.port) (take n call.ports) (take n call.ports_after)
       → IsEnded memory_line status.Memory (output_of call) s → Keeps call s
   by_memory each ended =
       let none = each-whole n call.ports call.ports_after long each.same_length rest _ unserved (each-unserved service.port _ _ each) in
-      by_untouched memory_line status.Memory tt each (λ h. cc) (λ at asked. (inl refl, none)) ended
+      by_untouched memory_line status.Memory tt each (λ h. cc) (λ h. cc) (λ at asked. (inl refl, none)) ended
 
   by_unbound : Each (IsUntouched service.port) (take n call.ports) (take n call.ports_after)
       → HasRisenSome (take n call.ports) (take n call.ports_after) → IsEnded net_line status.NetFault (output_of call) s → Keeps call s
   by_unbound each rose ended =
-      by_untouched net_line status.NetFault tt each (λ h. risen-whole n call.ports call.ports_after long each.same_length rest rose)
+      by_untouched net_line status.NetFault tt each (λ h. risen-whole n call.ports call.ports_after long each.same_length rest rose) (λ h. cc)
       (λ at asked. (Serve census service, asked, inr ((each, rest), rose, refl, refl))) ended
 
   by_sessions : (chain : List BatchValue)
@@ -235,19 +239,20 @@ module _ (call : Call) (command : Command) (census : CensusValue) (service : Ser
       keeps_by_final call command (Serve census service) s (final_status ports) text named told free
       (final_is (final_status ports) (done_or_net ports ending))
       (λ h. risen-whole n call.ports call.ports_after long each.same_length rest
-      (failed-risen call census service chain _ _ each (some_by ports ending h))) idle no_others
-      (not_generated (final_status ports)) whole ended
+      (failed-risen call census service chain _ _ each (some_by ports ending h)))
+      (λ h. absurd (no_disk_by (final_status ports) (done_or_net ports ending) h)) idle no_others
+      (not_generated (final_status ports)) whole on_disk ended
 
 -- a run that served sessions keeps all
 pub keeps_by_service : (call : Call) (command : Command) (census : CensusValue) (service : Service) (s : Status)
     → command_of call.words ≡ Some command → asks_to_serve (Some command) ≡ true
     → IfSome call.content (λ at. asked_of at call.words ≡ Ok (Serve census service)) → call.steps_after ≡ call.steps
-    → All IsFresh call.ports
+    → All IsFresh call.ports → IsStill call.disk
     → IsServiceAnswered census service call.ports call.ports_after s call.write_faults call.write_faults_after call.taken call.taken_after
     → Keeps call s
-keeps_by_service call command census service s named serves told free fresh (long, rest, inl (each, ended)) =
-    by_memory call command census service s named serves told free fresh long rest each ended
-keeps_by_service call command census service s named serves told free fresh (long, rest, inr (inl (each, rose, ended))) =
-    by_unbound call command census service s named serves told free fresh long rest each rose ended
-keeps_by_service call command census service s named serves told free fresh (long, rest, inr (inr (chain, each, ended))) =
-    by_sessions call command census service s named serves told free fresh long rest chain each ended
+keeps_by_service call command census service s named serves told free fresh still (long, rest, inl (each, ended)) =
+    by_memory call command census service s named serves told free fresh long rest still each ended
+keeps_by_service call command census service s named serves told free fresh still (long, rest, inr (inl (each, rose, ended))) =
+    by_unbound call command census service s named serves told free fresh long rest still each rose ended
+keeps_by_service call command census service s named serves told free fresh still (long, rest, inr (inr (chain, each, ended))) =
+    by_sessions call command census service s named serves told free fresh long rest still chain each ended

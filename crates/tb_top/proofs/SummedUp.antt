@@ -1,5 +1,5 @@
 -- How a run ends that sums up the replies to a generated script.
-use Rattle.std.proofs.Common.{◌≡◌, ◌≢◌, subst, ℕ, ◌+◌, ◌≤◌, List, [], Option, Some, inl, inr}
+use Rattle.std.proofs.Common.{◌≡◌, ◌≢◌, subst, ℕ, List, [], Option, Some, inl, inr}
 use Rattle.tb_base.specs.declared.status.Status.{Status}
 use Rattle.tb_base.specs.declared.status.Status.TheVariants as status
 use Rattle.tb_io.proofs.FaultLemmas.{HasRisen-zero}

@@ -1,5 +1,5 @@
 -- Words that are a command's are those that `clap` takes.
-use Rattle.std.proofs.Common.{◌≡◌, ◌^◌, ◌∙◌, ap, sym, refl, ℕ, ◌≤◌, ◌==◌, ◌&&◌, ◌||◌, Bool, true, false, not, List, [], ◌∷◌, length, get_or, Option, Some, None, inl, inr, arith, eqb-true, leb-true, ne_eqb}
+use Rattle.std.proofs.Common.{◌≡◌, ◌^◌, ◌∙◌, ap, sym, refl, ℕ, ◌==◌, ◌&&◌, ◌||◌, Bool, true, false, not, List, [], ◌∷◌, length, Option, Some, None, inl, inr, arith, eqb-true, leb-true, ne_eqb}
 use Rattle.std.specs.Prelude.{bytes_eq, codes, if◌then◌else◌, nat_le, nat_lt, option_and_then, option_map, set}
 use Rattle.std.specs.Char.{is_ascii_digit}
 use Rattle.std.specs.List.{list_all}
@@ -13,10 +13,10 @@ use Rattle.tb_top.specs.declared.command.Inputs.{Inputs}
 use Rattle.tb_base.specs.declared.people.TheConstants.{MOST_PERSONS}
 use Rattle.tb_base.specs.declared.limits.TheConstants.{MOST_THRESHOLD}
 use Rattle.tb_top.specs.declared.service.TheConstants.{MOST_PORT, MOST_SESSIONS, MOST_WORKERS}
-use Rattle.tb_top.specs.Commands.{command_of, gen_named, gen_words, inputs_named, inputs_with, is_file_name, lanes_words, may_name_recodes, script_words, serve_named, serve_words, threshold_in, with_script, word_at, words_with_script}
+use Rattle.tb_top.specs.Commands.{command_of, gen_named, gen_words, inputs_named, inputs_with, is_file_name, keep_named, keep_words, lanes_words, may_name_recodes, script_words, serve_named, serve_words, threshold_in, with_script, word_at, words_with_script}
 use Rattle.tb_top.specs.Numbers.{number_within}
-use Rattle.tb_top.specs.Populations.{Population, population_named, population_with}
-use Rattle.tb_top.specs.ServicePorts.{Service, service_named, service_with}
+use Rattle.tb_top.specs.Populations.{population_named, population_with}
+use Rattle.tb_top.specs.ServicePorts.{service_named, service_with}
 
 both : (a b : Bool) → (a && b) ≡ true → (a ≡ true) × (b ≡ true)
 both true b h = (refl, h)
@@ -140,6 +140,33 @@ with_script_tested word words k h =
     let (len, name) = both (length words == 7) (bytes_eq (word_at words 0) word) test in
     with_script_list word words k (eqb-true (length words) 7 len) name named
 
+keep_list : (words : List (List ℕ)) (k : Command) → length words ≡ 8 → bytes_eq (word_at words 0) (codes "keep") ≡ true
+    → keep_named (word_at words 1) (word_at words 2) (word_at words 3) (word_at words 4) (word_at words 5) (word_at words 6) (word_at words 7) ≡ Some k → AreTested words
+keep_list [] k len name named = absurd (omega (arith, len))
+keep_list (a ∷ []) k len name named = absurd (omega (arith, len))
+keep_list (a ∷ b ∷ []) k len name named = absurd (omega (arith, len))
+keep_list (a ∷ b ∷ c ∷ []) k len name named = absurd (omega (arith, len))
+keep_list (a ∷ b ∷ c ∷ d ∷ []) k len name named = absurd (omega (arith, len))
+keep_list (a ∷ b ∷ c ∷ d ∷ e ∷ []) k len name named = absurd (omega (arith, len))
+keep_list (a ∷ b ∷ c ∷ d ∷ e ∷ f ∷ []) k len name named = absurd (omega (arith, len))
+keep_list (a ∷ b ∷ c ∷ d ∷ e ∷ f ∷ g ∷ []) k len name named = absurd (omega (arith, len))
+keep_list (a ∷ b ∷ c ∷ d ∷ e ∷ f ∷ g ∷ h ∷ []) k len name named =
+    let (journal, rest) = if_some (is_file_name g) (option_map (λ (n : Inputs × List ℕ). command.Keep n.0 g n.1) (with_script b c d e f h)) k named in
+    let (both_named, scripted) = map_some (λ (n : Inputs × List ℕ). command.Keep n.0 g n.1) (with_script b c d e f h) k rest in
+    let (script, inner) = if_some (is_file_name h) (option_map (λ (inputs : Inputs). (inputs, h)) (inputs_named b c d e f)) both_named scripted in
+    let (inputs, read) = map_some (λ (inputs : Inputs). (inputs, h)) (inputs_named b c d e f) both_named inner in
+    let plain = plain_inputs b c d e f inputs read in
+    let values = b ∷ handed c ∷ d ∷ e ∷ f ∷ g ∷ h ∷ [] in
+    let first : a ≡ codes "keep" = (bytes_eq-Decides a (codes "keep")).0 name in
+    inr (inr (inl (
+      values,
+      handed_at a b c (d ∷ e ∷ f ∷ g ∷ h ∷ []) ∙ ap (λ (word : List ℕ). word ∷ values) first,
+      refl,
+      all_true _ _ plain.classes (all_true _ _ (plain_handed c plain.recodes) (all_true _ _ plain.ptable (all_true _ _ plain.people
+          (all_true _ _ plain.threshold (all_true _ _ (plain_name g journal) (all_true _ _ (plain_name h script) refl)))))),
+    )))
+keep_list (a ∷ b ∷ c ∷ d ∷ e ∷ f ∷ g ∷ h ∷ x ∷ rest) k len name named = absurd (omega (arith, len))
+
 serve_list : (words : List (List ℕ)) (k : Command) → length words ≡ 9 → bytes_eq (word_at words 0) (codes "serve") ≡ true
     → serve_named (word_at words 1) (word_at words 2) (word_at words 3) (word_at words 4) (word_at words 5) (word_at words 6) (word_at words 7) (word_at words 8) ≡ Some k → AreTested words
 serve_list [] k len name named = absurd (omega (arith, len))
@@ -161,14 +188,14 @@ serve_list (a ∷ b ∷ c ∷ d ∷ e ∷ f ∷ g ∷ h ∷ i ∷ []) k len name
     let plain = plain_inputs b c d e f inputs read in
     let values = b ∷ handed c ∷ d ∷ e ∷ f ∷ g ∷ h ∷ i ∷ [] in
     let first : a ≡ codes "serve" = (bytes_eq-Decides a (codes "serve")).0 name in
-    inr (inr (inl (
+    inr (inr (inr (inl (
       values,
       handed_at a b c (d ∷ e ∷ f ∷ g ∷ h ∷ i ∷ []) ∙ ap (λ (word : List ℕ). word ∷ values) first,
       refl,
       all_true _ _ plain.classes (all_true _ _ (plain_handed c plain.recodes) (all_true _ _ plain.ptable (all_true _ _ plain.people
           (all_true _ _ plain.threshold (all_true _ _ (plain_within 1 MOST_PORT p g port) (all_true _ _ (plain_within 1 MOST_WORKERS w h workers)
           (all_true _ _ (plain_within 1 MOST_SESSIONS n i sessions) refl))))))),
-    )))
+    ))))
 serve_list (a ∷ b ∷ c ∷ d ∷ e ∷ f ∷ g ∷ h ∷ i ∷ x ∷ rest) k len name named = absurd (omega (arith, len))
 
 plain_either : (word : List ℕ) → is_plain word ≡ true → is_plain (handed word) ≡ true
@@ -189,12 +216,12 @@ gen_list (a ∷ b ∷ c ∷ []) k len name named =
     let (start, is_start) = map_some (population_with p) (number_of c) population more in
     let values = b ∷ handed c ∷ [] in
     let first : a ≡ codes "gen" = (bytes_eq-Decides a (codes "gen")).0 name in
-    inr (inr (inr (
+    inr (inr (inr (inr (
       values,
       handed_at a b c [] ∙ ap (λ (word : List ℕ). word ∷ values) first,
       refl,
       all_true _ _ (plain_within 1 MOST_PERSONS p b persons) (all_true _ _ (plain_either c (plain_number c start is_start)) refl),
-    )))
+    ))))
 gen_list (a ∷ b ∷ c ∷ x ∷ rest) k len name named = absurd (omega (arith, len))
 
 script_tested : (words : List (List ℕ)) (k : Command) → script_words words ≡ Some k → AreTested words
@@ -206,6 +233,12 @@ lanes_tested : (words : List (List ℕ)) (k : Command) → lanes_words words ≡
 lanes_tested words k h =
     let (named, is) = map_some (λ (named : Inputs × List ℕ). command.Lanes named.0 named.1) (words_with_script (codes "lanes") words) k h in
     inr (inl (with_script_tested (codes "lanes") words named is))
+
+keep_tested : (words : List (List ℕ)) (k : Command) → keep_words words ≡ Some k → AreTested words
+keep_tested words k h =
+    let (test, named) = if_some ((length words == 8) && bytes_eq (word_at words 0) (codes "keep")) (keep_named (word_at words 1) (word_at words 2) (word_at words 3) (word_at words 4) (word_at words 5) (word_at words 6) (word_at words 7)) k h in
+    let (len, name) = both (length words == 8) (bytes_eq (word_at words 0) (codes "keep")) test in
+    keep_list words k (eqb-true (length words) 8 len) name named
 
 serve_tested : (words : List (List ℕ)) (k : Command) → serve_words words ≡ Some k → AreTested words
 serve_tested words k h =
@@ -227,7 +260,9 @@ either P None other x h one two = two h
 -- the words of a command pass
 pub tested : (words : List (List ℕ)) (k : Command) → command_of words ≡ Some k → AreTested words
 tested words k h =
-    either (AreTested words) (script_words words) (option_or (lanes_words words) (option_or (serve_words words) (gen_words words))) k h
-    (script_tested words k)
-    (λ more. either (AreTested words) (lanes_words words) (option_or (serve_words words) (gen_words words)) k more (lanes_tested words k)
-    (λ most. either (AreTested words) (serve_words words) (gen_words words) k most (serve_tested words k) (gen_tested words k)))
+    let served = option_or (serve_words words) (gen_words words) in
+    let kept = option_or (keep_words words) served in
+    either (AreTested words) (script_words words) (option_or (lanes_words words) kept) k h (script_tested words k)
+    (λ more. either (AreTested words) (lanes_words words) kept k more (lanes_tested words k)
+    (λ most. either (AreTested words) (keep_words words) served k most (keep_tested words k)
+    (λ last. either (AreTested words) (serve_words words) (gen_words words) k last (serve_tested words k) (gen_tested words k))))

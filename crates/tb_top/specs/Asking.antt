@@ -130,11 +130,13 @@ census_in inputs contents =
       records = records;
     }))))
 
--- what is asked for over a census: replies to the lines of a script, one after another or its lanes
--- at the same time, sessions, or, over that of a generated population, a summary of such replies
+-- what is asked for over a census: replies to the lines of a script, one after another, of its
+-- lanes at the same time, or with a journal under a name; sessions; or, over that of a generated
+-- population, a summary of such replies
 pub data AskedValue : Type 0 where
   Script : CensusValue → ScriptValue → AskedValue
   Lanes : CensusValue → ScriptValue → AskedValue
+  Keep : CensusValue → (journal : List ℕ) → ScriptValue → AskedValue
   Serve : CensusValue → Service → AskedValue
   Gen : Population → CensusValue → ScriptValue → AskedValue
 
@@ -142,8 +144,17 @@ pub data AskedValue : Type 0 where
 abbrev pub is_service : AskedValue → Bool
 is_service (Script census script) = false
 is_service (Lanes census script) = false
+is_service (Keep census journal script) = false
 is_service (Serve census service) = true
 is_service (Gen population census script) = false
+
+-- whether it is replies with a journal
+abbrev pub is_keep : AskedValue → Bool
+is_keep (Script census script) = false
+is_keep (Lanes census script) = false
+is_keep (Keep census journal script) = true
+is_keep (Serve census service) = false
+is_keep (Gen population census script) = false
 
 -- the census and the script that the files hold
 abbrev pub scripted_in : Inputs → Contents → Result (CensusValue × ScriptValue) End
@@ -166,6 +177,8 @@ generated_asked population =
 abbrev pub asked_over : Command → Contents → Result AskedValue End
 asked_over (command.Script inputs name) contents = script_over Script inputs contents
 asked_over (command.Lanes inputs name) contents = script_over Lanes inputs contents
+asked_over (command.Keep inputs journal script) contents =
+    script_over (λ census script. Keep census journal script) inputs contents
 asked_over (command.Serve inputs service) contents =
     census_in inputs contents >>= (λ census. Ok (Serve census service))
 asked_over (command.Gen population) contents = generated_asked population

@@ -2,16 +2,19 @@
 use Rattle.std.specs.Prelude.{◌≡◌, ℕ, suc, zero, List, ◌∷◌, ◌++◌, Option, length, map, option_map}
 use Rattle.tb_io.specs.Faults.{HasRisen, one_more}
 use Rattle.tb_io.specs.Taken.{Took}
+use Rattle.tb_keep.specs.JournalRuns.{JournalRun}
 use Rattle.tb_serve.specs.Ports.{PortValue}
+use Rattle.tb_serve.specs.Serves.{Output, output}
 use Rattle.tb_serve.specs.Stages.{HasRisenSome}
 use Rattle.tb_top.specs.declared.endings.Input.{Input}
 use Rattle.tb_top.specs.Commands.{NamedFile}
+use Rattle.tb_top.specs.KeepOutputs.{DiskSeen, kept_seen}
 
 -- The arguments; what stands under each name, where the files tell it; the counts of faults of the
 -- files and of the sink, before and after; how many readings there were, where the files tell it;
 -- the ports, of which each listener has a count of faults of its own; the bytes that the sink took,
--- where it tells them; and the counter of steps.
-pub record Call : Type 0 where
+-- where it tells them; the disk; and the counter of steps.
+pub record Call : Type 1 where
   pub words : List (List ℕ)
   pub content : Option (List ℕ → Option (List ℕ))
   pub read_faults : ℕ
@@ -24,8 +27,18 @@ pub record Call : Type 0 where
   pub ports_after : List PortValue
   pub taken : Option (List ℕ)
   pub taken_after : Option (List ℕ)
+  pub disk : DiskSeen
   pub steps : ℕ
   pub steps_after : ℕ
+
+-- what it saw of its sink
+abbrev pub output_of : Call → Output
+output_of call = output call.taken call.taken_after call.write_faults call.write_faults_after
+
+-- and of a run with a journal under this name
+abbrev pub journal_seen : Call → (journal : List ℕ) → JournalRun
+journal_seen call journal =
+    kept_seen call.disk journal call.steps call.steps_after (output_of call)
 
 -- a read failed, a write failed, and some listener failed
 abbrev pub ReadFailed : Call → Type 0

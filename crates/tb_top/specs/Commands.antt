@@ -88,6 +88,22 @@ abbrev pub lanes_words : List (List ℕ) → Option Command
 lanes_words words =
     option_map (λ named. command.Lanes named.0 named.1) (words_with_script (codes "lanes") words)
 
+-- what `keep CLASSES RECODES PTABLE PEOPLE THRESHOLD JOURNAL SCRIPT` asks for
+abbrev pub keep_named : (classes recodes ptable people threshold journal script : List ℕ)
+    → Option Command
+keep_named classes recodes ptable people threshold journal script =
+    if is_file_name journal
+    then option_map (λ named. command.Keep named.0 journal named.1)
+    (with_script classes recodes ptable people threshold script)
+    else None
+
+abbrev pub keep_words : List (List ℕ) → Option Command
+keep_words words =
+    if (length words == 8) && bytes_eq (word_at words 0) (codes "keep")
+    then keep_named (word_at words 1) (word_at words 2) (word_at words 3) (word_at words 4)
+    (word_at words 5) (word_at words 6) (word_at words 7)
+    else None
+
 -- what `serve CLASSES RECODES PTABLE PEOPLE THRESHOLD PORT WORKERS SESSIONS` asks for
 abbrev pub serve_words : List (List ℕ) → Option Command
 serve_words words =
@@ -107,7 +123,8 @@ gen_words words =
 abbrev pub command_of : List (List ℕ) → Option Command
 command_of words =
     option_or (script_words words)
-    (option_or (lanes_words words) (option_or (serve_words words) (gen_words words)))
+    (option_or (lanes_words words)
+    (option_or (keep_words words) (option_or (serve_words words) (gen_words words))))
 
 -- an input and the name of its file
 pub record NamedFile : Type 0 where
@@ -137,10 +154,11 @@ abbrev pub scripted_files : Inputs → List ℕ → List NamedFile
 scripted_files inputs script = input_files inputs ++ (named input.Script script ∷ [])
 
 -- the files of a command, in the order in which they are read: those of its inputs, then its
--- task's; a generated population has none
+-- task's, a journal apart, which isn't read like them; a generated population has none
 abbrev pub command_files : Command → List NamedFile
 command_files (command.Script inputs script) = scripted_files inputs script
 command_files (command.Lanes inputs script) = scripted_files inputs script
+command_files (command.Keep inputs journal script) = scripted_files inputs script
 command_files (command.Serve inputs service) = input_files inputs
 command_files (command.Gen population) = []
 
@@ -149,6 +167,7 @@ abbrev pub asks_to_serve : Option Command → Bool
 asks_to_serve (Some (command.Serve inputs service)) = true
 asks_to_serve (Some (command.Script inputs script)) = false
 asks_to_serve (Some (command.Lanes inputs script)) = false
+asks_to_serve (Some (command.Keep inputs journal script)) = false
 asks_to_serve (Some (command.Gen population)) = false
 asks_to_serve None = false
 
@@ -157,5 +176,15 @@ abbrev pub asks_to_generate : Option Command → Bool
 asks_to_generate (Some (command.Gen population)) = true
 asks_to_generate (Some (command.Script inputs script)) = false
 asks_to_generate (Some (command.Lanes inputs script)) = false
+asks_to_generate (Some (command.Keep inputs journal script)) = false
 asks_to_generate (Some (command.Serve inputs service)) = false
 asks_to_generate None = false
+
+-- whether a journal is to be kept
+abbrev pub asks_to_keep : Option Command → Bool
+asks_to_keep (Some (command.Keep inputs journal script)) = true
+asks_to_keep (Some (command.Script inputs script)) = false
+asks_to_keep (Some (command.Lanes inputs script)) = false
+asks_to_keep (Some (command.Serve inputs service)) = false
+asks_to_keep (Some (command.Gen population)) = false
+asks_to_keep None = false

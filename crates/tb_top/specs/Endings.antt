@@ -35,12 +35,16 @@ status_of (end.Refused file name at) = input_status file
 status_of (end.BadLine at) = status.Script
 status_of end.Memory = status.Memory
 
--- the line for a file that is refused: the file, the number and the word of its first fault, and
--- the number of the record
-abbrev pub refusal_line : Input → FaultNameValue → ℕ → List ℕ
-refusal_line file name at =
-    codes "fault " ++ input_name file ++ codes " " ++ decimal name.number ++ codes " " ++ name.word
+-- the line for a file that is refused: the file's name, the number and the word of its first fault,
+-- and the number of the record
+abbrev pub fault_line : List ℕ → FaultNameValue → ℕ → List ℕ
+fault_line file name at =
+    codes "fault " ++ file ++ codes " " ++ decimal name.number ++ codes " " ++ name.word
     ++ codes " " ++ decimal at ++ codes "\n"
+
+-- the same of a file that is read
+abbrev pub refusal_line : Input → FaultNameValue → ℕ → List ℕ
+refusal_line file name at = fault_line (input_name file) name at
 
 -- the last line
 abbrev pub last_line : End → List ℕ

@@ -11,13 +11,14 @@ use Rattle.tb_top.specs.declared.command.Command.{Command}
 use Rattle.tb_top.specs.Calls.{Call, IsReadTo}
 use Rattle.tb_top.specs.Commands.{command_of, command_files}
 use Rattle.tb_top.specs.Endings.{last_line}
+use Rattle.tb_top.specs.KeepOutputs.{DiskSeen}
 use Rattle.tb_top.specs.Promises.{IsTextOf}
 use Rattle.tb_top.specs.Seen.{call_over}
 
 -- what such a call saw
 abbrev pub memory_call : List (List ℕ) → FailingFiles → FailingFiles → BoundedSink → BoundedSink
-    → List PortValue → List PortValue → ℕ → ℕ → Call
-memory_call words files files' out out' ports ports' steps steps' =
+    → List PortValue → List PortValue → DiskSeen → ℕ → ℕ → Call
+memory_call words files files' out out' ports ports' disk steps steps' =
     call_over words
     (record {
       content = Some (bytes_of files.held);
@@ -27,7 +28,8 @@ memory_call words files files' out out' ports ports' steps steps' =
       readings = Some files.calls;
       readings_after = Some files'.calls;
     })
-    (output (Some out.taken) (Some out'.taken) out.faults out'.faults) ports ports' steps steps'
+    (output (Some out.taken) (Some out'.taken) out.faults out'.faults) ports ports' disk steps
+    steps'
 
 -- the bytes that a run with this status added to those of the sink
 abbrev pub Adds : Call → FailingFiles → BoundedSink → BoundedSink → Status → Type 0

@@ -9,6 +9,7 @@ pub mod GeneratedFiles
 pub mod Asking
 pub mod Services
 pub mod LaneOutputs
+pub mod KeepOutputs
 pub mod Outputs
 pub mod Calls
 pub mod Promises

@@ -1,5 +1,5 @@
 -- How a step that reads some of a run's files may go.
-use Rattle.std.specs.Prelude.{◌≡◌, ◌≢◌, ◌≤◌, ℕ, List, [], ◌∷◌, IfSome, Option, Result, Ok, Err, length}
+use Rattle.std.specs.Prelude.{◌≡◌, ◌≢◌, ◌≤◌, ℕ, List, [], ◌∷◌, IfSome, Option, Result, Ok, Err, length, string_bytes}
 use Rattle.tb_base.specs.Records.{AllFit}
 use Rattle.tb_io.specs.Faults.{HasRisen}
 use Rattle.tb_model.specs.Releases.{ReleaseValue, first_release}
@@ -13,7 +13,7 @@ use Rattle.tb_top.specs.declared.load.Asked.TheVariants as asked
 use Rattle.tb_top.specs.declared.load.Census.{Census}
 use Rattle.tb_top.specs.declared.load.Scripted.{Scripted}
 use Rattle.tb_script.specs.Scripts.{ScriptValue}
-use Rattle.tb_top.specs.Asking.{AskedValue, CensusValue, Contents, Gen, Lanes, Script, Serve, contents_for, input_place}
+use Rattle.tb_top.specs.Asking.{AskedValue, CensusValue, Contents, Gen, Keep, Lanes, Script, Serve, contents_for, input_place}
 use Rattle.tb_top.specs.Calls.{IsReadTo, readings_more}
 use Rattle.tb_top.specs.Commands.{NamedFile}
 
@@ -91,6 +91,8 @@ scripted_value read = (census_value read.census, read.script)
 abbrev pub asked_value : Asked → AskedValue
 asked_value (asked.Script census script) = Script (census_value census) script
 asked_value (asked.Lanes census script) = Lanes (census_value census) script
+asked_value (asked.Keep census journal script) =
+    Keep (census_value census) (string_bytes journal) script
 asked_value (asked.Serve census service) = Serve (census_value census) service
 asked_value (asked.Gen population census script) = Gen population (census_value census) script
 
@@ -107,5 +109,6 @@ IsFirst c =
 abbrev pub AskedIsFirst : Asked → Type 0
 AskedIsFirst (asked.Script census script) = IsFirst census
 AskedIsFirst (asked.Lanes census script) = IsFirst census
+AskedIsFirst (asked.Keep census journal script) = IsFirst census
 AskedIsFirst (asked.Serve census service) = IsFirst census
 AskedIsFirst (asked.Gen population census script) = IsFirst census

@@ -7,11 +7,14 @@ use Rattle.tb_io.specs.Taken.{Took, TookPart}
 use Rattle.tb_script.specs.Runs.{IsLaneReply}
 use Rattle.tb_script.specs.Scripts.{ScriptValue}
 use Rattle.tb_serve.specs.Ports.{PortValue}
+use Rattle.tb_serve.specs.Serves.{output}
 use Rattle.tb_ahead.specs.Publishing.{after_seeing}
 use Rattle.tb_lines.specs.Outputs.{AreReplies, ReplyValue, price_of, text_of}
 use Rattle.tb_top.specs.declared.endings.End.TheVariants as end
-use Rattle.tb_top.specs.Asking.{AskedValue, CensusValue, Gen, Lanes, Script, Serve, base_of}
+use Rattle.tb_top.specs.Asking.{AskedValue, CensusValue, Gen, Keep, Lanes, Script, Serve, base_of}
 use Rattle.tb_top.specs.Endings.{IsEnded, IsLineWritten, last_line}
+use Rattle.tb_top.specs.KeepOutputs.{AreKeepReplies, DiskSeen, IsKeepAnswered, IsStill}
+use Rattle.tb_top.specs.KeepOutputs.{kept_seen}
 use Rattle.tb_top.specs.LaneOutputs.{AreLanesAnswered, IsTextOfPhases, IsTextToMemory}
 use Rattle.tb_top.specs.Populations.{Population}
 use Rattle.tb_top.specs.Services.{IsServiceAnswered, IsServiceOutput}
@@ -24,11 +27,12 @@ AreScriptReplies census script replies =
     AreReplies (IsLaneReply census.setup (base_of census))
     (after_seeing []) script.lines replies
 
--- the same of what is asked for, which may be a summary of them; lanes that are answered at the
--- same time and sessions get their replies elsewhere
+-- the same of what is asked for, which may be a summary of them, or begin at the batches of a
+-- journal; lanes that are answered at the same time and sessions get their replies elsewhere
 abbrev pub AreAnswers : AskedValue → List ReplyValue → Type 0
 AreAnswers (Script census script) replies = AreScriptReplies census script replies
 AreAnswers (Lanes census script) replies = ⊥
+AreAnswers (Keep census journal script) replies = AreKeepReplies census script replies
 AreAnswers (Serve census service) replies = ⊥
 AreAnswers (Gen population census script) replies = AreScriptReplies census script replies
 
@@ -41,6 +45,10 @@ IsOutput (Script census script) ports ports' s text =
     × (text ≡ text_of replies))
 IsOutput (Lanes census script) ports ports' s text =
     (s ≡ status.Done) × IsTextOfPhases census script script.phases text
+IsOutput (Keep census journal script) ports ports' s text =
+    (s ≡ status.Done)
+    × ((replies : List ReplyValue) × AreAnswers (Keep census journal script) replies
+    × (text ≡ text_of replies))
 IsOutput (Serve census service) ports ports' s text =
     IsServiceOutput census service ports ports' s text
 IsOutput (Gen population census script) ports ports' s text =
@@ -56,6 +64,8 @@ abbrev pub IsBegun : AskedValue → Status → List ReplyValue → (taken taken'
 IsBegun (Script census script) s replies taken taken' =
     (s ≢ status.Memory) × TookPart taken taken' (text_of replies)
 IsBegun (Lanes census script) s replies taken taken' = ⊥
+IsBegun (Keep census journal script) s replies taken taken' =
+    (s ≢ status.Memory) × TookPart taken taken' (text_of replies)
 IsBegun (Serve census service) s replies taken taken' = ⊥
 IsBegun (Gen population census script) s replies taken taken' =
     ((s ≢ status.Memory) × TookPart taken taken' (summary_line population (text_of replies)))
@@ -65,6 +75,7 @@ IsBegun (Gen population census script) s replies taken taken' =
 abbrev pub IsOutputToMemory : AskedValue → List ℕ → Type 0
 IsOutputToMemory (Script census script) text = ⊥
 IsOutputToMemory (Lanes census script) text = IsTextToMemory census script text
+IsOutputToMemory (Keep census journal script) text = ⊥
 IsOutputToMemory (Serve census service) text = ⊥
 IsOutputToMemory (Gen population census script) text = ⊥
 
@@ -99,19 +110,26 @@ IsGenAnswered population census script s faults faults' taken taken' steps steps
     × IsSummedUp population (text_of replies) s faults faults' taken taken')
     ⊎ ((steps' ≡ steps) × IsEnded end.Memory s faults faults' taken taken')
 
--- What is asked for was answered, over these ports. A script touches none, and what lanes at the
--- same time and a service cost is counted elsewhere.
-abbrev pub IsAnswered : AskedValue → (ports ports' : List PortValue) → Status
+-- What is asked for was answered, over these ports and this disk. A script touches no port, only
+-- one with a journal touches the disk, and what lanes at the same time and a service cost is
+-- counted elsewhere.
+abbrev pub IsAnswered : AskedValue → (ports ports' : List PortValue) → DiskSeen → Status
     → (faults faults' : ℕ) → (taken taken' : Option (List ℕ)) → (steps steps' : ℕ) → Type 0
-IsAnswered (Script census script) ports ports' s faults faults' taken taken' steps steps' =
-    (ports' ≡ ports)
+IsAnswered (Script census script) ports ports' disk s faults faults' taken taken' steps steps' =
+    (ports' ≡ ports) × IsStill disk
     × IsScriptAnswered (Script census script) s faults faults' taken taken' steps steps'
-IsAnswered (Lanes census script) ports ports' s faults faults' taken taken' steps steps' =
-    (ports' ≡ ports) × (steps' ≡ steps)
+IsAnswered (Lanes census script) ports ports' disk s faults faults' taken taken' steps steps' =
+    (ports' ≡ ports) × IsStill disk × (steps' ≡ steps)
     × AreLanesAnswered census script s faults faults' taken taken'
-IsAnswered (Serve census service) ports ports' s faults faults' taken taken' steps steps' =
-    (steps' ≡ steps)
-    × IsServiceAnswered census service ports ports' s faults faults' taken taken'
-IsAnswered (Gen population census script) ports ports' s faults faults' taken taken' steps steps' =
+IsAnswered (Keep census journal script) ports ports' disk s faults faults' taken taken' steps
+    steps' =
+    let out = output taken taken' faults faults' in
     (ports' ≡ ports)
+    × IsKeepAnswered census script s out (kept_seen disk journal steps steps' out)
+IsAnswered (Serve census service) ports ports' disk s faults faults' taken taken' steps steps' =
+    IsStill disk × (steps' ≡ steps)
+    × IsServiceAnswered census service ports ports' s faults faults' taken taken'
+IsAnswered (Gen population census script) ports ports' disk s faults faults' taken taken' steps
+    steps' =
+    (ports' ≡ ports) × IsStill disk
     × IsGenAnswered population census script s faults faults' taken taken' steps steps'

@@ -6,14 +6,20 @@ use Rattle.tb_lines.specs.Outputs.{ReplyValue, price_of}
 use Rattle.tb_top.specs.declared.endings.Input.{Input}
 use Rattle.tb_top.specs.declared.endings.End.{End}
 use Rattle.tb_top.specs.declared.endings.End.TheVariants as end
-use Rattle.tb_top.specs.Asking.{AskedValue, asked_by, asked_of, contents_at, contents_for}
+use Rattle.tb_top.specs.Asking.{AskedValue, CensusValue, Keep, asked_by, asked_of, contents_at, contents_for}
 use Rattle.tb_top.specs.Calls.{Call, HasTaken, IsReadTo, NetFailed, ReadFailed, WriteFailed}
-use Rattle.tb_top.specs.Commands.{asks_to_generate, asks_to_serve, command_of, command_files}
+use Rattle.tb_top.specs.Calls.{journal_seen, output_of}
+use Rattle.tb_top.specs.Commands.{asks_to_generate, asks_to_keep, asks_to_serve, command_of, command_files}
 use Rattle.tb_top.specs.declared.command.Command.{Command}
 use Rattle.tb_top.specs.Endings.{last_line, status_of}
+use Rattle.tb_top.specs.KeepOutputs.{AreKeepLinesAnswered, HasFailed, IsKeepLine, IsStill}
+use Rattle.tb_top.specs.KeepOutputs.{disk_line, journal_line}
 use Rattle.tb_top.specs.Outputs.{AreAnswers, IsBegun, IsOutput, IsOutputToMemory}
 use Rattle.tb_top.specs.Services.{IsIdle, IsUnserved}
+use Rattle.tb_keep.specs.declared.journal_run.JournalFault.{JournalFault}
+use Rattle.tb_script.specs.Scripts.{ScriptValue}
 use Rattle.tb_serve.specs.Each.{Each}
+use Rattle.tb_serve.specs.Serves.{IsEnded}
 
 -- an end at a file that couldn't be read: a read failed, and it was the last, at that file
 abbrev pub IsReadingAt : Call → Input → Type 0
@@ -54,6 +60,13 @@ IsMemoryText call at text =
     (text ≡ last_line end.Memory)
     ⊎ ((asked : AskedValue) × (asked_of at call.words ≡ Ok asked) × IsOutputToMemory asked text)
 
+-- a text is the last line, with this status, of a run whose journal was refused or couldn't be read
+abbrev pub IsJournalText : Call → (List ℕ → Option (List ℕ)) → Status → List ℕ → Type 0
+IsJournalText call at s text =
+    (census : CensusValue) × (journal : List ℕ) × (script : ScriptValue)
+    × (asked_of at call.words ≡ Ok (Keep census journal script))
+    × IsKeepLine census (journal_seen call journal) s text
+
 -- a text is what a run with this status writes where no write fails: with Done and NetFault an
 -- output, with another status its last line; with Memory no session came or went, and only the
 -- texts of phases that had ended stand before the last line
@@ -69,6 +82,8 @@ IsWhole call at status.WriteFault text = ⊥
 IsWhole call at status.Memory text =
     IsMemoryText call at text × Each (λ _. IsUnserved) call.ports call.ports_after
 IsWhole call at status.NetFault text = IsAskedOutput call at status.NetFault text
+IsWhole call at status.Journal text = IsJournalText call at status.Journal text
+IsWhole call at status.DiskFault text = IsJournalText call at status.DiskFault text
 
 -- the same, or, where a write failed, a beginning of such a text
 abbrev pub IsTextOf : Call → (List ℕ → Option (List ℕ)) → Status → List ℕ → Type 0
@@ -81,19 +96,20 @@ IsTextOf call at s text =
 abbrev pub Tells : Call → (List ℕ → Option (List ℕ)) → Status → Type 0
 Tells call at s = (bytes : List ℕ) × IsTextOf call at s bytes × HasTaken call bytes
 
--- the status where no read or write fails and memory suffices
+-- the status where no read or write fails, memory suffices, and no journal is refused
 abbrev pub defined_status : Result AskedValue End → Status
 defined_status (Ok asked) = status.Done
 defined_status (Err e) = status_of e
 
--- no other status comes but Memory, or where a count of faults rose
+-- no other status comes but Memory, where a count of faults rose, or where a journal is refused
 abbrev pub IsDefined : Call → (List ℕ → Option (List ℕ)) → Status → Type 0
 IsDefined call at s =
     (s ≡ defined_status (asked_of at call.words))
     ⊎ ((s ≡ status.Memory)
     ⊎ (((s ≡ status.ReadFault) × ReadFailed call)
     ⊎ (((s ≡ status.WriteFault) × WriteFailed call)
-    ⊎ ((s ≡ status.NetFault) × NetFailed call))))
+    ⊎ (((s ≡ status.NetFault) × NetFailed call)
+    ⊎ ((text : List ℕ) × IsJournalText call at s text)))))
 
 -- the counter rose by no more than the price of some replies to a script, of which a beginning of
 -- what is written with this status was taken
@@ -103,6 +119,24 @@ IsPriced call at s =
     × ((replies : List ReplyValue) × AreAnswers asked replies
     × IsBegun asked s replies call.taken call.taken_after
     × (call.steps_after ≤ call.steps + price_of replies))
+
+-- a text is some last line, with its status
+abbrev pub IsSomeLastLine : Status → List ℕ → Type 0
+IsSomeLastLine s text =
+    ((e : End) × (s ≡ status_of e) × (text ≡ last_line e))
+    ⊎ (((fault : JournalFault) × (s ≡ status.Journal) × (text ≡ journal_line fault))
+    ⊎ ((s ≡ status.DiskFault) × (text ≡ disk_line)))
+
+-- Where a script with a journal was asked for: its lines were answered, and what a stop now may
+-- leave stands for the batches of these replies; or no line was, and a last line was written.
+abbrev pub IsJournalKept : Call → (List ℕ → Option (List ℕ)) → Status → Type 0
+IsJournalKept call at s =
+    (census : CensusValue) → (journal : List ℕ) → (script : ScriptValue)
+    → asked_of at call.words ≡ Ok (Keep census journal script)
+    → AreKeepLinesAnswered census script s (output_of call) (journal_seen call journal)
+    ⊎ ((call.steps_after ≡ call.steps)
+    × ((final : Status) × (text : List ℕ) × IsSomeLastLine final text
+    × IsEnded text final (output_of call) s))
 
 -- what a call keeps, whatever its status
 pub record Keeps (call : Call) (s : Status) : Type 0 where
@@ -116,7 +150,8 @@ pub record Keeps (call : Call) (s : Status) : Type 0 where
   pub read_fault : s ≡ status.ReadFault → ReadFailed call
   pub write_fault : s ≡ status.WriteFault → WriteFailed call
   pub net_fault : s ≡ status.NetFault → NetFailed call
-  -- No status comes but the defined one, Memory, or a fault whose count rose.
+  pub disk_fault : s ≡ status.DiskFault → HasFailed call.disk
+  -- No status comes but the defined one, Memory, a fault whose count rose, or that of a journal.
   pub exact : IfSome call.content (λ at. IsDefined call at s)
   -- The counter rises by no more than the replies' price, and not at all where no line is answered,
   -- as with Memory.
@@ -128,3 +163,7 @@ pub record Keeps (call : Call) (s : Status) : Type 0 where
   -- At the return no one is served at a port, and where no sessions are asked for none changed.
   pub idle : All IsIdle call.ports_after
   pub others : asks_to_serve (command_of call.words) ≡ false → call.ports_after ≡ call.ports
+  -- A script with a journal was answered so that its batches are kept; and where none is asked for
+  -- the disk was left alone.
+  pub kept : IfSome call.content (λ at. IsJournalKept call at s)
+  pub still : asks_to_keep (command_of call.words) ≡ false → IsStill call.disk

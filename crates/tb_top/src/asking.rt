@@ -3,9 +3,9 @@
 ghost use Rattle.std.specs.Prelude.{◌≡◌, IfErr, IfOk, None, Some, Err, map, string_bytes, true};
 ghost use Rattle.tb_top.specs.declared.command.Command.{Command as CommandValue};
 ghost use Rattle.tb_top.specs.declared.endings.End.TheVariants as end;
-ghost use Rattle.tb_top.specs.Asking.{asked_over, is_service};
-ghost use Rattle.tb_top.specs.Commands.{asks_to_generate, asks_to_serve, command_files};
-ghost use Rattle.tb_top.specs.Commands.{command_of};
+ghost use Rattle.tb_top.specs.Asking.{asked_over, is_keep, is_service};
+ghost use Rattle.tb_top.specs.Commands.{asks_to_generate, asks_to_keep, asks_to_serve};
+ghost use Rattle.tb_top.specs.Commands.{command_files, command_of};
 ghost use Rattle.tb_top.specs.Loading.{AskedIsFirst, Loads, asked_value, reading};
 
 use crate::command::read_command;
@@ -22,6 +22,8 @@ pub fn ask<F: Files>(alloc: Global, words: &[String], files: &mut F) -> Result<A
     ensures first { IfOk result AskedIsFirst }
     ensures kind { IfOk result (λ asked. is_service (asked_value asked)
         ≡ asks_to_serve (command_of (map string_bytes words.now))) }
+    ensures keeps { IfOk result (λ asked. is_keep (asked_value asked)
+        ≡ asks_to_keep (command_of (map string_bytes words.now))) }
     ensures generated { asks_to_generate (command_of (map string_bytes words.now)) ≡ true
         → IfErr result (λ e. e ≡ end.Memory) }
     ensures usage { command_of (map string_bytes words.now) ≡ None → result ≡ Err end.Usage }

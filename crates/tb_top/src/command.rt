@@ -3,7 +3,7 @@
 ghost use Rattle.std.specs.Prelude.{◌≡◌, None, Some, if◌then◌else◌, map, string_bytes};
 ghost use Rattle.tb_top.specs.Commands.{command_of, gen_named, gen_words, inputs_named};
 ghost use Rattle.tb_top.specs.Commands.{is_file_name as names_a_file};
-ghost use Rattle.tb_top.specs.Commands.{lanes_words, may_name_recodes};
+ghost use Rattle.tb_top.specs.Commands.{keep_named, keep_words, lanes_words, may_name_recodes};
 ghost use Rattle.tb_top.specs.Commands.{recodes_name as name_of_recodes, script_words};
 ghost use Rattle.tb_top.specs.Commands.{serve_named, serve_words, with_script, words_with_script};
 ghost use Rattle.tb_top.specs.GeneratedFiles.{generated_inputs as inputs_of_generated};
@@ -44,8 +44,9 @@ pub struct Inputs<'a> {
 }
 
 /// A command: one of several, each with its inputs and its task. `Script` answers the lines of the
-/// script of that name, `Lanes` its lanes at the same time; `Serve` serves sessions; `Gen` reads no
-/// files, and sums up what `Script` would write over those of a generated population.
+/// script of that name, `Lanes` its lanes at the same time, and `Keep` as `Script`, with a journal
+/// under a name of its own; `Serve` serves sessions; `Gen` reads no files, and sums up what
+/// `Script` would write over those of a generated population.
 #[derive(Drop)]
 pub enum Command<'a> {
     Script {
@@ -54,6 +55,11 @@ pub enum Command<'a> {
     },
     Lanes {
         inputs: Inputs<'a>,
+        script: FileName<'a>,
+    },
+    Keep {
+        inputs: Inputs<'a>,
+        journal: FileName<'a>,
         script: FileName<'a>,
     },
     Serve {
@@ -158,6 +164,32 @@ fn read_script_inputs<'a>(
     }
 }
 
+// The command that the arguments `CLASSES RECODES PTABLE PEOPLE THRESHOLD JOURNAL SCRIPT` name.
+fn read_keep<'a>(
+    classes: &'a str,
+    recodes: &'a str,
+    ptable: &'a str,
+    people: &'a str,
+    threshold: &str,
+    journal: &'a str,
+    script: &'a str,
+) -> Option<Command<'a>>
+    ensures { result ≡ keep_named classes.now recodes.now ptable.now people.now threshold.now
+        journal.now script.now }
+{
+    if !is_file_name(journal) {
+        return None;
+    }
+    match read_script_inputs(classes, recodes, ptable, people, threshold, script) {
+        Some((inputs, script)) => Some(Command::Keep {
+            inputs,
+            journal: FileName::of(journal),
+            script,
+        }),
+        None => None,
+    }
+}
+
 // The command that the arguments `CLASSES RECODES PTABLE PEOPLE THRESHOLD PORT WORKERS SESSIONS`
 // name.
 fn read_serve<'a>(
@@ -232,6 +264,37 @@ fn read_lanes_words(words: &[String]) -> Option<Command<'_>>
     }
 }
 
+// What the arguments `keep CLASSES RECODES PTABLE PEOPLE THRESHOLD JOURNAL SCRIPT` ask for.
+fn read_keep_words(words: &[String]) -> Option<Command<'_>>
+    ensures { result ≡ keep_words (map string_bytes words.now) }
+{
+    let [
+        command,
+        classes,
+        recodes,
+        ptable,
+        people,
+        threshold,
+        journal,
+        script,
+    ] = words
+    else {
+        return None;
+    };
+    if command.as_str() != "keep" {
+        return None;
+    }
+    read_keep(
+        classes.as_str(),
+        recodes.as_str(),
+        ptable.as_str(),
+        people.as_str(),
+        threshold.as_str(),
+        journal.as_str(),
+        script.as_str(),
+    )
+}
+
 // What the arguments `serve CLASSES RECODES PTABLE PEOPLE THRESHOLD PORT WORKERS SESSIONS` ask for.
 fn read_serve_words(words: &[String]) -> Option<Command<'_>>
     ensures { result ≡ serve_words (map string_bytes words.now) }
@@ -292,8 +355,9 @@ pub fn generated_inputs<'a>() -> Inputs<'a>
 }
 
 /// What the arguments ask for: `script CLASSES RECODES PTABLE PEOPLE THRESHOLD SCRIPT`, `lanes`
-/// with the same after it, `serve CLASSES RECODES PTABLE PEOPLE THRESHOLD PORT WORKERS SESSIONS`,
-/// RECODES being a file's name or `-`, or `gen N START`. None at all other arguments.
+/// with the same after it, `keep` with JOURNAL before SCRIPT, or `serve CLASSES RECODES PTABLE
+/// PEOPLE THRESHOLD PORT WORKERS SESSIONS`, RECODES being a file's name or `-`; or `gen N START`.
+/// None at all other arguments.
 pub fn read_command(words: &[String]) -> Option<Command<'_>>
     ensures { result ≡ command_of (map string_bytes words.now) }
 {
@@ -301,9 +365,12 @@ pub fn read_command(words: &[String]) -> Option<Command<'_>>
         Some(command) => Some(command),
         None => match read_lanes_words(words) {
             Some(command) => Some(command),
-            None => match read_serve_words(words) {
+            None => match read_keep_words(words) {
                 Some(command) => Some(command),
-                None => read_gen_words(words),
+                None => match read_serve_words(words) {
+                    Some(command) => Some(command),
+                    None => read_gen_words(words),
+                },
             },
         },
     }

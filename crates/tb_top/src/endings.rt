@@ -3,11 +3,12 @@
 ghost use Rattle.std.specs.Prelude.{◌≡◌};
 ghost use Rattle.tb_io.specs.Taken.{IsWritten};
 ghost use Rattle.tb_top.specs.Asking.{file_end, input_of as input_of_file};
-ghost use Rattle.tb_top.specs.Endings.{input_name, input_status, last_line, refusal_line};
+ghost use Rattle.tb_top.specs.Endings.{fault_line, input_name, input_status, last_line};
+ghost use Rattle.tb_top.specs.Endings.{refusal_line};
 ghost use Rattle.tb_top.specs.Endings.{status_of};
 ghost use Rattle.tb_top.specs.declared.endings.End.TheVariants as end;
 
-use std::alloc::AllocFailed;
+use std::alloc::{AllocError, AllocFailed};
 use tb_base::{Memory, Status, print_number};
 use tb_io::{Sink, Wrote, write_all};
 use tb_rows::{Fault, FaultKind, FaultName};
@@ -44,6 +45,14 @@ impl From<Memory> for End {
     ghost from_gives = { λ _ e. e ≡ end.Memory };
 
     fn from(_e: Memory) -> End {
+        End::Memory
+    }
+}
+
+impl From<AllocError> for End {
+    ghost from_gives = { λ _ e. e ≡ end.Memory };
+
+    fn from(_e: AllocError) -> End {
         End::Memory
     }
 }
@@ -172,19 +181,35 @@ fn write_refusal<O: Sink>(out: &mut O, file: Input, name: &FaultName, at: u32) -
     ensures written { IsWritten result (O.faults out.old) (O.faults out.new)
         (O.taken out.old) (O.taken out.new) (refusal_line file name.now at) }
 {
+    write_fault_line(out, file.name(), name.number(), name.word(), at)
+}
+
+/// Writes the line for a file under this name that is refused: the number and the word of its first
+/// fault, and the number of the record.
+pub(crate) fn write_fault_line<O: Sink>(
+    out: &mut O,
+    file: &str,
+    number: u8,
+    word: &str,
+    at: u32,
+) -> Wrote
+    ensures written { IsWritten result (O.faults out.old) (O.faults out.new)
+        (O.taken out.old) (O.taken out.new)
+        (fault_line file.now (record { number = number; word = word.now }) at) }
+{
     let mut first = [0; 10];
     let mut second = [0; 10];
-    let number_len = print_number(u32::from(name.number()), &mut first);
+    let number_len = print_number(u32::from(number), &mut first);
     let at_len = print_number(at, &mut second);
     write_all(
         out,
         &[
             b"fault ",
-            file.name().as_bytes(),
+            file.as_bytes(),
             b" ",
             &first[..number_len],
             b" ",
-            name.word().as_bytes(),
+            word.as_bytes(),
             b" ",
             &second[..at_len],
             b"\n",

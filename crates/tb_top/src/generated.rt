@@ -3,7 +3,7 @@
 
 ghost use Rattle.std.specs.Prelude.{◌≡◌, IfErr, IfOk, false};
 ghost use Rattle.tb_top.specs.declared.endings.End.TheVariants as end;
-ghost use Rattle.tb_top.specs.Asking.{generated_asked, is_service};
+ghost use Rattle.tb_top.specs.Asking.{generated_asked, is_keep, is_service};
 ghost use Rattle.tb_top.specs.GeneratedFiles.{HoldGenerated};
 ghost use Rattle.tb_top.specs.Loading.{AskedIsFirst, Makes, asked_value};
 ghost use Rattle.tb_top.specs.Populations.{HasPersons};
@@ -37,6 +37,7 @@ fn hold_generated(alloc: Global, population: &Population) -> Result<SureFiles, M
 pub fn load_generated(alloc: Global, population: &Population) -> Result<Asked, End>
     ensures first { IfOk result AskedIsFirst }
     ensures kind { IfOk result (λ asked. is_service (asked_value asked) ≡ false) }
+    ensures keeps { IfOk result (λ asked. is_keep (asked_value asked) ≡ false) }
     ensures makes { Makes asked_value (generated_asked population.now) result }
     ensures accepted { IfErr result (λ e. e ≡ end.Memory) }
 {

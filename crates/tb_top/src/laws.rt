@@ -1,6 +1,9 @@
 // The top call over forms in memory.
 
-ghost use Rattle.std.specs.Prelude.{◌≡◌, ◌≢◌, ◌⊎◌, ◌+◌, All, Some, map, string_bytes, vec_len};
+ghost use Rattle.std.specs.Prelude.{◌≡◌, ◌≢◌, ◌⊎◌, ◌+◌, All, Some, false, map, string_bytes};
+ghost use Rattle.std.specs.Prelude.{vec_len};
+ghost use Rattle.tb_io.specs.Faults.{HasRisen};
+ghost use Rattle.tb_top.specs.KeepOutputs.{disk_seen};
 ghost use Rattle.tb_base.specs.declared.status.Status.TheVariants as status;
 ghost use Rattle.tb_io.specs.HeldFiles.{bytes_of, bytes_or_none};
 ghost use Rattle.tb_serve.specs.Stages.{IsFresh};
@@ -16,59 +19,68 @@ use std::sync::Wait;
 use std::sync::ledger::Ledger;
 use std::thread::Threads;
 use tb_base::{Status, Steps};
+use tb_disk::Disk;
 use tb_io::{Listen, MemFiles, MemSink, SureFiles, SureSink};
 use tb_serve::Port;
 
 /// Runs one command over files and a sink whose counts of faults are the constant 0: no fault of
 /// files and the sink can come, and the status is the one that the arguments and the files define,
-/// Memory, or NetFault where a listener failed.
-pub fn run_surely<N: Listen + Send, L: Ledger>(
+/// Memory, NetFault where a listener failed, or, for a script with a journal, Journal or DiskFault.
+pub fn run_surely<N: Listen + Send, D: Disk, L: Ledger>(
     rt: &(impl Threads + Wait + Sync),
     alloc: Global,
     words: &[String],
     files: &mut SureFiles,
     out: &mut SureSink,
     net: &mut Vec<Port<N>>,
+    disk: &mut D,
     steps: &mut Steps<L>,
 ) -> Status
     requires ports { vec_len net.old ≡ MOST_WORKERS + 1 }
     requires fresh { All IsFresh net.old.items }
+    requires attached { D.attached disk.old ≡ false }
     ensures read { result ≢ status.ReadFault }
     ensures write { result ≢ status.WriteFault }
     ensures defined { (result
         ≡ defined_status
         (asked_of (λ name. Some (bytes_or_none files.old name)) (map string_bytes words.now)))
         ⊎ ((result ≡ status.Memory)
-        ⊎ ((result ≡ status.NetFault) × HasRisenSome net.old.items net.new.items)) }
+        ⊎ (((result ≡ status.NetFault) × HasRisenSome net.old.items net.new.items)
+        ⊎ ((result ≡ status.Journal) ⊎ (result ≡ status.DiskFault)))) }
+    ensures disk { result ≡ status.DiskFault → HasRisen (D.faults disk.old) (D.faults disk.new) }
 {
-    tablebuilder(rt, alloc, words, files, out, net, steps)
+    tablebuilder(rt, alloc, words, files, out, net, disk, steps)
 }
 
 /// Runs one command over files and a sink in memory, of which some readings fail and which takes no
 /// more than its bound: the bytes that it adds to those of the sink are told outright.
-pub fn run_in_memory<N: Listen + Send, L: Ledger>(
+pub fn run_in_memory<N: Listen + Send, D: Disk, L: Ledger>(
     rt: &(impl Threads + Wait + Sync),
     alloc: Global,
     words: &[String],
     files: &mut MemFiles,
     out: &mut MemSink,
     net: &mut Vec<Port<N>>,
+    disk: &mut D,
     steps: &mut Steps<L>,
 ) -> Status
     requires ports { vec_len net.old ≡ MOST_WORKERS + 1 }
     requires fresh { All IsFresh net.old.items }
+    requires attached { D.attached disk.old ≡ false }
     // The bytes are the text of the status.
     ensures bytes { let arguments = map string_bytes words.now in
         let call = memory_call arguments files.old files.new out.old out.new
-        net.old.items net.new.items steps.old steps.new in
+        net.old.items net.new.items
+        (disk_seen D.named D.attached D.may_leave D.faults disk.old disk.new) steps.old steps.new in
         Adds call files.old out.old out.new result }
     // A read fault's line names the file of the reading that failed, which was the last.
     ensures read { result ≡ status.ReadFault
         → NamesTheFailingRead (map string_bytes words.now) files.old files.new out.old out.new }
     ensures defined { let arguments = map string_bytes words.now in
         let call = memory_call arguments files.old files.new out.old out.new
-        net.old.items net.new.items steps.old steps.new in
+        net.old.items net.new.items
+        (disk_seen D.named D.attached D.may_leave D.faults disk.old disk.new) steps.old steps.new in
         IsDefined call (bytes_of files.old.held) result }
 {
-    tablebuilder(rt, alloc, words, files, out, net, steps)
+    tablebuilder(rt, alloc, words, files, out, net, disk, steps)
 }

@@ -7,10 +7,12 @@ ghost use Rattle.tb_base.specs.Records.{AllFit};
 ghost use Rattle.tb_model.specs.Schemas.{shape_of};
 ghost use Rattle.tb_top.specs.declared.endings.End.TheVariants as end;
 ghost use Rattle.tb_top.specs.declared.endings.Input.TheVariants as input;
-ghost use Rattle.tb_top.specs.Asking.{asked_over, bytes_in, census_in, input_place, is_service};
+ghost use Rattle.tb_top.specs.Asking.{asked_over, bytes_in, census_in, input_place, is_keep};
+ghost use Rattle.tb_top.specs.Asking.{is_service};
 ghost use Rattle.tb_top.specs.Asking.{most_bytes, people_in, perturbation_in, recodes_in};
 ghost use Rattle.tb_top.specs.Asking.{schema_in, script_in, scripted_in};
-ghost use Rattle.tb_top.specs.Commands.{asks_to_generate, asks_to_serve, class_files};
+ghost use Rattle.tb_top.specs.Commands.{asks_to_generate, asks_to_keep, asks_to_serve};
+ghost use Rattle.tb_top.specs.Commands.{class_files};
 ghost use Rattle.tb_top.specs.Commands.{command_files, input_files, named, recodes_files};
 ghost use Rattle.tb_top.specs.Commands.{scripted_files};
 ghost use Rattle.tb_top.specs.Loading.{AskedIsFirst, IsFirst, Loads, asked_value, census_value};
@@ -48,8 +50,9 @@ pub struct Scripted {
     pub script: Script,
 }
 
-/// What a run is asked for over a census: to answer the lines of a script, or its lanes at the same
-/// time, to serve sessions, or to sum up the replies to a generated script.
+/// What a run is asked for over a census: to answer the lines of a script, its lanes at the same
+/// time, or its lines with a journal under this name; to serve sessions; or to sum up the replies
+/// to a generated script.
 #[derive(Drop)]
 pub enum Asked {
     Script {
@@ -58,6 +61,11 @@ pub enum Asked {
     },
     Lanes {
         census: Census,
+        script: Script,
+    },
+    Keep {
+        census: Census,
+        journal: String,
         script: Script,
     },
     Serve {
@@ -254,6 +262,8 @@ pub fn load<F: Files>(alloc: Global, files: &mut F, command: &Command<'_>) -> Re
     ensures first { IfOk result AskedIsFirst }
     ensures kind { IfOk result (λ asked. is_service (asked_value asked)
         ≡ asks_to_serve (Some command.now)) }
+    ensures keeps { IfOk result (λ asked. is_keep (asked_value asked)
+        ≡ asks_to_keep (Some command.now)) }
     ensures generated { asks_to_generate (Some command.now) ≡ true
         → IfErr result (λ e. e ≡ end.Memory) }
     ensures loads { Loads
@@ -273,6 +283,20 @@ pub fn load<F: Files>(alloc: Global, files: &mut F, command: &Command<'_>) -> Re
             let read = load_scripted(alloc, files, inputs, script)?;
             let Scripted { census, script } = read;
             Ok(Asked::Lanes { census, script })
+        }
+        Command::Keep {
+            inputs,
+            journal,
+            script,
+        } => {
+            let read = load_scripted(alloc, files, inputs, script)?;
+            let Scripted { census, script } = read;
+            let journal = String::from_str(alloc, journal.as_str())?;
+            Ok(Asked::Keep {
+                census,
+                journal,
+                script,
+            })
         }
         Command::Serve { inputs, service } => {
             let census = load_census(alloc, files, inputs)?;

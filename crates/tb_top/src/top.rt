@@ -1,6 +1,7 @@
 // The top call.
 
-ghost use Rattle.std.specs.Prelude.{◌≡◌, ◌≤◌, ◌+◌, ℕ, List, All, map, string_bytes, vec_len};
+ghost use Rattle.std.specs.Prelude.{◌≡◌, ◌≤◌, ◌+◌, ℕ, List, All, false, map, string_bytes};
+ghost use Rattle.std.specs.Prelude.{vec_len};
 ghost use Rattle.tb_base.specs.declared.status.Status.TheVariants as status;
 ghost use Rattle.tb_model.specs.Schemas.{shape_of};
 ghost use Rattle.tb_serve.specs.Serves.{output};
@@ -8,6 +9,7 @@ ghost use Rattle.tb_serve.specs.Stages.{IsFresh};
 ghost use Rattle.tb_top.specs.declared.service.TheConstants.{MOST_WORKERS};
 ghost use Rattle.tb_top.specs.Asking.{Script as AskedScript};
 ghost use Rattle.tb_top.specs.declared.endings.End.TheVariants as end;
+ghost use Rattle.tb_top.specs.KeepOutputs.{disk_seen};
 ghost use Rattle.tb_top.specs.Loading.{AskedIsFirst, IsBase, IsFirst, asked_value};
 ghost use Rattle.tb_top.specs.Loading.{census_over, census_value, reading};
 ghost use Rattle.tb_top.specs.Endings.{IsEnded};
@@ -19,6 +21,7 @@ ghost use Rattle.tb_top.specs.Summing.{AreSums};
 
 use crate::asking::ask;
 use crate::endings::End;
+use crate::keep::answer_keep;
 use crate::lanes::answer_lanes;
 use crate::load::{Asked, Census};
 use crate::population::Population;
@@ -33,6 +36,7 @@ use std::sync::ledger::Ledger;
 use std::thread::Threads;
 use tb_base::{Memory, Status, Steps};
 use tb_board::{Board, Named, Opening};
+use tb_disk::Disk;
 use tb_io::{Files, Listen, Sink, Wrote};
 use tb_script::{RunEnd, Script, run_script};
 use tb_serve::{Port, serve};
@@ -169,18 +173,21 @@ fn serve_census<R: Threads + Wait + Sync, O: Sink, N: Listen + Send>(
 }
 
 // Does what is asked for.
-fn answer<R: Threads + Wait + Sync, O: Sink, N: Listen + Send, L: Ledger>(
+fn answer<R: Threads + Wait + Sync, O: Sink, N: Listen + Send, D: Disk, L: Ledger>(
     rt: &R,
     alloc: Global,
     asked: Asked,
     out: &mut O,
     net: &mut Vec<Port<N>>,
+    disk: &mut D,
     steps: &mut Steps<L>,
 ) -> Status
     requires first { AskedIsFirst asked }
     requires ports { vec_len net.old ≡ MOST_WORKERS + 1 }
     requires fresh { All IsFresh net.old.items }
-    ensures { IsAnswered (asked_value asked) net.old.items net.new.items result
+    requires attached { D.attached disk.old ≡ false }
+    ensures { IsAnswered (asked_value asked) net.old.items net.new.items
+        (disk_seen D.named D.attached D.may_leave D.faults disk.old disk.new) result
         (O.faults out.old) (O.faults out.new) (O.taken out.old) (O.taken out.new)
         steps.old steps.new }
 {
@@ -189,6 +196,11 @@ fn answer<R: Threads + Wait + Sync, O: Sink, N: Listen + Send, L: Ledger>(
             answer_script(rt, alloc, census, &script, out, steps)
         }
         Asked::Lanes { census, script } => answer_lanes(rt, alloc, census, &script, out),
+        Asked::Keep {
+            census,
+            journal,
+            script,
+        } => answer_keep(rt, alloc, census, journal, script, out, disk, steps),
         Asked::Serve { census, service } => serve_census(rt, alloc, census, &service, out, net),
         Asked::Gen {
             population,
@@ -204,13 +216,15 @@ fn answer<R: Threads + Wait + Sync, O: Sink, N: Listen + Send, L: Ledger>(
 /// With `script CLASSES RECODES PTABLE PEOPLE THRESHOLD SCRIPT` the reply to each line of the
 /// script is written into `out`. With `lanes` and the same arguments its lanes are answered at the
 /// same time, phase by phase, and `out` takes the text of each phase once all its lanes have ended;
-/// what these lend isn't counted. With `serve CLASSES RECODES PTABLE PEOPLE THRESHOLD PORT WORKERS
-/// SESSIONS` the listeners are bound, the first to PORT for the custodian and one for each worker
-/// to the ports after it, and each worker serves sessions in a thread of its own, one after
-/// another; in the end `out` takes how many each had. With `gen N START` no file is read: the
-/// replies are those that `script` would write over the generated files of N persons, and `out`
-/// takes how many lines and bytes they have, and the sum of their byte values. Other arguments are
-/// refused.
+/// what these lend isn't counted. With `keep CLASSES RECODES PTABLE PEOPLE THRESHOLD JOURNAL
+/// SCRIPT` the batches of the journal in the disk's file of that name are published first, and then
+/// the script is answered as `script` does, but that each batch is on the disk before its
+/// publication is told. With `serve CLASSES RECODES PTABLE PEOPLE THRESHOLD PORT WORKERS SESSIONS`
+/// the listeners are bound, the first to PORT for the custodian and one for each worker to the
+/// ports after it, and each worker serves sessions in a thread of its own, one after another; in
+/// the end `out` takes how many each had. With `gen N START` no file is read: the replies are those
+/// that `script` would write over the generated files of N persons, and `out` takes how many lines
+/// and bytes they have, and the sum of their byte values. Other arguments are refused.
 ///
 /// A printed table is the perturbed table counted from scratch over the release of its number, to
 /// which the custodian's lines before it led, by the perturbation table and threshold of that
@@ -221,28 +235,31 @@ fn answer<R: Threads + Wait + Sync, O: Sink, N: Listen + Send, L: Ledger>(
 /// it doesn't. It takes memory for the files, for what they say, for one table at a time, for at
 /// most 64 cubes or as many as `cache K` says, for the edits that are held, and for the next
 /// release while it is made.
-pub fn tablebuilder<F: Files, O: Sink, N: Listen + Send, L: Ledger>(
+pub fn tablebuilder<F: Files, O: Sink, N: Listen + Send, D: Disk, L: Ledger>(
     rt: &(impl Threads + Wait + Sync),
     alloc: Global,
     words: &[String],
     files: &mut F,
     out: &mut O,
     net: &mut Vec<Port<N>>,
+    disk: &mut D,
     steps: &mut Steps<L>,
 ) -> Status
     // A port for the custodian and one for each worker that there may be, as they are made.
     requires ports { vec_len net.old ≡ MOST_WORKERS + 1 }
     requires fresh { All IsFresh net.old.items }
+    requires attached { D.attached disk.old ≡ false }
     // What the call keeps, promise by promise, over what it saw.
     ensures { Keeps
         (call_over (map string_bytes words.now)
         (reading F.content F.faults F.readings files.old files.new)
         (output (O.taken out.old) (O.taken out.new) (O.faults out.old) (O.faults out.new))
-        net.old.items net.new.items steps.old steps.new)
+        net.old.items net.new.items
+        (disk_seen D.named D.attached D.may_leave D.faults disk.old disk.new) steps.old steps.new)
         result }
 {
     match ask(alloc, words, files) {
-        Ok(asked) => answer(rt, alloc, asked, out, net, steps),
+        Ok(asked) => answer(rt, alloc, asked, out, net, disk, steps),
         Err(end) => end_by(&end, out),
     }
 }

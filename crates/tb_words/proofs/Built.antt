@@ -40,15 +40,16 @@ all_added (s ∷ names) (sub ∷ subs) old new (m, first, rest) same =
     ∙ ap (λ a. fold with_named a (map (λ s. s.now) names))
     (added old sub m (app_of old) _ first refl one (plain_command (positions_of name) (new_app name) refl))
 
--- which makes the program of the four commands
+-- which makes the program of all commands
 pub program_of : {E : Type 0} (r : Result Command E) (bare : Command) (names : List (Bor Text)) (subs : List Command)
     → IfOk r (λ c. AddsInTurn AddsSubcommand bare subs c) → app_of bare ≡ bare_program
     → map app_of subs ≡ map (λ s. command_with s.now (positions_of s.now)) names
-    → map (λ s. s.now) names ≡ codes "script" ∷ codes "lanes" ∷ codes "serve" ∷ codes "gen" ∷ [] → IfOk r (λ c. app_of c ≡ program)
-program_of r bare names subs turns one same four =
+    → map (λ s. s.now) names ≡ codes "script" ∷ codes "lanes" ∷ codes "keep" ∷ codes "serve" ∷ codes "gen" ∷ []
+    → IfOk r (λ c. app_of c ≡ program)
+program_of r bare names subs turns one same all =
     IfOk-weaker r (λ c. AddsInTurn AddsSubcommand bare subs c) (λ c. app_of c ≡ program)
     (λ c adds. all_added names subs bare c adds same ∙ ap (λ a. fold with_named a (map (λ s. s.now) names)) one
-    ∙ ap (fold with_named bare_program) four) turns
+    ∙ ap (fold with_named bare_program) all) turns
 
 -- one more position
 pub one_more_place : (places : List (Bor Text)) (i : ℕ) (d : Bor Text) (start old new : App) → i < length places

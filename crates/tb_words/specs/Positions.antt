@@ -9,6 +9,11 @@ script_positions =
     codes "CLASSES" ∷ codes "RECODES" ∷ codes "PTABLE" ∷ codes "PEOPLE" ∷ codes "THRESHOLD"
     ∷ codes "SCRIPT" ∷ []
 
+abbrev pub keep_positions : List Text
+keep_positions =
+    codes "CLASSES" ∷ codes "RECODES" ∷ codes "PTABLE" ∷ codes "PEOPLE" ∷ codes "THRESHOLD"
+    ∷ codes "JOURNAL" ∷ codes "SCRIPT" ∷ []
+
 abbrev pub serve_positions : List Text
 serve_positions =
     codes "CLASSES" ∷ codes "RECODES" ∷ codes "PTABLE" ∷ codes "PEOPLE" ∷ codes "THRESHOLD"
@@ -22,6 +27,7 @@ abbrev pub positions_of : Text → List Text
 positions_of name =
     if bytes_eq name (codes "script") then script_positions
     else if bytes_eq name (codes "lanes") then script_positions
+    else if bytes_eq name (codes "keep") then keep_positions
     else if bytes_eq name (codes "serve") then serve_positions
     else gen_positions
 
@@ -54,9 +60,9 @@ with_command a name positions = with_subcommand a (command_with name positions).
 
 abbrev pub program : App
 program =
-    with_command (with_command (with_command (with_command bare_program
+    with_command (with_command (with_command (with_command (with_command bare_program
     (codes "script") script_positions) (codes "lanes") script_positions)
-    (codes "serve") serve_positions) (codes "gen") gen_positions
+    (codes "keep") keep_positions) (codes "serve") serve_positions) (codes "gen") gen_positions
 
 -- what stands at a position
 abbrev pub value_at : List Row → Text → Text

@@ -8,7 +8,7 @@
 //! its position.
 //!
 //! Of the lemmas `proofs/Plain` is on words that aren't options, over any command of positions,
-//! `Parsed` on the four commands, `Built` on how they are built, `Told` on what clap tells of them,
+//! `Parsed` on each command, `Built` on how they are built, `Told` on what clap tells of them,
 //! and `Handed` on what is handed on and given back.
 #![tactic(auto)]
 

@@ -10,7 +10,7 @@ ghost use Rattle.tb_words.specs.Words.{AreCommand};
 use clap::{Arg, ArgMatches, Command, Error};
 use std::alloc::{AllocError, Global};
 
-static COMMANDS: [&str; 4] = ["script", "lanes", "serve", "gen"];
+static COMMANDS: [&str; 5] = ["script", "lanes", "keep", "serve", "gen"];
 
 static SCRIPT: [&str; 6] = [
     "CLASSES",
@@ -18,6 +18,16 @@ static SCRIPT: [&str; 6] = [
     "PTABLE",
     "PEOPLE",
     "THRESHOLD",
+    "SCRIPT",
+];
+
+static KEEP: [&str; 7] = [
+    "CLASSES",
+    "RECODES",
+    "PTABLE",
+    "PEOPLE",
+    "THRESHOLD",
+    "JOURNAL",
     "SCRIPT",
 ];
 
@@ -42,6 +52,8 @@ pub(crate) fn positions_of(name: &str) -> &'static [&'static str]
         SCRIPT.as_slice()
     } else if name == "lanes" {
         SCRIPT.as_slice()
+    } else if name == "keep" {
+        KEEP.as_slice()
     } else if name == "serve" {
         SERVE.as_slice()
     } else {

@@ -31,6 +31,13 @@ returns-clause-kind g c =
     let is : command_of words ≡ Some c.in-Some.command = same ∙ sym c.in-Some.ensures in
     rw is c.load.ensures.kind
 
+pub returns-clause-keeps : goal.returns-clause-keeps
+returns-clause-keeps g c =
+    let words = map string_bytes c.args.words.now in
+    let same = ap command_of (sym (ap (map string_bytes) c.as_slice.ensures.value ∙ c.in_ok-told.ensures)) in
+    let is : command_of words ≡ Some c.in-Some.command = same ∙ sym c.in-Some.ensures in
+    rw is c.load.ensures.keeps
+
 pub returns-clause-loads : goal.returns-clause-loads
 returns-clause-loads g c =
     let words = map string_bytes c.args.words.now in

@@ -17,8 +17,14 @@ returns-clause-defined g c = elim c.tablebuilder.ensures.exact [
       | inl read ↦ absurd (HasRisen-zero read.1)
       | inr more ↦ elim more [
         | inl write ↦ absurd (HasRisen-zero write.1)
-        | inr net ↦ inr (inr net)
+        | inr most ↦ elim most [
+          | inl net ↦ inr (inr (inl net))
+          | inr journal ↦ inr (inr (inr (elim journal.1.4 [ inl refused ↦ inl refused.2 | inr failed ↦ inr failed.1 ])))
+        ]
       ]
     ]
   ]
 ]
+
+pub returns-clause-disk : goal.returns-clause-disk
+returns-clause-disk g c = c.tablebuilder.ensures.disk_fault

@@ -1,0 +1,98 @@
+-- What a call keeps that answered a script with a journal.
+use Rattle.std.proofs.Common.{◌≡◌, ◌≢◌, ◌⊎◌, ◌∙◌, sym, ap, subst, refl, ℕ, ◌+◌, ◌≤◌, List, All, Option, Some, Ok, inl, inr, true, true≢false}
+use Rattle.std.specs.Prelude.{IfSome}
+use Rattle.tb_base.specs.declared.status.Status.{Status}
+use Rattle.tb_base.specs.declared.status.Status.TheVariants as status
+use Rattle.tb_io.proofs.TakenLemmas.{TookPart-all}
+use Rattle.tb_keep.proofs.SomeKeptReplies.{kept-all, kept-part}
+use Rattle.tb_keep.specs.JournalRuns.{JournalRun}
+use Rattle.tb_lines.specs.Outputs.{ReplyValue, price_of, text_of}
+use Rattle.tb_script.specs.Scripts.{ScriptValue}
+use Rattle.tb_serve.specs.Serves.{IsEnded}
+use Rattle.tb_serve.specs.Stages.{IsFresh}
+use Rattle.tb_top.specs.declared.command.Command.{Command}
+use Rattle.tb_top.specs.declared.command.Command.TheVariants as command
+use Rattle.tb_top.specs.declared.endings.End.TheVariants as end
+use Rattle.tb_top.specs.Asking.{AskedValue, CensusValue, Keep, asked_of, base_of}
+use Rattle.tb_top.specs.Calls.{Call, journal_seen, output_of}
+use Rattle.tb_top.specs.Commands.{asks_to_generate, asks_to_keep, command_of}
+use Rattle.tb_top.specs.Endings.{last_line}
+use Rattle.tb_top.specs.KeepOutputs.{AreKeepLinesAnswered, AreKeepReplies, HasFailed, IsKeepAnswered, IsKeepLine}
+use Rattle.tb_top.specs.Outputs.{IsBegun}
+use Rattle.tb_top.specs.Promises.{IsPriced, IsSomeLastLine, IsWhole, Keeps}
+use Rattle.tb_top.proofs.DiskKept.{answered-on-disk, ended-on-disk}
+use Rattle.tb_top.proofs.PortLemmas.{all-unserved, same-idle}
+use Rattle.tb_top.proofs.Serving.{IsFinal, keeps_by_final}
+use Rattle.tb_top.proofs.Telling.{where_told}
+use Rattle.tb_top.proofs.Writing.{keeps_by_written}
+
+-- a command that asks for a journal asks for no generated population
+keeps-alone : (c : Command) → asks_to_keep (Some c) ≡ true → asks_to_generate (Some c) ≡ true → ⊥
+keeps-alone (command.Script inputs script) keeps generates = cc
+keeps-alone (command.Lanes inputs script) keeps generates = cc
+keeps-alone (command.Keep inputs journal script) keeps generates = cc
+keeps-alone (command.Serve inputs service) keeps generates = cc
+keeps-alone (command.Gen population) keeps generates = cc
+
+module _ (call : Call) (command : Command) (census : CensusValue) (journal : List ℕ) (script : ScriptValue) (s : Status)
+    (named : command_of call.words ≡ Some command) (keeps : asks_to_keep (Some command) ≡ true)
+    (told : IfSome call.content (λ at. asked_of at call.words ≡ Ok (Keep census journal script)))
+    (fresh : All IsFresh call.ports) (same : call.ports_after ≡ call.ports) where
+  abbrev asked : AskedValue
+  asked = Keep census journal script
+
+  abbrev saw : JournalRun
+  saw = journal_seen call journal
+
+  asks : asks_to_keep (command_of call.words) ≡ true
+  asks = ap asks_to_keep named ∙ keeps
+
+  -- the counter rose by no more than the replies' price
+  priced_by : (replies : List ReplyValue) → AreKeepReplies census script replies → call.steps_after ≤ call.steps + price_of replies
+      → IsBegun asked s replies call.taken call.taken_after
+      → IfSome call.content (λ at. (call.steps_after ≡ call.steps) ⊎ IsPriced call at s)
+  priced_by replies answers cost begun = where_told _ _ call.content (λ at h. inr (asked, h, (replies, answers, begun, cost))) told
+
+  -- its lines were answered
+  by_lines : AreKeepLinesAnswered census script s (output_of call) saw → Keeps call s
+  by_lines (inl (is, lines)) =
+      let (replies, are, took, cost) = kept-all census.setup (base_of census) script.lines _ _ _ _ lines.kept.run in
+      let answers : AreKeepReplies census script replies = (lines.batches, lines.first_faults, lines.recovered.follow, are) in
+      keeps_by_written call command asked s (text_of replies) named told (refl, (replies, answers, refl))
+      (priced_by replies answers cost (λ m. cc, TookPart-all call.taken call.taken_after (text_of replies) took)) fresh same
+      (answered-on-disk call asked s told asks (inl (is, lines))) (inl (is, took))
+  by_lines (inr (is, rose, lines)) =
+      let (replies, are, part, cost) = kept-part census.setup (base_of census) script.lines _ _ _ _ lines.kept.run in
+      let answers : AreKeepReplies census script replies = (lines.batches, lines.first_faults, lines.recovered.follow, are) in
+      keeps_by_written call command asked s (text_of replies) named told (refl, (replies, answers, refl))
+      (priced_by replies answers cost (λ m. cc, part)) fresh same
+      (answered-on-disk call asked s told asks (inr (is, rose, lines))) (inr (is, rose, part))
+
+  -- none was, and a last line was written
+  by_last_line : (final : Status) (text : List ℕ) → IsFinal final → final ≢ status.NetFault → (final ≡ status.DiskFault → HasFailed call.disk)
+      → ((at : List ℕ → Option (List ℕ)) → asked_of at call.words ≡ Ok asked → IsWhole call at final text) → IsSomeLastLine final text
+      → call.steps_after ≡ call.steps → IsEnded text final (output_of call) s → Keeps call s
+  by_last_line final text is net failed whole line free ended =
+      keeps_by_final call command asked s final text named told free is (λ h. absurd (net h)) failed
+      (same-idle call.ports call.ports_after same fresh) (λ h. same) (λ h. absurd (keeps-alone command keeps h)) whole
+      (ended-on-disk call s final text free line ended (λ h. absurd (true≢false (sym asks ∙ h)))) ended
+
+  -- that of a journal's file that is refused, or of a disk that failed
+  by_journal_line : (final : Status) (text : List ℕ) → IsKeepLine census saw final text → call.steps_after ≡ call.steps
+      → IsEnded text final (output_of call) s → Keeps call s
+  by_journal_line final text (inl (fault, refused, is, line)) free ended =
+      by_last_line final text (subst IsFinal (sym is) tt) (λ h. cc) (λ h. cc)
+      (λ at h. subst (λ x. IsWhole call at x text) (sym is) (census, journal, script, h, inl (fault, refused, refl, line)))
+      (inr (inl (fault, is, line))) free ended
+  by_journal_line final text (inr (failed, is, line)) free ended =
+      by_last_line final text (subst IsFinal (sym is) tt) (λ h. cc) (λ h. failed)
+      (λ at h. subst (λ x. IsWhole call at x text) (sym is) (census, journal, script, h, inr (failed, refl, line)))
+      (inr (inr (is, line))) free ended
+
+  -- a run that came to a script with a journal keeps all
+  pub keeps_by_keep : IsKeepAnswered census script s (output_of call) saw → Keeps call s
+  keeps_by_keep (inl lines) = by_lines lines
+  keeps_by_keep (inr (free, inl ended)) =
+      by_last_line status.Memory (last_line end.Memory) tt (λ h. cc) (λ h. cc)
+      (λ at h. (inl refl, all-unserved call.ports call.ports_after same)) (inl (end.Memory, refl, refl)) free ended
+  keeps_by_keep (inr (free, inr (final, text, line, ended))) = by_journal_line final text line free ended

@@ -1,0 +1,119 @@
+-- What is written for a script with a journal, and what is left of that.
+use Rattle.std.specs.Prelude.{◌≡◌, ◌⊎◌, ℕ, List, Bool, false, Option, option_map, codes}
+use Rattle.tb_base.specs.declared.status.Status.{Status}
+use Rattle.tb_base.specs.declared.status.Status.TheVariants as status
+use Rattle.tb_disk.specs.Images.{WhereTold}
+use Rattle.tb_io.specs.Faults.{HasRisen}
+use Rattle.tb_keep.specs.JournalRuns.{AreLinesKept, IsJournalFault, JournalRun, after_playing}
+use Rattle.tb_keep.specs.KeptRuns.{IsKeptReply}
+use Rattle.tb_keep.specs.Playing.{CanAllFollow}
+use Rattle.tb_keep.specs.declared.journal_run.JournalFault.{JournalFault}
+use Rattle.tb_keep.specs.declared.journal_run.JournalFault.TheVariants as journal_fault
+use Rattle.tb_lines.specs.Outputs.{AreReplies, ReplyValue}
+use Rattle.tb_release.specs.declared.edits.Edit.{Edit}
+use Rattle.tb_rows.specs.FaultNames.{FaultNameValue}
+use Rattle.tb_script.specs.Scripts.{ScriptValue}
+use Rattle.tb_script.specs.declared.run.RunEnd.TheVariants as run_end
+use Rattle.tb_serve.specs.Serves.{IsEnded, Output}
+use Rattle.tb_top.specs.Asking.{CensusValue, base_of}
+use Rattle.tb_top.specs.Endings.{fault_line, last_line}
+use Rattle.tb_top.specs.declared.endings.End.TheVariants as end
+
+-- what is seen of a disk: what each name had before it was attached, where that is told; whether it
+-- is attached at the end, and what a stop then may leave; and its count of faults, before and after
+pub record DiskSeen : Type 1 where
+  pub named : Option (List ℕ → List ℕ)
+  pub attached : Bool
+  pub may_leave : List ℕ → Type 0
+  pub faults : ℕ
+  pub faults_after : ℕ
+
+-- the same of a disk by its ghost members, before and after a call
+abbrev pub disk_seen : {D : Type 0} → (D → Option (List ℕ → List ℕ)) → (D → Bool)
+    → (D → List ℕ → Type 0) → (D → ℕ) → D → D → DiskSeen
+disk_seen named attached may_leave faults disk disk' = record {
+  named = named disk;
+  attached = attached disk';
+  may_leave = may_leave disk';
+  faults = faults disk;
+  faults_after = faults disk';
+}
+
+-- it was left alone
+abbrev pub IsStill : DiskSeen → Type 0
+IsStill disk = (disk.attached ≡ false) × (disk.faults_after ≡ disk.faults)
+
+-- its count rose
+abbrev pub HasFailed : DiskSeen → Type 0
+HasFailed disk = HasRisen disk.faults disk.faults_after
+
+-- the number and the word of a journal's fault, and the number of the record
+abbrev pub journal_fault_name : JournalFault → FaultNameValue
+journal_fault_name journal_fault.NotJournal = record { number = 1; word = codes "NotJournal" }
+journal_fault_name (journal_fault.BadRecord r) = record { number = 2; word = codes "BadRecord" }
+journal_fault_name (journal_fault.DoesNotFollow r) =
+    record { number = 3; word = codes "DoesNotFollow" }
+
+abbrev pub journal_fault_at : JournalFault → ℕ
+journal_fault_at journal_fault.NotJournal = 0
+journal_fault_at (journal_fault.BadRecord r) = r
+journal_fault_at (journal_fault.DoesNotFollow r) = r
+
+-- the last line where a journal's file is refused, and where the disk failed
+abbrev pub journal_line : JournalFault → List ℕ
+journal_line fault =
+    fault_line (codes "journal") (journal_fault_name fault) (journal_fault_at fault)
+
+abbrev pub disk_line : List ℕ
+disk_line = codes "fault disk\n"
+
+-- what is seen of a run with a journal under this name
+abbrev pub kept_seen : DiskSeen → (journal : List ℕ) → (steps steps' : ℕ) → Output → JournalRun
+kept_seen disk journal steps steps' out = record {
+  content = option_map (λ named. named journal) disk.named;
+  may_leave = disk.may_leave;
+  faults = disk.faults;
+  faults_after = disk.faults_after;
+  steps = steps;
+  steps_after = steps';
+  taken = out.before;
+  taken_after = out.after;
+}
+
+-- a text is the last line of a run whose journal's file is refused, for this fault, or couldn't be
+-- read, since the disk failed; and that is its status
+abbrev pub IsKeepLine : CensusValue → JournalRun → Status → List ℕ → Type 0
+IsKeepLine census saw s text =
+    ((fault : JournalFault)
+    × WhereTold saw.content (λ file.
+    IsJournalFault census.setup (base_of census) file fault)
+    × (s ≡ status.Journal) × (text ≡ journal_line fault))
+    ⊎ (HasRisen saw.faults saw.faults_after × (s ≡ status.DiskFault) × (text ≡ disk_line))
+
+-- these are replies to the lines of a script, from some batches on that can all follow
+abbrev pub AreKeepReplies : CensusValue → ScriptValue → List ReplyValue → Type 0
+AreKeepReplies census script replies =
+    (batches : List (List Edit)) × (faults : ℕ)
+    × CanAllFollow census.setup (base_of census) batches
+    × AreReplies (IsKeptReply census.setup (base_of census))
+    (after_playing (base_of census) batches faults) script.lines replies
+
+-- The lines of a script were answered from the recovered batches on: all of them, or, where a write
+-- failed, up to the one whose reply was cut short. Each file that a stop now may leave stands for
+-- the batches to which these replies led.
+abbrev pub AreKeepLinesAnswered : CensusValue → ScriptValue → Status → Output → JournalRun → Type 0
+AreKeepLinesAnswered census script s out saw =
+    ((s ≡ status.Done)
+    × AreLinesKept census.setup (base_of census) script.lines run_end.Done saw)
+    ⊎ ((s ≡ status.WriteFault) × HasRisen out.faults out.faults_after
+    × AreLinesKept census.setup (base_of census) script.lines run_end.WriteFault saw)
+
+-- A script with a journal was answered: its lines were; or none was, since memory ran out, or the
+-- journal's file is refused, or the disk failed.
+abbrev pub IsKeepAnswered : CensusValue → ScriptValue → Status → Output → JournalRun → Type 0
+IsKeepAnswered census script s out saw =
+    AreKeepLinesAnswered census script s out saw
+    ⊎ ((saw.steps_after ≡ saw.steps)
+    × (IsEnded (last_line end.Memory) status.Memory out s
+    ⊎ ((final : Status) × (text : List ℕ) × IsKeepLine census saw final text
+    × IsEnded text final out s)))

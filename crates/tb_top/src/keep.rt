@@ -1,0 +1,176 @@
+// A script with a journal, answered over a census.
+
+ghost use Rattle.std.specs.Prelude.{◌≡◌, ◌≤◌, false, string_bytes, true};
+ghost use Rattle.tb_base.specs.declared.status.Status.TheVariants as status;
+ghost use Rattle.tb_model.specs.Schemas.{shape_of};
+ghost use Rattle.tb_serve.specs.Serves.{IsEnded, output};
+ghost use Rattle.tb_top.specs.KeepOutputs.{IsKeepAnswered, disk_line, disk_seen, journal_line};
+ghost use Rattle.tb_top.specs.KeepOutputs.{journal_fault_at, journal_fault_name, kept_seen};
+ghost use Rattle.tb_top.specs.Loading.{IsBase, IsFirst, census_over, census_value};
+
+use crate::endings::{End, write_fault_line};
+use crate::load::Census;
+use crate::top::end_by;
+use std::alloc::Global;
+use std::marker::Brand;
+use std::sync::Wait;
+use std::sync::ledger::Ledger;
+use std::thread::Threads;
+use tb_base::{Status, Steps};
+use tb_board::{Board, Named, Opening};
+use tb_disk::{Disk, Done};
+use tb_io::{Sink, Wrote};
+use tb_keep::{JournalFault, KeepEnd, run_with_journal};
+use tb_rows::FaultName;
+use tb_script::{RunEnd, Script};
+use tb_session::{FIRST_CAPACITY, Setting};
+use tb_text::Setup;
+
+// The number and the word of a journal's fault.
+fn name_of(fault: &JournalFault) -> FaultName
+    ensures { result ≡ journal_fault_name fault.now }
+{
+    match fault {
+        JournalFault::NotJournal => FaultName::new(1, "NotJournal"),
+        JournalFault::BadRecord(_) => FaultName::new(2, "BadRecord"),
+        JournalFault::DoesNotFollow(_) => FaultName::new(3, "DoesNotFollow"),
+    }
+}
+
+// The number of the record in which it is.
+fn record_of(fault: &JournalFault) -> u32
+    ensures { result ≡ journal_fault_at fault.now }
+{
+    match fault {
+        JournalFault::NotJournal => 0,
+        JournalFault::BadRecord(r) | JournalFault::DoesNotFollow(r) => *r,
+    }
+}
+
+// Writes the last line of a run whose journal's file is refused.
+fn end_refused<O: Sink>(fault: &JournalFault, out: &mut O) -> Status
+    ensures count { O.faults out.old ≤ O.faults out.new }
+    ensures ended { IsEnded (journal_line fault.now) status.Journal
+        (output (O.taken out.old) (O.taken out.new) (O.faults out.old) (O.faults out.new)) result }
+{
+    let name = name_of(fault);
+    match write_fault_line(out, "journal", name.number(), name.word(), record_of(fault)) {
+        Wrote::All => Status::Journal,
+        Wrote::Failed => Status::WriteFault,
+    }
+}
+
+// Writes the last line of a run whose disk failed.
+fn end_by_disk<O: Sink>(out: &mut O) -> Status
+    ensures count { O.faults out.old ≤ O.faults out.new }
+    ensures ended { IsEnded disk_line status.DiskFault
+        (output (O.taken out.old) (O.taken out.new) (O.faults out.old) (O.faults out.new)) result }
+{
+    match out.write(b"fault disk\n") {
+        Wrote::All => Status::DiskFault,
+        Wrote::Failed => Status::WriteFault,
+    }
+}
+
+// Answers the lines of a script over a board, with the journal in the file of a disk.
+fn answer_on_board<B: Named, R: Threads + Wait + Sync, O: Sink, D: Disk, L: Ledger>(
+    rt: &R,
+    alloc: Global,
+    setup: &Setup,
+    opening: Opening,
+    script: &Script,
+    out: &mut O,
+    disk: &mut D,
+    steps: &mut Steps<L>,
+) -> Status
+    requires name { opening.name ≡ B.name }
+    requires shape { opening.start.shape ≡ shape_of setup.now.schema }
+    requires first { IsBase opening.start.base }
+    requires attached { D.attached disk.old ≡ true }
+    ensures disk_count { D.faults disk.old ≤ D.faults disk.new }
+    ensures answered { IsKeepAnswered (census_over setup.now opening.start.base) script.now result
+        (output (O.taken out.old) (O.taken out.new) (O.faults out.old) (O.faults out.new))
+        (record {
+          content = D.content disk.old;
+          may_leave = D.may_leave disk.new;
+          faults = D.faults disk.old;
+          faults_after = D.faults disk.new;
+          steps = steps.old;
+          steps_after = steps.new;
+          taken = O.taken out.old;
+          taken_after = O.taken out.new;
+        }) }
+{
+    let (board, custodian) = Board::<B>::new(opening);
+    let setting = Setting {
+        setup,
+        board: &board,
+        rt,
+        alloc,
+    };
+    match run_with_journal(&setting, script, custodian, disk, out, steps) {
+        KeepEnd::Ran(RunEnd::Done) => Status::Done,
+        KeepEnd::Ran(RunEnd::WriteFault) => Status::WriteFault,
+        KeepEnd::Ran(RunEnd::Memory) => end_by(&End::Memory, out),
+        KeepEnd::Refused(fault) => end_refused(&fault, out),
+        KeepEnd::DiskFault => end_by_disk(out),
+    }
+}
+
+// Answers the lines of a script over a census, with the journal in the file of this name.
+fn keep_census<R: Threads + Wait + Sync, O: Sink, D: Disk, L: Ledger>(
+    rt: &R,
+    alloc: Global,
+    census: Census,
+    journal: &str,
+    script: &Script,
+    out: &mut O,
+    disk: &mut D,
+    steps: &mut Steps<L>,
+) -> Status
+    requires first { IsFirst census }
+    requires attached { D.attached disk.old ≡ false }
+    ensures { let seen = output (O.taken out.old) (O.taken out.new)
+        (O.faults out.old) (O.faults out.new) in
+        IsKeepAnswered (census_value census) script.now result seen
+        (kept_seen (disk_seen D.named D.attached D.may_leave D.faults disk.old disk.new)
+        journal.now steps.old steps.new seen) }
+{
+    let Census { setup, release } = census;
+    let Ok(opening) = Opening::new(alloc, setup.schema.shape(), release, FIRST_CAPACITY) else {
+        return end_by(&End::Memory, out);
+    };
+    match disk.attach(journal) {
+        Done::All => {
+            answer_on_board::<Brand, R, O, D, L>(
+                rt, alloc, &setup, opening, script, out, disk, steps,
+            )
+        }
+        Done::Failed => end_by_disk(out),
+    }
+}
+
+/// Answers the lines of a script over a census, with the journal in the file of this name: attaches
+/// it, opens it, publishes its batches, and then writes each further one ahead of its publication.
+/// It takes memory for a board, and as `run_with_journal` does.
+pub(crate) fn answer_keep<R: Threads + Wait + Sync, O: Sink, D: Disk, L: Ledger>(
+    rt: &R,
+    alloc: Global,
+    census: Census,
+    journal: String,
+    script: Script,
+    out: &mut O,
+    disk: &mut D,
+    steps: &mut Steps<L>,
+) -> Status
+    requires first { IsFirst census }
+    requires attached { D.attached disk.old ≡ false }
+    ensures { let seen = output (O.taken out.old) (O.taken out.new)
+        (O.faults out.old) (O.faults out.new) in
+        IsKeepAnswered (census_value census) script result seen
+        (kept_seen (disk_seen D.named D.attached D.may_leave D.faults disk.old disk.new)
+        (string_bytes journal) steps.old steps.new seen) }
+{
+    let name = journal.as_str();
+    keep_census(rt, alloc, census, name, &script, out, disk, steps)
+}
