@@ -12,6 +12,7 @@ use std::sync::ledger::{Blank, Ledger};
 use std::thread::Threads;
 use tb_base::{Memory, Status, Steps};
 use tb_io::{Listen, SureFiles};
+use tb_mem_disk::MemDisk;
 use tb_serve::Port;
 use tb_small::{CLASSES, PEOPLE, PTABLE, RECODES};
 use tb_top::tablebuilder;
@@ -62,9 +63,14 @@ fn files_end_so<N: Listen + Send, R: Threads + Wait + Sync, L: Ledger>(
     requires parts { blank.parts ≡ L.parts }
     requires some { 0 < L.parts }
 {
+    let Ok(mut disk) = MemDisk::new(alloc, &[], &[]) else {
+        return false;
+    };
     let mut steps = Steps::<L>::new(blank);
     let mut out = Compared::with(text);
-    let status = tablebuilder(rt, alloc, words, files, &mut out, net, &mut steps);
+    let status = tablebuilder(
+        rt, alloc, words, files, &mut out, net, &mut disk, &mut steps,
+    );
     status == end && out.is_whole()
 }
 

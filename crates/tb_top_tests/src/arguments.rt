@@ -9,7 +9,7 @@ use tb_top::read_command;
 // Arguments, which one blank parts, and whether they are a command's.
 type Row = (&'static str, bool);
 
-static ROWS: [Row; 83] = [
+static ROWS: [Row; 91] = [
     ("", false),
     ("help", false),
     ("help script", false),
@@ -55,6 +55,17 @@ static ROWS: [Row; 83] = [
     ("lanes classes - ptable people 0 script script", false),
     ("lanes classes - ptable people 1000001 script", false),
     ("lanes classes - ptable people 0 -x", false),
+    ("keep classes - ptable people 0 script", false),
+    ("keep classes - ptable people 0 journal script", true),
+    (
+        "keep classes - ptable people 0 journal script script",
+        false,
+    ),
+    ("keep classes - ptable people 0  script", false),
+    ("keep classes - ptable people 0 journal ", false),
+    ("keep classes - ptable people 0 - script", false),
+    ("keep classes - ptable people 0 journal -x", false),
+    ("keep classes - ptable people 1000001 journal script", false),
     ("serve classes - ptable people 0 5000 1", false),
     ("serve classes - ptable people 0 5000 1 1", true),
     ("serve classes - ptable people 0 5000 1 1 1", false),

@@ -2,7 +2,8 @@
 // is a run with the bytes that it writes; the tables stand behind functions, so that no proof reads
 // them.
 
-ghost use Rattle.std.specs.Prelude.{◌≡◌, ◌<◌, ◌+◌, All, IfOk, vec_len};
+ghost use Rattle.std.specs.Prelude.{◌≡◌, ◌<◌, ◌+◌, All, IfOk, false, vec_len};
+ghost use Rattle.tb_mem_disk.specs.HeldDisk.{HeldDisk};
 ghost use Rattle.tb_serve.specs.Stages.{IsFresh};
 ghost use Rattle.tb_top.specs.declared.service.TheConstants.{MOST_WORKERS};
 
@@ -13,6 +14,7 @@ use std::sync::ledger::{Blank, Ledger};
 use std::thread::Threads;
 use tb_base::{Memory, Status, Steps};
 use tb_io::{MemFiles, MemListen, MemSink, SureFiles, SureSink};
+use tb_mem_disk::MemDisk;
 use tb_serve::Port;
 use tb_small::{CLASSES, PEOPLE, PTABLE, RECODES};
 use tb_top::MOST_WORKERS;
@@ -77,6 +79,13 @@ fn quiet_ports(alloc: Global) -> Result<Vec<Port<MemListen>>, Memory>
     Ok(net)
 }
 
+// A disk with an empty file, which no run but one with a journal attaches.
+fn no_file(alloc: Global) -> Result<MemDisk, Memory>
+    ensures { IfOk result (λ disk. disk.attached ≡ false) }
+{
+    MemDisk::new(alloc, &[], &[])
+}
+
 // A run over forms in memory, with a counter of its own.
 fn count_in_memory<L: Ledger>(
     rt: &(impl Threads + Wait + Sync),
@@ -93,8 +102,11 @@ fn count_in_memory<L: Ledger>(
     requires parts { blank.parts ≡ L.parts }
     requires some { 0 < L.parts }
 {
+    let Ok(mut disk) = no_file(alloc) else {
+        return Status::Memory;
+    };
     let mut steps = Steps::<L>::new(blank);
-    run_in_memory(rt, alloc, words, files, out, net, &mut steps)
+    run_in_memory(rt, alloc, words, files, out, net, &mut disk, &mut steps)
 }
 
 // The same over forms that never fail.
@@ -113,8 +125,11 @@ fn count_surely<L: Ledger>(
     requires parts { blank.parts ≡ L.parts }
     requires some { 0 < L.parts }
 {
+    let Ok(mut disk) = no_file(alloc) else {
+        return Status::Memory;
+    };
     let mut steps = Steps::<L>::new(blank);
-    run_surely(rt, alloc, words, files, out, net, &mut steps)
+    run_surely(rt, alloc, words, files, out, net, &mut disk, &mut steps)
 }
 
 pub fn run_over(
