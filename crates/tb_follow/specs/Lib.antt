@@ -1,0 +1,11 @@
+pub mod Chains
+pub mod Messages
+pub mod Windows
+pub mod Followers
+pub mod OwnChains
+pub mod Deliveries
+pub mod Steps
+pub mod Answers
+pub mod Leading
+pub mod Worlds
+pub mod Laws

@@ -1,0 +1,5 @@
+mod Writing
+mod Ending
+mod Texts
+pub mod Continuing
+pub mod Leading
