@@ -1,5 +1,5 @@
-.PHONY: test try try-guide build demo serve guide quotes clients refusals growths bench bench-serve
-.PHONY: bench-journal bench-tools
+.PHONY: test try try-guide build demo serve guide quotes clients refusals growths crash bench
+.PHONY: bench-serve bench-journal bench-tools
 
 # What `make try` runs over: names of files, RECODES or `-` for none, and the threshold.
 CLASSES = examples/small/classes.csv
@@ -67,13 +67,21 @@ refusals: build
 growths: build
 	python3 docs/growths.py crates/tablebuilder/out/tablebuilder examples/small
 
-# The program beside a plain one over generated persons: medians, spreads, peak memory and ratios.
+# Kills the built program again and again while it keeps a script's batches in a journal, and compares
+# what it acknowledged with what the journal has. It ends within two minutes.
+crash: build
+	python3 docs/crash.py crates/tablebuilder/out/tablebuilder
+
+# The program beside a plain one over generated persons: medians, spreads, peak memory and ratios; set
+# pvalues and thresholds; and a script with a journal, on the disk of bench/out.
 bench: bench-tools build
 	mkdir -p bench/out
 	rustc -O --edition 2021 -o bench/out/baseline bench/baseline.rs
 	rustc -O --edition 2021 -o bench/out/copy bench/copy.rs
+	cc -O2 -shared -fPIC -o bench/out/syncs.so bench/syncs.c -ldl
 	python3 bench/bench.py crates/tablebuilder/out/tablebuilder bench/out/baseline
 	python3 bench/rules.py crates/tablebuilder/out/tablebuilder bench/out/copy
+	python3 bench/keep.py crates/tablebuilder/out/tablebuilder bench/out/syncs.so bench/out
 
 # Sessions over connections to this machine: rates beside a plain server and a script, and memory.
 bench-serve: bench-tools build
@@ -88,6 +96,6 @@ bench-journal: bench-tools
 	python3 bench/journal.py crates/tb_journal_tests/out/tb_journal_tests_tests
 
 bench-tools:
-	@for tool in rt rustc python3; do \
+	@for tool in rt rustc cc python3; do \
 		command -v $$tool >/dev/null || { echo "the bench needs $$tool, which is not on the path"; exit 1; }; \
 	done

@@ -1,7 +1,7 @@
 #!/usr/bin/env python3
-"""Runs scripts and lanes over examples/small with one allocation refused, for one allocation after
-another, and compares each output with what the definitions allow, by a model that shares nothing
-with the program. Loading makes few of them, and the first batch one for each shard of the key book:
+"""Runs scripts, lanes and scripts with a journal over examples/small with one allocation refused, for
+one allocation after another, and compares each output, and what a journal then has, with what the
+definitions allow, by a model that shares nothing with the program. Loading makes few of them, and the first batch one for each shard of the key book:
 each of the first 400 and of the last 400 is refused, and each 20th between; with `all`, each one.
 
     growths.py PROGRAM FOLDER [all] [WORD ..]
@@ -12,12 +12,18 @@ words, only the cases whose names have one of them are run. It prints each outpu
 definitions don't allow, and then ends with status 1.
 """
 import collections
+import copy
 import csv
 import os
 import subprocess
 import sys
 import tempfile
 import typing
+
+sys.dont_write_bytecode = True
+HERE = os.path.dirname(os.path.abspath(__file__))
+sys.path.insert(0, f"{HERE}/../clients")
+import journal
 
 # What refuses one allocation: that of the number in REFUSED, from 1, none for 0. Each call of malloc
 # and realloc is one; they are counted in the file COUNTED.
@@ -57,13 +63,13 @@ void *realloc(void *old, size_t size) {
     return is_refused() ? NULL : system_realloc(old, size);
 }
 """
-MEMORY, TOTAL = "memory\n", "Total"
-DONE, NO_MEMORY = 0, 9
+MEMORY, UNKEPT, TOTAL = "memory\n", "unkept\n", "Total"
+DONE, NO_MEMORY, DISK_FAULT = 0, 9, 12
 ALL = "no reply is memory"
 # How many allocations at both ends are refused one by one, which between, and how many beyond.
 ENDS, STRIDE, BEYOND = 400, 20, 20
 FILES = ("classes", "recodes", "ptable", "people")
-# The lines, and whether they are answered as lanes or as a script.
+# The lines, and whether they are answered as lanes, as a script or as one with a journal.
 CASES = {
     "add, amend and drop": ("script", """
 custodian add 105 9 SEX=2 AGE=65+ AREA=E1
@@ -178,6 +184,36 @@ custodian add 104 7 SEX=2 AGE=16-64 AREA=E2
 custodian publish
 a table SEX
 """),
+    "a journal": ("keep", """
+custodian drop 104
+custodian publish
+a table SEX
+custodian publish
+custodian add 104 7 SEX=2 AGE=16-64 AREA=E2
+custodian publish
+custodian publish
+a table AREA by SEX with totals
+"""),
+    "a journal that is played": ("keep", """
+a table AREA by SEX with totals
+custodian pvalue 3 64 5
+custodian amend 200 SEX=2
+custodian publish
+custodian add 104 8 SEX=1 AGE=65+ AREA=E1
+custodian publish
+custodian publish
+a table SEX
+"""),
+}
+# The lines of a run that leaves the journal with which a case begins.
+EARLIER = {
+    "a journal that is played": """
+custodian add 200 9 SEX=1 AGE=65+ AREA=E1
+custodian drop 104
+custodian publish
+custodian threshold 1
+custodian publish
+""",
 }
 
 
@@ -311,8 +347,49 @@ class Custodian:
         return reply == f"published {len(self.chain) - 1}\n"
 
 
-def allows_script(model, lines, text):
-    replies, custodian = cut(text), Custodian(model, [model.first])
+class Keeper(Custodian):
+    """A custodian with a journal: the batches that it has, and whether it may be live and may not."""
+
+    def __init__(self, model, chain):
+        super().__init__(model, chain)
+        self.batches, self.further = [], None
+        self.may_be_live, self.may_be_closed = True, False
+
+    def follows(self):
+        release, keys = self.chain[-1], dict(self.keys)
+        for edit in self.held:
+            release = edited(release, keys, edit)
+            if release is None:
+                return False
+        return bool(self.held)
+
+    def allows(self, line, reply):
+        if line != "publish" or not self.follows():
+            return super().allows(line, reply)
+        if reply == MEMORY:
+            # (before the batch is put, or after that, which closes the journal)
+            if self.may_be_live:
+                self.may_be_closed, self.further = True, list(self.held)
+            return True
+        if reply == UNKEPT:
+            self.may_be_live = False
+            return self.may_be_closed
+        held = list(self.held)
+        if not self.may_be_live or not super().allows(line, reply):
+            return False
+        self.may_be_closed, self.further = False, None
+        self.batches.append(held)
+        return True
+
+    def may_leave(self, batches):
+        """Whether a journal may have these."""
+        if batches == self.batches:
+            return self.may_be_live
+        return self.may_be_closed and batches == [*self.batches, self.further]
+
+
+def allows_script(custodian, lines, text):
+    model, replies = custodian.model, cut(text)
     if replies is None or len(replies) != len(lines):
         return False
     for line, reply in zip(lines, replies):
@@ -381,22 +458,25 @@ def allows_lanes(model, lines, text):
     return len(parts) - 1, len(phases)
 
 
-def allowed(model, command, lines, status, text):
-    """How a run ended, in a word; None where the definitions don't allow it."""
+def allowed(custodian, command, lines, status, text):
+    """How a run ended, in a word; None where the definitions don't allow it. It leads a custodian
+    who begins the lines to their end."""
+    if command == "keep" and (status, text) == (DISK_FAULT, "fault disk\n"):
+        return "the disk failed"
     if status == NO_MEMORY:
         if not text.endswith("fault memory\n"):
             return None
         before = text.removesuffix("fault memory\n")
         if command == "lanes" and before:
-            return "no memory" if allows_lanes(model, lines, before) else None
+            return "no memory" if allows_lanes(custodian.model, lines, before) else None
         return None if before else "no memory"
     if status != DONE:
         return None
     if command == "lanes":
-        told = allows_lanes(model, lines, text)
+        told = allows_lanes(custodian.model, lines, text)
         if not told or told[0] != told[1]:
             return None
-    elif not allows_script(model, lines, text):
+    elif not allows_script(custodian, lines, text):
         return None
     return (ALL, "one is memory", "more are memory")[min(text.count(MEMORY), 2)]
 
@@ -415,13 +495,12 @@ def run(program, refuser, number, command, words):
 
 
 def build_refuser(folder):
-    """The library that refuses an allocation."""
-    source, library = f"{folder}/refuser.c", f"{folder}/refuser.so"
+    """Makes the library that refuses an allocation, `refuser.so`."""
+    source = f"{folder}/refuser.c"
     with open(source, "w", encoding="ascii") as out:
         out.write(REFUSER)
-    words = ["cc", "-O2", "-shared", "-fPIC", "-o", library, source, "-ldl"]
+    words = ["cc", "-O2", "-shared", "-fPIC", "-o", f"{folder}/refuser.so", source, "-ldl"]
     subprocess.run(words, check=True)
-    return library
 
 
 def numbers_to_refuse(most, each):
@@ -433,31 +512,82 @@ def numbers_to_refuse(most, each):
     return [*range(1, ENDS + 1), *between, *range(most - ENDS, last + 1)]
 
 
+class Case:
+    """A case, in a folder where it has its script and its journal, with what it begins from."""
+
+    def __init__(self, program, small, folder, model, name):
+        self.program, self.small, self.folder = program, small, folder
+        self.command, text = CASES[name]
+        self.lines = text.strip().splitlines()
+        self.classes = journal.read_classes(f"{small}/classes.csv")
+        self.start = (Keeper if self.command == "keep" else Custodian)(model, [model.first])
+        # (the bytes of the journal; none where there is no such file)
+        self.first = b""
+        if name in EARLIER:
+            lines = EARLIER[name].strip().splitlines()
+            status, text, _ = self.run(0, lines)
+            if status != DONE or not allows_script(self.start, lines, text):
+                sys.exit(f"{name}, before: {status} {text}")
+            with open(f"{folder}/journal", "rb") as file:
+                self.first = file.read()
+
+    def run(self, number, lines):
+        """How a run of these lines with that allocation refused ends, what it prints, and how many
+        allocations it made."""
+        script, path = f"{self.folder}/script.txt", f"{self.folder}/journal"
+        with open(script, "w", encoding="ascii") as out:
+            out.writelines(line + "\n" for line in lines)
+        if os.path.exists(path):
+            os.remove(path)
+        if self.first:
+            with open(path, "wb") as out:
+                out.write(self.first)
+        files = [f"{self.small}/{file}.csv" for file in FILES]
+        names = [path, script] if self.command == "keep" else [script]
+        return run(self.program, f"{self.folder}/refuser.so", number, self.command,
+                   [*files, "0", *names])
+
+    def batches(self):
+        """The batches of the journal, each as its lines."""
+        path = f"{self.folder}/journal"
+        if not os.path.exists(path):
+            return []
+        return [journal.lines(number, edits, self.classes)[1:-1]
+                for number, edits in enumerate(journal.batches(path), 1)]
+
+    def end(self, number):
+        """How a run with that allocation refused ended, in a word, or None where the definitions
+        don't allow it, or what its journal has; its status and text; and its allocations."""
+        status, text, made = self.run(number, self.lines)
+        custodian = copy.deepcopy(self.start)
+        end = allowed(custodian, self.command, self.lines, status, text)
+        if self.command == "keep" and end:
+            before = self.start if status != DONE else custodian
+            if not before.may_leave(self.batches()):
+                end = None
+        return end, f"status {status}\n{text}", made
+
+
 def main(program, small, *chosen):
     each, words = "all" in chosen, [word for word in chosen if word != "all"]
     model, failed = Model(small), 0
     with tempfile.TemporaryDirectory() as folder:
-        refuser = build_refuser(folder)
-        for name, (command, text) in CASES.items():
+        build_refuser(folder)
+        for name in CASES:
             if words and not any(word in name for word in words):
                 continue
-            lines = text.strip().splitlines()
-            script = f"{folder}/script.txt"
-            with open(script, "w", encoding="ascii") as out:
-                out.writelines(line + "\n" for line in lines)
-            given = [*(f"{small}/{file}.csv" for file in FILES), "0", script]
-            status, whole, most = run(program, refuser, 0, command, given)
-            if status != DONE or allowed(model, command, lines, status, whole) != ALL:
-                sys.exit(f"{name}: {status} {whole}")
+            case = Case(program, small, folder, model, name)
+            end, told, most = case.end(0)
+            if end != ALL:
+                sys.exit(f"{name}: {told}")
             ends = collections.Counter()
             for number in numbers_to_refuse(most, each):
-                status, text, _ = run(program, refuser, number, command, given)
-                end = allowed(model, command, lines, status, text)
+                end, told, _ = case.end(number)
                 if end is None:
                     failed += 1
-                    print(f"{name}, allocation {number}: status {status}\n{text}")
+                    print(f"{name}, allocation {number}: {told}")
                 ends[end] += 1
-            print(f"{name} ({command}): {most} allocations, {sum(ends.values())} refused: "
+            print(f"{name} ({case.command}): {most} allocations, {sum(ends.values())} refused: "
                   f"{dict(ends)}", flush=True)
     sys.exit(1 if failed else 0)
 

@@ -5,7 +5,8 @@ Usage: guide.py PROGRAM GUIDE FOLDER
 PROGRAM is the program's file; or `try`, for the one that `rt try` builds from crates/tablebuilder
 and of which nothing is proved. FOLDER has the small files; an example that names another folder, as
 `over=wide`, is run over the files of that one beside it. An example that names a file has the lines of
-that file.
+that file. Journals are in a folder of their own, which is empty at first: the examples that name the
+same one, as `journal=revisions.journal`, are run over one file, in their order.
 """
 
 import os
@@ -18,8 +19,8 @@ import typing
 CRATE = os.path.join(os.path.dirname(os.path.abspath(__file__)), "../crates/tablebuilder")
 FILES = ("classes.csv", "recodes.csv", "ptable.csv", "people.csv")
 EXAMPLE = re.compile(
-    r"^```(?P<command>script|lanes)(?: threshold=(?P<threshold>\d+))?(?: file=(?P<file>\S+))?"
-    r"(?: over=(?P<over>\w+))?\n"
+    r"^```(?P<command>script|lanes|keep)(?: threshold=(?P<threshold>\d+))?(?: file=(?P<file>\S+))?"
+    r"(?: over=(?P<over>\w+))?(?: journal=(?P<journal>\S+))?\n"
     r"(?P<script>.*?)^```\n```output\n(?P<output>.*?)^```$",
     re.S | re.M,
 )
@@ -30,6 +31,7 @@ class Example(typing.NamedTuple):
     threshold: str
     file: typing.Optional[str]
     over: typing.Optional[str]
+    journal: typing.Optional[str]
     script: str
     output: str
 
@@ -37,10 +39,8 @@ class Example(typing.NamedTuple):
 def examples_of(guide):
     with open(guide, encoding="utf-8") as file:
         found = EXAMPLE.finditer(file.read())
-    return [
-        Example(it["command"], it["threshold"] or "0", *it.group("file", "over", "script", "output"))
-        for it in found
-    ]
+    named = ("file", "over", "journal", "script", "output")
+    return [Example(it["command"], it["threshold"] or "0", *it.group(*named)) for it in found]
 
 
 def write(folder, name, text):
@@ -57,14 +57,21 @@ def inputs_of(folder, example):
     return [os.path.abspath(os.path.join(folder, name)) for name in FILES]
 
 
+def words_between(example, journals):
+    """The arguments between the inputs and the script: the threshold, and the file of the example's
+    journal, if it has one, in the folder of journals."""
+    journal = [] if example.journal is None else [os.path.join(journals, example.journal)]
+    return [example.threshold, *journal]
+
+
 def wrong_by_program(program, folder, examples):
     """How many examples the program doesn't print so."""
     wrong = 0
-    with tempfile.TemporaryDirectory() as scratch:
+    with tempfile.TemporaryDirectory() as scratch, tempfile.TemporaryDirectory() as journals:
         for example in examples:
             script = write(scratch, "script.txt", example.script)
-            inputs = inputs_of(folder, example)
-            words = [program, example.command, *inputs, example.threshold, script]
+            between = words_between(example, journals)
+            words = [program, example.command, *inputs_of(folder, example), *between, script]
             done = subprocess.run(words, capture_output=True, check=False)
             if done.stdout.decode() != example.output or done.returncode != 0:
                 wrong += 1
@@ -75,15 +82,16 @@ def wrong_by_program(program, folder, examples):
 
 def wrong_by_try(folder, examples):
     """How many commands and folders have examples that the program of `rt try` doesn't print so; it
-    says which."""
+    says which. It runs them in the order of their names."""
     wrong = 0
     kinds = {(example.command, *inputs_of(folder, example)) for example in examples}
     for command, *inputs in sorted(kinds):
-        with tempfile.TemporaryDirectory() as scratch:
+        with tempfile.TemporaryDirectory() as scratch, tempfile.TemporaryDirectory() as journals:
             for number, example in enumerate(examples):
                 if example.command == command and inputs_of(folder, example) == inputs:
+                    between = "\n".join(words_between(example, journals))
                     write(scratch, f"{number:02}", example.script)
-                    write(scratch, f"{number:02}.args", f"{example.threshold}\n{{}}\n")
+                    write(scratch, f"{number:02}.args", f"{between}\n{{}}\n")
                     write(scratch, f"{number:02}.stdout", example.output)
             words = ["rt", "try", "--cases", scratch, "--", command, *inputs]
             wrong += 1 if subprocess.run(words, cwd=CRATE, check=False).returncode else 0

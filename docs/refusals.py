@@ -7,9 +7,11 @@ Each run is over the files of examples/small, of which a row of the table replac
 """
 
 import errno
+import fcntl
 import os
 import resource
 import shutil
+import signal
 import socket
 import subprocess
 import sys
@@ -18,9 +20,11 @@ import tempfile
 SMALL = os.path.join(os.path.dirname(os.path.abspath(__file__)), "..", "examples", "small")
 NAMES = ("classes.csv", "recodes.csv", "ptable.csv", "people.csv", "script.txt")
 SCRIPT = "script classes.csv recodes.csv ptable.csv people.csv 0 script.txt"
+KEEP = "keep classes.csv recodes.csv ptable.csv people.csv 0"
 USAGE = """\
 usage: tablebuilder script CLASSES RECODES PTABLE PEOPLE THRESHOLD SCRIPT
        tablebuilder lanes CLASSES RECODES PTABLE PEOPLE THRESHOLD SCRIPT
+       tablebuilder keep CLASSES RECODES PTABLE PEOPLE THRESHOLD JOURNAL SCRIPT
        tablebuilder serve CLASSES RECODES PTABLE PEOPLE THRESHOLD PORT WORKERS SESSIONS
        tablebuilder gen N START
 """
@@ -128,6 +132,32 @@ FILES = [
     ("script.txt", None, "fault read script", f"script.txt: {UNREAD}", 7),
 ]
 
+NOT_JOURNAL = "the file must be a journal that `keep` has written, or not be there yet"
+BAD_RECORD = (
+    "the record must be as `keep` wrote it; the file was changed since then, so put a copy of the journal in its place"
+)
+NOT_FOLLOWING = (
+    "the batch must fit the classification and follow the microdata and the batches before it, so name the files that"
+    " this journal was begun with"
+)
+DISK = (
+    "the file must be there or its folder, this user must be allowed to read and write it, no other process may have"
+    " it, and the disk must take what is written"
+)
+# A journal of one batch, which drops person 104; and such a record.
+RECORD = bytes.fromhex("01 00000009 00000001 02 00000068")
+JOURNAL = b"TBJOURN1" + RECORD + b"\0"
+
+# The bytes of the journal's file, the line printed, and what the standard error says.
+JOURNALS = [
+    (b"0123456789", "fault journal 1 NotJournal 0", f"journal: {NOT_JOURNAL}"),
+    (JOURNAL[:-1], "fault journal 2 BadRecord 1", f"journal, record 1: {BAD_RECORD}"),
+    (JOURNAL.replace(b"\2", b"\6"), "fault journal 2 BadRecord 1", f"journal, record 1: {BAD_RECORD}"),
+    (JOURNAL[:-1] + b"\1", "fault journal 2 BadRecord 2", f"journal, record 2: {BAD_RECORD}"),
+    (JOURNAL[:-1] + RECORD + b"\0", "fault journal 3 DoesNotFollow 2", f"journal, record 2: {NOT_FOLLOWING}"),
+    (JOURNAL.replace(b"\x68", b"\0"), "fault journal 3 DoesNotFollow 1", f"journal, record 1: {NOT_FOLLOWING}"),
+]
+
 
 class Runs:
     """Runs of a program over copies of the accepted files, with how many were right and wrong."""
@@ -151,9 +181,8 @@ class Runs:
         elif name:
             os.remove(path)
 
-    def run(self, words, out, err, status, stdout=subprocess.PIPE, memory=None):
+    def run(self, words, out, err, status, stdout=subprocess.PIPE, limit=None):
         """Compares what a run of these arguments prints, what it says and its status."""
-        limit = memory and (lambda: resource.setrlimit(resource.RLIMIT_AS, (memory, memory)))
         done = subprocess.run([self.program, *words], cwd=self.work, stdin=subprocess.DEVNULL, stdout=stdout,
                               stderr=subprocess.PIPE, preexec_fn=limit, timeout=60, check=False)
         got = ((done.stdout or b"").decode(), done.stderr.decode(), done.returncode)
@@ -162,6 +191,48 @@ class Runs:
         else:
             self.wrong += 1
             print(f"{words}\n  printed and said: {got}\n  wanted:           {(out, err, status)}")
+
+
+def system_error(number):
+    """What the program says of an error of the system."""
+    return f"{os.strerror(number)} (os error {number})"
+
+
+def less_memory():
+    """Before a run: it gets 200 MB."""
+    resource.setrlimit(resource.RLIMIT_AS, (200_000_000, 200_000_000))
+
+
+def short_files():
+    """Before a run: each file that it writes gets 15 bytes at most, which is an error and no signal."""
+    signal.signal(signal.SIGXFSZ, signal.SIG_IGN)
+    resource.setrlimit(resource.RLIMIT_FSIZE, (15, 15))
+
+
+def journals(runs):
+    """What comes of the journal's file."""
+    runs.fill()
+    path = os.path.join(runs.work, "journal")
+    words = [*KEEP.split(), "journal", "script.txt"]
+    for data, line, said in JOURNALS:
+        with open(path, "wb") as file:
+            file.write(data)
+        runs.run(words, line + "\n", said + "\n", 11)
+    with open(path, "rb") as held:
+        fcntl.flock(held, fcntl.LOCK_EX)
+        said = f"the journal's file: another process has it\njournal: {DISK}\n"
+        runs.run(words, "fault disk\n", said, 12)
+    names = {"none/journal": system_error(errno.ENOENT), ".": system_error(errno.EISDIR), "/dev/null": "it is no file"}
+    for name, why in names.items():
+        said = f"the journal's file: {why}\n{name}: {DISK}\n"
+        runs.run([*KEEP.split(), name, "script.txt"], "fault disk\n", said, 12)
+    runs.fill("script.txt", "custodian drop 104\ncustodian publish\ncustodian publish\na table SEX\n")
+    os.remove(path)
+    said = f"the journal's file: {system_error(errno.EFBIG)}\n"
+    table = "release 0\nSEX,count\n1,1\n2,2\n.\n"
+    runs.run(words, f"held 1\nunkept\nunkept\n{table}", said, 0, limit=short_files)
+    table = "release 1\nSEX,count\n1,1\n2,0\n.\n"
+    runs.run(words, f"held 1\npublished 1\nrefused batch 0 5 Nothing\n{table}", "", 0)
 
 
 def others(runs):
@@ -182,14 +253,13 @@ def others(runs):
         port = taken.getsockname()[1]
         if port <= 65_519:
             runs.fill()
-            why = f"{os.strerror(errno.EADDRINUSE)} (os error {errno.EADDRINUSE})"
             said = (
-                f"cannot listen on 127.0.0.1:{port}: {why}\n"
+                f"cannot listen on 127.0.0.1:{port}: {system_error(errno.EADDRINUSE)}\n"
                 f"port {port} and the 2 after it must be free on this machine, and go on accepting clients\n"
             )
             runs.run([*serve[:6], str(port), "2", "1"], "fault net\n", said, 10)
     runs.fill("people.csv", LONG - 1)
-    runs.run(words, "fault memory\n", "out of memory\n", 9, memory=200_000_000)
+    runs.run(words, "fault memory\n", "out of memory\n", 9, limit=less_memory)
     runs.fill()
     with open("/dev/full", "wb") as full:
         runs.run(words, "", "the standard output must take what is written\n", 8, stdout=full)
@@ -204,6 +274,7 @@ def main():
         for name, text, line, said, status in FILES:
             runs.fill(name, text)
             runs.run(SCRIPT.split(), line + "\n", said + "\n", status)
+        journals(runs)
         others(runs)
     print(f"{runs.right} refusals as wanted, {runs.wrong} not")
     return 1 if runs.wrong else 0
