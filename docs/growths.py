@@ -478,7 +478,8 @@ def allowed(custodian, command, lines, status, text):
             return None
     elif not allows_script(custodian, lines, text):
         return None
-    return (ALL, "one is memory", "more are memory")[min(text.count(MEMORY), 2)]
+    end = (ALL, "one is memory", "more are memory")[min(text.count(MEMORY), 2)]
+    return f"{end}, later ones are unkept" if UNKEPT in text else end
 
 
 def run(program, refuser, number, command, words):
