@@ -1,5 +1,5 @@
 -- What a line of the leader's asks for.
-use Rattle.std.specs.Prelude.{ℕ, if◌then◌else◌, List, [], ◌∷◌, bytes_eq, codes, nat_le}
+use Rattle.std.specs.Prelude.{◌&&◌, ℕ, if◌then◌else◌, List, [], ◌∷◌, bytes_eq, codes, decimal, nat_le}
 use Rattle.std.specs.Prelude.{Option, Some, None}
 use Rattle.tb_base.specs.Numbers.{number_of}
 use Rattle.tb_base.specs.Words.{words_of}
@@ -15,13 +15,14 @@ asks_of_word word =
     else if bytes_eq word (codes "restart") then asks.Restart
     else asks.Other
 
--- the message of a number from 1 on may be begun
-abbrev pub begin_of : Option ℕ → LeaderAsks
-begin_of None = asks.Other
-begin_of (Some n) = if nat_le 1 n then asks.Begin n else asks.Other
+-- the message of a number from 1 on may be begun, where the word spells it without leading zeros
+abbrev pub begin_by : List ℕ → Option ℕ → LeaderAsks
+begin_by word None = asks.Other
+begin_by word (Some n) =
+    if nat_le 1 n && bytes_eq word (decimal n) then asks.Begin n else asks.Other
 
 abbrev pub asks_of_number : List ℕ → LeaderAsks
-asks_of_number word = begin_of (number_of word)
+asks_of_number word = begin_by word (number_of word)
 
 -- what two words ask for
 abbrev pub asks_of_two : List ℕ → List ℕ → LeaderAsks

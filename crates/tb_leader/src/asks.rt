@@ -1,10 +1,10 @@
 // What a line of the leader's asks for.
 
-ghost use Rattle.std.specs.Prelude.{◌≡◌, ◌∷◌};
+ghost use Rattle.std.specs.Prelude.{◌≡◌, ◌∷◌, bytes_eq, decimal};
 ghost use Rattle.tb_base.specs.Words.{words_of};
 ghost use Rattle.tb_leader.specs.LeaderAsks as asks;
 
-use tb_base::{first_word, read_number};
+use tb_base::{first_word, print_number, read_number};
 use tb_lines::is_passed_over;
 use tb_revise::begins_edit;
 
@@ -33,12 +33,21 @@ fn asks_of_word(word: &[u8]) -> LeaderAsks
     LeaderAsks::Other
 }
 
+// Whether a word spells a number without leading zeros.
+fn is_spelled(word: &[u8], number: u32) -> bool
+    ensures { result ≡ bytes_eq word.now (decimal number) }
+{
+    let mut digits = [0; 10];
+    let len = print_number(number, &mut digits);
+    word == &digits[..len]
+}
+
 // What `begin` and a word ask for.
 fn asks_of_number(word: &[u8]) -> LeaderAsks
     ensures { result ≡ asks.asks_of_number word.now }
 {
     match read_number(word) {
-        Some(number) if number >= 1 => LeaderAsks::Begin(number),
+        Some(number) if number >= 1 && is_spelled(word, number) => LeaderAsks::Begin(number),
         _ => LeaderAsks::Other,
     }
 }
