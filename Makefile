@@ -73,7 +73,7 @@ crash: build
 	python3 docs/crash.py crates/tablebuilder/out/tablebuilder
 
 # The program beside a plain one over generated persons: medians, spreads, peak memory and ratios; set
-# pvalues and thresholds; and a script with a journal, on the disk of bench/out.
+# pvalues and thresholds; a script with a journal, on the disk of bench/out; and a leader's messages.
 bench: bench-tools build
 	mkdir -p bench/out
 	rustc -O --edition 2021 -o bench/out/baseline bench/baseline.rs
@@ -82,6 +82,7 @@ bench: bench-tools build
 	python3 bench/bench.py crates/tablebuilder/out/tablebuilder bench/out/baseline
 	python3 bench/rules.py crates/tablebuilder/out/tablebuilder bench/out/copy
 	python3 bench/keep.py crates/tablebuilder/out/tablebuilder bench/out/syncs.so bench/out
+	python3 bench/follow.py crates/tablebuilder/out/tablebuilder bench/out
 
 # Sessions over connections to this machine: rates beside a plain server and a script, and memory.
 bench-serve: bench-tools build

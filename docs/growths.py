@@ -1,8 +1,9 @@
 #!/usr/bin/env python3
-"""Runs scripts, lanes and scripts with a journal over examples/small with one allocation refused, for
-one allocation after another, and compares each output, and what a journal then has, with what the
-definitions allow, by a model that shares nothing with the program. Loading makes few of them, and the first batch one for each shard of the key book:
-each of the first 400 and of the last 400 is refused, and each 20th between; with `all`, each one.
+"""Runs scripts, lanes, scripts with a journal and those of a leader's messages over examples/small
+with one allocation refused, for one allocation after another, and compares each output, and what a
+journal then has, with what the definitions allow, by a model that shares nothing with the program.
+Loading makes few of them, and the first batch one for each shard of the key book: each of the first
+400 and of the last 400 is refused, and each 20th between; with `all`, each one.
 
     growths.py PROGRAM FOLDER [all] [WORD ..]
 
@@ -69,7 +70,10 @@ ALL = "no reply is memory"
 # How many allocations at both ends are refused one by one, which between, and how many beyond.
 ENDS, STRIDE, BEYOND = 400, 20, 20
 FILES = ("classes", "recodes", "ptable", "people")
-# The lines, and whether they are answered as lanes, as a script or as one with a journal.
+# How far ahead a message may be.
+MOST_AHEAD = 64
+# The lines, and whether they are answered as lanes, as a script, as one with a journal or as one of
+# a leader's messages.
 CASES = {
     "add, amend and drop": ("script", """
 custodian add 105 9 SEX=2 AGE=65+ AREA=E1
@@ -204,6 +208,34 @@ custodian publish
 custodian publish
 a table SEX
 """),
+    "messages out of order": ("follow", """
+leader begin 3
+leader add 104 7 SEX=2 AGE=16-64 AREA=E2
+leader end
+leader begin 2
+leader add 105 30 SEX=2 AGE=0-15 AREA=E2
+leader threshold 1
+leader end
+a table SEX
+leader begin 1
+leader drop 104
+leader end
+a table SEX
+leader begin 1
+leader drop 104
+leader end
+leader begin 2
+leader add 105 30 SEX=2 AGE=0-15 AREA=E2
+leader threshold 1
+leader end
+leader begin 68
+leader drop 101
+leader end
+a table AREA by SEX with totals
+leader restart
+leader end
+a table SEX
+"""),
 }
 # The lines of a run that leaves the journal with which a case begins.
 EARLIER = {
@@ -314,6 +346,8 @@ def cut(text):
 class Custodian:
     """The chain and the held edits, led by the custodian's lines and their replies."""
 
+    lane = "custodian"
+
     def __init__(self, model, chain):
         self.model, self.chain, self.held = model, list(chain), []
         self.keys = {person: key for release in chain
@@ -388,13 +422,82 @@ class Keeper(Custodian):
         return self.may_be_closed and batches == [*self.batches, self.further]
 
 
+class Follower(Custodian):
+    """A follower: the chain that it has reached, the messages that wait, by their numbers, and the
+    one that has begun, led by the leader's lines and their replies. Where a message waits longer
+    than it must, an allocation was refused for it."""
+
+    lane = "leader"
+
+    def __init__(self, model, chain):
+        super().__init__(model, chain)
+        self.window, self.begun, self.keys_at = {}, None, [self.keys]
+
+    def applied(self, edits):
+        """Applies the edits of the next message; whether they can be."""
+        release, keys = self.chain[-1], dict(self.keys_at[-1])
+        for edit in edits:
+            release = edited(release, keys, edit)
+            if release is None:
+                return False
+        self.chain.append(release)
+        self.keys_at.append(keys)
+        self.window.pop(len(self.chain) - 1, None)
+        return True
+
+    def restart(self):
+        del self.chain[1:], self.keys_at[1:]
+        self.window, self.begun = {}, None
+
+    def delivers(self, number, edits, reply):
+        """Whether this may be the reply to the end of a message."""
+        before = len(self.chain) - 1
+        if number == before + 1:
+            if not self.applied(edits):
+                return reply.startswith("refused batch ")
+        elif before + 1 < number <= before + MOST_AHEAD:
+            self.window.setdefault(number, edits)
+        while reply != f"at {len(self.chain) - 1}\n" and len(self.chain) in self.window:
+            if not reply.startswith("at ") or not self.applied(self.window[len(self.chain)]):
+                break
+        now = len(self.chain) - 1
+        if now > before:
+            return reply == f"at {now}\n"
+        word = "old" if number <= now else "far" if number > now + MOST_AHEAD else "kept"
+        return reply == f"{word} {now}\n"
+
+    def allows(self, line, reply):
+        word, *rest = line.split()
+        if word == "begin":
+            self.begun = (int(rest[0]), [])
+            return reply == f"begun {rest[0]}\n"
+        if word == "restart":
+            self.restart()
+            return reply == "restarted\n"
+        if self.begun is None:
+            return reply == "refused leader\n"
+        if reply == MEMORY:
+            self.begun = None
+            return True
+        number, edits = self.begun
+        if word == "end":
+            self.begun = None
+            return self.delivers(number, edits, reply)
+        edits.append(line)
+        return reply == f"held {len(edits)}\n"
+
+
+# Who answers a command's own lane, if that isn't the custodian alone.
+OWN = {"keep": Keeper, "follow": Follower}
+
+
 def allows_script(custodian, lines, text):
     model, replies = custodian.model, cut(text)
     if replies is None or len(replies) != len(lines):
         return False
     for line, reply in zip(lines, replies):
         lane, words = line.split(" ", 1)
-        if lane == "custodian":
+        if lane == custodian.lane:
             if not custodian.allows(words, reply):
                 return False
         elif reply != MEMORY:
@@ -521,7 +624,7 @@ class Case:
         self.command, text = CASES[name]
         self.lines = text.strip().splitlines()
         self.classes = journal.read_classes(f"{small}/classes.csv")
-        self.start = (Keeper if self.command == "keep" else Custodian)(model, [model.first])
+        self.start = OWN.get(self.command, Custodian)(model, [model.first])
         # (the bytes of the journal; none where there is no such file)
         self.first = b""
         if name in EARLIER:

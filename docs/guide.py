@@ -19,7 +19,7 @@ import typing
 CRATE = os.path.join(os.path.dirname(os.path.abspath(__file__)), "../crates/tablebuilder")
 FILES = ("classes.csv", "recodes.csv", "ptable.csv", "people.csv")
 EXAMPLE = re.compile(
-    r"^```(?P<command>script|lanes|keep)(?: threshold=(?P<threshold>\d+))?(?: file=(?P<file>\S+))?"
+    r"^```(?P<command>script|lanes|keep|follow)(?: threshold=(?P<threshold>\d+))?(?: file=(?P<file>\S+))?"
     r"(?: over=(?P<over>\w+))?(?: journal=(?P<journal>\S+))?\n"
     r"(?P<script>.*?)^```\n```output\n(?P<output>.*?)^```$",
     re.S | re.M,
