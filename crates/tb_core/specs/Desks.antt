@@ -1,18 +1,16 @@
 -- A desk: release 0, the chain of batches, and the cubes that are kept.
-use Rattle.std.specs.Prelude.{◌≡◌, ◌<◌, ◌≤◌, ℕ, All, List, take, length, bytes_eq, refl}
+use Rattle.std.specs.Prelude.{◌≡◌, ◌<◌, ◌≤◌, ℕ, List, length, bytes_eq, refl}
 use Rattle.std.specs.List.{AllByRecursion, IsDistinct}
 use Rattle.std.specs.Map.{keys_of}
 use Rattle.std.specs.Coded.{Coded, code_by, coded×, coded_list, coded_ℕ}
-use Rattle.tb_base.specs.Records.{AllFit}
 use Rattle.tb_cache.specs.Recency.{CacheValue, numbers_of}
 use Rattle.tb_cache.specs.declared.TheConstants.{MOST_ENTRIES}
 use Rattle.tb_cube.specs.Cubes.{CubeValue, cube_over, unpacked}
 pub use Rattle.tb_delta.specs.Counting.{HasCube}
 use Rattle.tb_model.specs.Releases.{ReleaseValue, release_code}
 use Rattle.tb_release.specs.Batches.{BatchValue, batch_code}
-use Rattle.tb_release.specs.Chains.{IsChain, release_after}
-use Rattle.tb_release.specs.Releases.{IsSound as IsSoundRelease}
-use Rattle.tb_release.specs.Results.{ChangeFits}
+use Rattle.tb_release.specs.Chains.{release_after}
+pub use Rattle.tb_release.specs.Revised.{IsRevised, release_at}
 
 -- the shape, release 0 and the chain; the sets of variables of which a cube is kept, the most
 -- recent first, each with the number of the cube's release, and how many there may be; how often a
@@ -26,10 +24,6 @@ pub record DeskValue : Type 0 where
   pub looks : ℕ
   pub hits : ℕ
 
--- release n of a chain: release 0 after the first n batches
-abbrev pub release_at : ReleaseValue → List BatchValue → ℕ → ReleaseValue
-release_at base chain n = release_after base (take n chain)
-
 -- the current release: release 0 after the whole chain
 abbrev pub current_of : DeskValue → ReleaseValue
 current_of desk = release_after desk.base desk.chain
@@ -39,14 +33,6 @@ pub record IsCubeAt (shape : List ℕ) (base : ReleaseValue) (chain : List Batch
     (vars : List ℕ) (n : ℕ) (cube : CubeValue) : Type 0 where
   pub there : n ≤ length chain
   pub counted : unpacked cube ≡ cube_over shape vars (release_at base chain n).records
-
--- release 0 and a chain on it, whose records fit the shape
-pub record IsRevised (shape : List ℕ) (base : ReleaseValue) (chain : List BatchValue) : Type 0 where
-  pub sound : IsSoundRelease base
-  pub first : base.number ≡ 0
-  pub fit : AllFit shape base.records
-  pub is_chain : IsChain base chain
-  pub changes_fit : AllByRecursion (λ batch. All (ChangeFits shape) batch.changes) chain
 
 -- what is true of every desk, as far as it is seen: the entries' numbers are of releases of the
 -- chain, no set is there twice, each has a cube, and there are no more than there may be

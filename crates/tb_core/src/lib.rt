@@ -8,8 +8,8 @@
 //! (the run of events, over the chain and the list of cubes' numbers alone), and `laws` cites
 //! `Laws`.
 //!
-//! Of the lemmas `ChainFits` and `ChainLemmas` (releases along a chain) serve all calls,
-//! `DeskLemmas` the desk's own, `TakeLemmas` and `LeadLemmas` the cube of what was taken;
+//! Of the lemmas `ChainLemmas` (releases along a chain, with those of `tb_release`) serve all
+//! calls, `DeskLemmas` the desk's own, `TakeLemmas` and `LeadLemmas` the cube of what was taken;
 //! `FitLemmas` the tests; `SystemLemmas` and `StepLemmas` the run of events; `LawLemmas`,
 //! `NumberLemmas` and `CountLemmas` its laws. `Vectors` has worked runs.
 #![tactic(auto)]

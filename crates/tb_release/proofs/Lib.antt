@@ -10,3 +10,7 @@ pub mod Made
 pub mod Runs
 pub mod Stamped
 pub mod EntryLemmas
+pub mod ChainFits
+pub mod RevisedChains
+pub mod Replayed
+pub mod Reaching

@@ -60,7 +60,7 @@ draft_of draft release shared number changes edits rules none more =
 abbrev pub stock_of : Register → Stock
 stock_of register = record { pages = register.pages; book = Some register.book; living = register.living }
 
-placed_there : (register : Register) (o : Option Book) → o ≡ Some register.book → IsRegister register → ForSome o (λ b. ArePlaced b register.pages)
+pub placed_there : (register : Register) (o : Option Book) → o ≡ Some register.book → IsRegister register → ForSome o (λ b. ArePlaced b register.pages)
 placed_there register o is whole = λ b there. (let same : register.book ≡ b = cc in subst (λ (x : Book). ArePlaced x register.pages) same whole.placed)
 
 pub draft_kept : (draft : Draft) (count : ℕ) (stock : Stock) → stock ≡ stock_of draft.register → IsDraft draft → draft.made ≤ count → draft.edits + count ≤ MOST_CHANGES

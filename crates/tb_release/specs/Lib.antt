@@ -11,3 +11,5 @@ pub mod Drafts
 pub mod EditCodes
 pub mod Entries
 pub mod RuleEdits
+pub mod Replays
+pub mod Revised

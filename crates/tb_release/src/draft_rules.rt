@@ -1,10 +1,13 @@
 // The rules of a release while it is edited.
 
-ghost use Rattle.std.specs.Prelude.{◌≡◌, ◌≤◌, IfOk, OnOk};
+ghost use Rattle.std.specs.Prelude.{◌≡◌, ◌≤◌, IfOk, OnOk, fold};
 ghost use Rattle.std.specs.Arc.{arc_value};
 ghost use Rattle.tb_base.specs.declared.limits.TheConstants.{MOST_THRESHOLD};
 ghost use Rattle.tb_base.specs.Rules.{MayBeSet, with_pvalue, with_threshold};
+ghost use Rattle.tb_release.specs.Edits.{edited_rules};
 
+use crate::batches::Batch;
+use crate::following_rules::follow_rules;
 use std::alloc::Global;
 use std::marker::Model;
 use std::sync::Arc;
@@ -56,6 +59,19 @@ impl DraftRules {
     {
         let mut edited = self.take_own()?;
         edited.set_threshold(value);
+        self.own = Some(edited);
+        Ok(())
+    }
+
+    /// Makes the edits of the rules in a batch. It takes memory where there is one.
+    pub(crate) fn follow(&mut self, batch: &Batch) -> Result<(), Memory>
+        ensures { OnOk result (self.new ≡ fold edited_rules self.old batch.now.rule_edits) }
+    {
+        if batch.rule_edits() == 0 {
+            return Ok(());
+        }
+        let mut edited = self.take_own()?;
+        follow_rules(&mut edited, batch)?;
         self.own = Some(edited);
         Ok(())
     }

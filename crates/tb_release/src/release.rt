@@ -4,6 +4,7 @@ ghost use Rattle.tb_base.specs.declared.people.TheConstants.{MOST_PERSONS};
 ghost use Rattle.tb_model.specs.Releases.{first_release};
 ghost use Rattle.tb_pages.specs.Lents.{pieces_of};
 ghost use Rattle.tb_pages.specs.Pages.{no_page};
+ghost use Rattle.tb_release.specs.declared.limits.TheConstants.{MOST_CHANGES};
 ghost use Rattle.tb_release.specs.Releases.{IsKept, IsShared, IsSound, stocked};
 
 use std::alloc::Global;
@@ -113,6 +114,13 @@ impl Release {
         ensures { result ≡ self.now.changes }
     {
         self.changes
+    }
+
+    // That its edits are few. It does nothing, and lets a caller's proof know this.
+    pub(crate) fn few_edits(&self)
+        ensures { self.now.edits ≤ MOST_CHANGES }
+    {
+        let _ = &self.stock;
     }
 
     /// How many pages there are, also those that became empty.
