@@ -1,9 +1,11 @@
 -- What the turns of a board return.
 use Rattle.std.specs.Prelude.{◌≡◌, ℕ, List, length, Option, Some, None, option_map}
+use Rattle.std.specs.Arc.{arc_value}
 use Rattle.tb_base.specs.Records.{AllFit}
 use Rattle.tb_core.specs.declared.desk.Taken.{Taken}
 use Rattle.tb_core.specs.Takes.{number_of, release_in, IsTaken}
 use Rattle.tb_core.specs.Views.{hit_of}
+use Rattle.tb_board.specs.declared.chain.Chain.{Chain}
 use Rattle.tb_board.specs.Holders.{HolderValue, release_seen, IsChainSeen}
 
 -- a cube that was found is that of its number, over a set that includes the one asked for, and
@@ -21,3 +23,8 @@ pub record IsTakenAt (seen : HolderValue) (vars : Option (List ℕ)) (taken : Ta
   pub number : number_of taken ≡ length seen.list
   pub fit : AllFit seen.start.shape (release_in taken).records
   pub hit : IsHitFor seen vars taken
+
+-- release 0 and the whole chain that was seen
+pub record IsWholeChain (seen : HolderValue) (chain : Chain) : Type 0 where
+  pub base : arc_value chain.base ≡ seen.start.base
+  pub batches : chain.batches ≡ seen.list

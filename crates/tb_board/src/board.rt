@@ -12,8 +12,9 @@ ghost use Rattle.tb_release.specs.Laws.{EditFits};
 ghost use Rattle.tb_release.specs.Results.{IsWhy};
 ghost use Rattle.tb_board.specs.Custodians.{after_publishing, first_custodian, IsWhole};
 ghost use Rattle.tb_board.specs.Holders.{release_seen, IsChainSeen};
-ghost use Rattle.tb_board.specs.Turns.{IsTakenAt};
+ghost use Rattle.tb_board.specs.Turns.{IsTakenAt, IsWholeChain};
 
+use crate::chain::Chain;
 use crate::custodian::Custodian;
 use crate::locked::Locked;
 use crate::named::Named;
@@ -81,6 +82,18 @@ impl<B: Named> Board<B> {
     {
         let mut guard = self.locked.lock(rt);
         guard.take(&self.front, pass, vars)
+    }
+
+    /// Release 0 and the whole chain of this turn, which the pass sees, also where the call is out
+    /// of memory. It takes memory for a list of the batches, each of which is shared.
+    pub fn chain(&self, rt: &impl Wait, pass: &mut Pass<Step>) -> Result<Chain, Memory>
+        requires { pass.old.name ≡ B.name }
+        ensures later { IsLater pass.old pass.new }
+        ensures seen { IsChainSeen pass.new }
+        ensures chain { IfOk result (IsWholeChain pass.new) }
+    {
+        let mut guard = self.locked.lock(rt);
+        guard.chain(&self.front, pass)
     }
 
     /// Offers the cube of a release that the pass has seen, over at most

@@ -10,10 +10,12 @@
 //! `specs/Turns` (what the turns return).
 //!
 //! Of the lemmas `Chains` (what was seen is a chain) and `Meeting` serve each turn, `Whole` serves
-//! a publication, and `Taking` a take, and callers who offer what they made of one.
+//! a publication, and `Taking` a take, the whole chain that is handed out, and callers who offer
+//! what they made of a take.
 #![tactic(auto)]
 
 mod board;
+mod chain;
 mod custodian;
 mod locked;
 mod named;
@@ -22,6 +24,7 @@ mod publishing;
 mod step;
 
 pub use board::Board;
+pub use chain::Chain;
 pub use custodian::Custodian;
 pub use locked::Locked;
 pub use named::Named;

@@ -10,12 +10,14 @@ ghost use Rattle.tb_core.specs.Turns.{after_clear, after_look, after_resize, Are
 ghost use Rattle.tb_front.specs.Holders.{IsLater};
 ghost use Rattle.tb_board.specs.Custodians.{IsWhole};
 ghost use Rattle.tb_board.specs.Holders.{holder_at, IsChainSeen};
-ghost use Rattle.tb_board.specs.Turns.{IsTakenAt};
+ghost use Rattle.tb_board.specs.Turns.{IsTakenAt, IsWholeChain};
 
+use crate::chain::Chain;
 use crate::custodian::Custodian;
 use crate::named::Named;
 use crate::step::Step;
 use std::marker::{Model, PhantomData};
+use std::sync::Arc;
 use tb_base::{Memory, VarSet};
 use tb_core::{Desk, Offer, Offered, Stats, Taken};
 use tb_front::{Front, Keeper, Pass};
@@ -41,6 +43,16 @@ impl<B: Named> Model for Locked<B> {
     ghost view = { λ l. l.desk };
 
     ghost invariant = { λ l. l.keeper ≡ holder_at B.name l.desk };
+}
+
+// Release 0 of a desk and its whole chain.
+fn whole_chain(desk: &Desk) -> Result<Chain, Memory>
+    ensures base { IfOk result (λ chain. arc_value chain.base ≡ desk.now.base) }
+    ensures batches { IfOk result (λ chain. chain.batches ≡ desk.now.chain) }
+{
+    let base = Arc::try_clone(desk.base())?;
+    let batches = desk.chain()?;
+    Ok(Chain { base, batches })
 }
 
 impl<B: Named> Locked<B> {
@@ -85,6 +97,25 @@ impl<B: Named> Locked<B> {
     {
         pass.catch_up(front, &mut self.keeper);
         self.desk.take(vars)
+    }
+
+    // The pass sees the chain, which is handed out whole, with release 0.
+    pub(crate) fn chain(
+        &mut self,
+        front: &Front<Step>,
+        pass: &mut Pass<Step>,
+    ) -> Result<Chain, Memory>
+        requires front { front.now ≡ B.name }
+        requires pass { pass.old.name ≡ B.name }
+        ensures same { self.new ≡ self.old }
+        ensures pass { pass.new ≡ holder_at B.name self.old }
+        ensures later { IsLater pass.old pass.new }
+        ensures seen { IsChainSeen pass.new }
+        ensures chain { IfOk result (IsWholeChain pass.new) }
+    {
+        self.desk.soundness();
+        pass.catch_up(front, &mut self.keeper);
+        whole_chain(&self.desk)
     }
 
     // The pass is confirmed, and then the cube of a release that it has seen is offered.

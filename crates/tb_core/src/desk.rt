@@ -173,6 +173,20 @@ impl Desk {
         &self.shape
     }
 
+    /// Release 0. It takes no memory.
+    pub fn base(&self) -> &Arc<Release>
+        ensures { arc_value result.now ≡ self.now.base }
+    {
+        &self.base
+    }
+
+    /// The whole chain, in a list that takes memory.
+    pub fn chain(&self) -> Result<Batches, Memory>
+        ensures { IfOk result (λ chain. chain ≡ self.now.chain) }
+    {
+        batches_from(self.alloc, &self.chain, 0)
+    }
+
     /// The current release. For a set it also looks for its cube, or else for the first over a set
     /// that includes it, brings what it finds to the front and counts the look; what is found comes
     /// with the batches that are missing, in a list that takes memory. After want of memory the

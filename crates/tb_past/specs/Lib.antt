@@ -1,0 +1,2 @@
+pub mod Retreating
+pub mod Leading
