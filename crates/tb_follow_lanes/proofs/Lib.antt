@@ -1,0 +1,4 @@
+pub mod SomeReplies
+mod Analysts
+mod Asking
+mod Led

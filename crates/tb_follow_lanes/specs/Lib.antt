@@ -1,0 +1,2 @@
+pub mod FollowRuns
+pub mod Laws
