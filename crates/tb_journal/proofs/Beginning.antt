@@ -1,8 +1,8 @@
 -- What the opening of a journal finds, and what a stop in it leaves.
 use Rattle.std.proofs.Common.{◌≡◌, ◌≤◌, ◌<◌, ◌+◌, ◌==◌, ℕ, zero, suc, Bool, true, false, List, [], ◌∷◌, ◌++◌, Option}
-use Rattle.std.proofs.Common.{length, take, drop, get_or, refl, sym, ◌∙◌, ap, arith, inl, inr, length-append, length-drop, length-take, take-append-drop}
+use Rattle.std.proofs.Common.{length, take, drop, get_or, refl, sym, ◌∙◌, ap, subst, arith, inl, inr, length-append, length-drop, length-take, take-append-drop}
 use Rattle.std.specs.Prelude.{◌&&◌, nat_le, if◌then◌else◌}
-use Rattle.std.proofs.lemmas.Bool.{le-leb, le-ltb, lt-leb}
+use Rattle.std.proofs.lemmas.Bool.{le-leb, le-ltb, leb-true, lt-leb}
 use Rattle.std.proofs.lemmas.List.{drop_all, length-take-le}
 use Rattle.tb_disk.specs.Images.{Fewer, Only, Torn, WhereTold}
 use Rattle.tb_disk.specs.Moments.{LeavesOnly}
@@ -12,7 +12,7 @@ use Rattle.tb_disk.proofs.Telling.{Leads-first}
 use Rattle.tb_journal.specs.declared.opening.JournalOpen.{JournalOpen}
 use Rattle.tb_journal.specs.declared.opening.JournalOpen.TheVariants.{DiskFault}
 use Rattle.tb_journal.specs.Records.{length_at, is_whole, payloads, payloads_before, stands_for}
-use Rattle.tb_journal.specs.Opening.{header, Begins, IsFew, IsLong, IsBegun, StandsAsOne}
+use Rattle.tb_journal.specs.Opening.{header, Begins, IsFew, IsLong, IsBegun, IsOpened, StandsAsOne, opened_file}
 use Rattle.tb_journal.specs.Through.{IsThrough}
 
 and-false : (b : Bool) → (b && false) ≡ false
@@ -83,6 +83,20 @@ as-one-fewer old new fewer image one = record { first = one.first; left = fewer 
 pub as-one-few : (images : List ℕ → Type 0) (file image : List ℕ) → images file → IsFew file → IsFew image → StandsAsOne images image
 as-one-few images file image here few short = record { first = file; left = here; same = inr (few, short); stands = few-stands image short ∙ sym (few-stands file few) }
 
+-- a longer file stays as it is when it is opened
+pub opened-long : (file : List ℕ) → 9 < length file → opened_file file ≡ file
+opened-long file long = sym (if-long file long (header ++ 0 ∷ []) file)
+
+-- a file that was opened is one that a stop before could have left, or neither has more than nine bytes
+pub as-one-opened : (images : List ℕ → Type 0) (file new : List ℕ) → images file → IsOpened file new → StandsAsOne images new
+as-one-opened images file new here is = from (nat_le (length file) 9) refl
+  where
+    from : (few : Bool) → nat_le (length file) 9 ≡ few → StandsAsOne images new
+    from true few =
+        let short : new ≡ header ++ 0 ∷ [] = is.is ∙ ap (λ (b : Bool). if b then header ++ 0 ∷ [] else file) few in
+        as-one-few images file new here (leb-true (length file) 9 few) (omega (arith, ap length short))
+    from false long = subst (StandsAsOne images) (sym (is.is ∙ ap (λ (b : Bool). if b then header ++ 0 ∷ [] else file) long)) (as-one-now images file here)
+
 module _ {D : Type 0} (content : D → Option (List ℕ)) (may_leave : D → List ℕ → Type 0) (moment : D → ℕ) (left_since : D → ℕ → List ℕ → Type 0) where
   -- what a stop in calls that change nothing leaves
   pub stop-quiet : (old new : D) → IsQuiet content may_leave moment left_since old new → WhereTold (content old) (λ _. LeavesOnly moment left_since old new (StandsAsOne (may_leave old)))
@@ -95,6 +109,7 @@ module _ {D : Type 0} (content : D → Option (List ℕ)) (may_leave : D → Lis
     ours = λ is file told. rest.ours is file (quiet.same ∙ told);
     foreign = λ is file told. rest.foreign is file (quiet.same ∙ told);
     untouched = λ is. rest.untouched is ∙ quiet.same;
+    durable = λ is file told. rest.durable is file (quiet.same ∙ told);
     any_moment = λ file told.
         joins moment left_since old mid new (StandsAsOne (may_leave old)) (stop-quiet old mid quiet file told)
         (weaker moment left_since mid new (StandsAsOne (may_leave mid)) (StandsAsOne (may_leave old)) (rest.any_moment file (quiet.same ∙ told)) (as-one-fewer (may_leave old) (may_leave mid) quiet.stop));
@@ -107,5 +122,6 @@ module _ {D : Type 0} (content : D → Option (List ℕ)) (may_leave : D → Lis
     ours = λ is file told. absurd (cc (is, failed));
     foreign = λ is file told. absurd (cc (is, failed));
     untouched = λ is. absurd (cc (is, failed));
+    durable = λ is file told. absurd (cc (is, failed));
     any_moment = stop-quiet old new quiet;
   }

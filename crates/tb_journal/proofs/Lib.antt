@@ -1,5 +1,6 @@
 mod Advancing
-mod Beginning
+pub mod Beginning
+pub mod Beyond
 mod Fitted
 pub mod Keeping
 mod Putting

@@ -60,6 +60,15 @@ first-payloads (suc m) n (p ∷ ps) rest each is some =
     ∙ one-payload p (records_of ps ++ rest) each.0 m (more-than-none ps rest some)
     ∙ ap (λ (qs : List (List ℕ)). p ∷ qs) (first-payloads m n ps rest each.1 (omega (arith, is)) some)
 
+-- and what stands behind them
+pub first-behind : (m n : ℕ) (ps : List (List ℕ)) (rest : List ℕ) → AllByRecursion HasLength ps → m ≡ length ps + n → 0 < length rest → behind_records m (records_of ps ++ rest) ≡ behind_records n rest
+first-behind m n [] rest each is some = ap (λ (k : ℕ). behind_records k rest) (is ∙ zero-add n)
+first-behind zero n (p ∷ ps) rest each is some = absurd (omega (arith, is))
+first-behind (suc m) n (p ∷ ps) rest each is some =
+    ap (behind_records (suc m)) (append_assoc (record_of p) (records_of ps) rest)
+    ∙ one-behind p (records_of ps ++ rest) each.0 m (more-than-none ps rest some)
+    ∙ first-behind m n ps rest each.1 (omega (arith, is)) some
+
 some-behind : (n gate : ℕ) (ps : List (List ℕ)) (rest : List ℕ) → AllByRecursion HasLength ps → length ps ≤ n → gate ≢ 1 → behind_records n (records_of ps ++ (gate ∷ rest)) ≡ gate ∷ rest
 some-behind n gate [] rest each le shut = none-behind n gate rest shut
 some-behind zero gate (p ∷ ps) rest each le shut = absurd (omega arith)

@@ -1,6 +1,6 @@
 -- What the opening of a journal finds, and what it leaves.
 use Rattle.std.specs.Prelude.{◌≡◌, ◌≢◌, ◌≤◌, ◌<◌, ◌^◌, ◌⊎◌, ℕ, List, [], ◌∷◌, ◌++◌, length, take, nat_le, if◌then◌else◌, Option}
-use Rattle.tb_disk.specs.Images.{Leads, WhereTold}
+use Rattle.tb_disk.specs.Images.{Leads, Only, WhereTold}
 use Rattle.tb_disk.specs.Moments.{LeavesOnly}
 use Rattle.tb_journal.specs.declared.opening.JournalOpen.{JournalOpen}
 use Rattle.tb_journal.specs.declared.opening.JournalOpen.TheVariants.{Open, NotJournal}
@@ -60,5 +60,6 @@ pub record Begins {D : Type 0} (content : D → Option (List ℕ))
   pub ours : result ≡ Open → WhereTold (content old) IsOurs
   pub foreign : result ≡ NotJournal → WhereTold (content old) IsForeign
   pub untouched : result ≡ NotJournal → content new ≡ content old
+  pub durable : result ≡ NotJournal → WhereTold (content old) (λ file. Only file (may_leave new))
   pub any_moment : WhereTold (content old)
       (λ _. LeavesOnly moment left_since old new (StandsAsOne (may_leave old)))

@@ -1,7 +1,7 @@
 ghost use Rattle.std.specs.Prelude.{◌≡◌, ◌≤◌, ◌<◌, ◌^◌, ◌+◌, ◌-◌, true, false, List, ℕ};
 ghost use Rattle.std.specs.Prelude.{is_none, length, IfOk, IfSome, IsSome, ◌↔◌};
 ghost use Rattle.tb_io.specs.Faults.{HasRisen};
-ghost use Rattle.tb_disk.specs.Images.{Leads, WhereTold};
+ghost use Rattle.tb_disk.specs.Images.{Leads, Only, WhereTold};
 ghost use Rattle.tb_disk.specs.Moments.{LeavesOnly};
 ghost use Rattle.tb_disk.specs.Quiet.{IsQuiet};
 ghost use Rattle.tb_spelling.specs.Payloads.{CanBeSpelled};
@@ -59,8 +59,9 @@ impl Model for Journal {
 
 impl Journal {
     /// Opens the journal in a disk's file, which was attached. It syncs first, and writes a file of
-    /// at most nine bytes anew. A stop at any moment of the call leaves a file that stands for the
-    /// same batches as one that a stop before it could have left. It takes no memory.
+    /// at most nine bytes anew; one that isn't a journal stays as it is. A stop at any moment of the
+    /// call leaves a file that stands for the same batches as one that a stop before it could have
+    /// left. It takes no memory.
     pub fn open<D: Disk>(_alloc: Global, disk: &mut D) -> (JournalOpen, Option<Journal>)
         requires attached { D.attached disk.old ≡ true }
         ensures attached { D.attached disk.new ≡ true }
@@ -74,6 +75,8 @@ impl Journal {
         ensures foreign { result.0 ≡ opening.NotJournal → WhereTold (D.content disk.old) IsForeign }
         ensures untouched { result.0 ≡ opening.NotJournal →
             D.content disk.new ≡ D.content disk.old }
+        ensures durable { result.0 ≡ opening.NotJournal →
+            WhereTold (D.content disk.old) (λ file. Only file (D.may_leave disk.new)) }
         ensures any_moment { WhereTold (D.content disk.old) (λ _. LeavesOnly D.moment D.left_since
             disk.old disk.new (StandsAsOne (D.may_leave disk.old))) }
         ensures count { D.faults disk.old ≤ D.faults disk.new }

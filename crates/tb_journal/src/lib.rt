@@ -10,7 +10,8 @@
 //!
 //! Of the proofs, `Standing` has what records stand for, `Putting` the two writes of one payload,
 //! `Recording` and `Keeping` what they leave, `Beginning` what opening finds, `Advancing` the way
-//! from one gate to the next, and `Taking` what is read at a gate.
+//! from one gate to the next, `Beyond` what a file stands for from a gate on, and `Taking` what is
+//! read at a gate.
 #![tactic(auto)]
 
 mod fitting;

@@ -18,7 +18,7 @@ use Rattle.tb_journal_file.proofs.Putting.{payloads-more}
 use Rattle.tb_release.specs.declared.edits.Edit.{Edit}
 
 -- an opened file begins with a journal's first bytes
-opened-begins : (file : List ℕ) → IsOurs file → take 8 (opened_file file) ≡ header
+pub opened-begins : (file : List ℕ) → IsOurs file → take 8 (opened_file file) ≡ header
 opened-begins file ours = from (nat_le (length file) 9) refl
   where
     from : (b : Bool) → nat_le (length file) 9 ≡ b → take 8 (if b then header ++ 0 ∷ [] else file) ≡ header

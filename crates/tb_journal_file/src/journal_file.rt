@@ -1,6 +1,6 @@
 ghost use Rattle.std.specs.Prelude.{◌≡◌, ◌≤◌, ◌<◌, ◌^◌, ◌-◌, ◌↔◌, true, List, ℕ, []};
 ghost use Rattle.std.specs.Prelude.{IfSome, IsSome, length};
-ghost use Rattle.tb_disk.specs.Images.{Leads, WhereTold};
+ghost use Rattle.tb_disk.specs.Images.{Leads, Only, WhereTold};
 ghost use Rattle.tb_disk.specs.Moments.{LeavesOnly};
 ghost use Rattle.tb_disk.specs.Quiet.{IsQuiet};
 ghost use Rattle.tb_io.specs.Faults.{HasRisen};
@@ -48,6 +48,8 @@ impl<'d, D: Disk> JournalFile<'d, D> {
         ensures foreign { result.0 ≡ opening.NotJournal → WhereTold (D.content disk.old) IsForeign }
         ensures untouched { result.0 ≡ opening.NotJournal →
             D.content disk.new ≡ D.content disk.old }
+        ensures durable { result.0 ≡ opening.NotJournal →
+            WhereTold (D.content disk.old) (λ file. Only file (D.may_leave disk.new)) }
         ensures any_moment { WhereTold (D.content disk.old) (λ _. LeavesOnly D.moment D.left_since
             disk.old disk.new (StandsAsOne (D.may_leave disk.old))) }
         ensures count { D.faults disk.old ≤ D.faults disk.new }

@@ -10,6 +10,7 @@ returns-in-All-clause-begins g c = record {
   ours = λ is file told long. sym (c.in-All.ensures.bytes refl file told) ∙ c.judge.ensures.ours is;
   foreign = λ is file told. ((c.requires.long file told).0, λ same. c.judge.ensures.foreign is (c.in-All.ensures.bytes refl file told ∙ same));
   untouched = λ _. c.read_at.ensures.same;
+  durable = λ _ file told image left. c.requires.durable file told image (c.read_at.ensures.stop image left);
   any_moment = stop-quiet g.D.Disk.content g.D.Disk.may_leave g.D.Disk.moment g.D.Disk.left_since c.args.disk.now c.read_at.new.self
       (quiet-call g.D.Disk.content g.D.Disk.may_leave g.D.Disk.moment g.D.Disk.left_since c.args.disk.now c.read_at.new.self (g.met.D.Disk.only_now c.args.disk.now) c.read_at.ensures.same c.read_at.ensures.stop c.read_at.ensures.time);
 }
