@@ -59,9 +59,9 @@ impl Model for Journal {
 
 impl Journal {
     /// Opens the journal in a disk's file, which was attached. It syncs first, and writes a file of
-    /// at most nine bytes anew; one that isn't a journal stays as it is. A stop at any moment of the
-    /// call leaves a file that stands for the same batches as one that a stop before it could have
-    /// left. It takes no memory.
+    /// at most nine bytes anew; one that isn't a journal stays as it is. A stop at any moment of
+    /// the call leaves a file that stands for the same batches as one that a stop before it could
+    /// have left. It takes no memory.
     pub fn open<D: Disk>(_alloc: Global, disk: &mut D) -> (JournalOpen, Option<Journal>)
         requires attached { D.attached disk.old ≡ true }
         ensures attached { D.attached disk.new ≡ true }

@@ -7,15 +7,17 @@ use Rattle.tb_ahead.specs.Publishing.{StateValue, after_seeing}
 use Rattle.tb_board.specs.Custodians.{CustodianValue}
 use Rattle.tb_board.specs.Holders.{release_seen}
 use Rattle.tb_board.specs.Starts.{StartValue}
-use Rattle.tb_disk.specs.Images.{Leads, WhereTold}
+use Rattle.tb_disk.specs.Images.{Leads, Only, WhereTold}
+use Rattle.tb_disk.specs.Moments.{LeavesOnly}
 use Rattle.tb_disk.proofs.Telling.{forward, told-of}
-use Rattle.tb_journal.specs.Opening.{IsOpened, IsOurs, opened_file}
+use Rattle.tb_journal.specs.Opening.{IsForeign, IsOpened, IsOurs, StandsAsOne, opened_file}
 use Rattle.tb_journal.specs.Reading.{IsBad}
 use Rattle.tb_journal.specs.States.{JournalState}
 use Rattle.tb_journal.specs.Stops.{IsOn}
+use Rattle.tb_journal.proofs.Beginning.{as-one-opened, opened-long}
 use Rattle.tb_journal.proofs.Keeping.{ends-on}
 use Rattle.tb_journal_file.specs.Files.{EachStandsFor, IsFileOf}
-use Rattle.tb_journal_file.proofs.Recovering.{none-read}
+use Rattle.tb_journal_file.proofs.Recovering.{none-read, opened-begins}
 use Rattle.tb_lines.specs.Outputs.{Charged, charged}
 use Rattle.tb_model.specs.Releases.{ReleaseValue}
 use Rattle.tb_model.specs.Setups.{SetupValue}
@@ -29,7 +31,7 @@ use Rattle.tb_session.specs.Parties.{seen_by, state_of}
 use Rattle.tb_session.specs.declared.party.Party.{Party}
 use Rattle.tb_session.specs.declared.party.Party.TheVariants as party
 use Rattle.tb_keep.specs.Chains.{batches_of}
-use Rattle.tb_keep.specs.JournalRuns.{AreKeptFrom, AreRecovered, ComesAfter, IsJournalFault, IsJournalRun, JournalRun, after_playing}
+use Rattle.tb_keep.specs.JournalRuns.{AreKeptFrom, AreRecovered, ComesAfter, IsJournalFault, IsJournalRun, IsLeftAsItWas, JournalRun, after_playing}
 use Rattle.tb_keep.specs.KeptRuns.{IsKeptRun}
 use Rattle.tb_keep.specs.Playing.{ArePublished, CanAllFollow, DoesNotFollow, HasPlayed, IsNextRecord, LiesBehind}
 use Rattle.tb_keep.proofs.KeptRunning.{run_counts}
@@ -40,6 +42,36 @@ use Rattle.tb_keep.specs.declared.playing.Played.TheVariants as played
 -- release 0 of a custodian's chain
 abbrev base_of : CustodianValue → ReleaseValue
 base_of custodian = custodian.writer.start.base
+
+-- ---- what is left of the file where no line was answered
+
+-- one that was only read
+pub left-opened : (before opened now : Option (List ℕ)) → Leads before opened IsOpened → now ≡ opened → (images : List ℕ → Type 0) (journal : JournalState) → WhereTold now (λ file. IsOn file images journal)
+    → WhereTold before (λ file. Only (opened_file file) images)
+left-opened before opened now leads same images journal on = λ file told.
+    let (next, there, is) = forward before opened IsOpened leads file told in
+    subst (λ (f : List ℕ). Only f images) is.is (on next (same ∙ there)).durable
+
+-- one of another kind
+pub left-foreign : (content : Option (List ℕ)) (images : List ℕ → Type 0) → WhereTold content IsForeign → WhereTold content (λ file. Only file images) → WhereTold content (λ file. Only (opened_file file) images)
+left-foreign content images foreign durable = λ file told. subst (λ (f : List ℕ). Only f images) (sym (opened-long file (foreign file told).0)) (durable file told)
+
+-- where the disk failed, in opening it and after
+module _ {D : Type 0} (content : D → Option (List ℕ)) (may_leave : D → List ℕ → Type 0) (old : D) where
+  abbrev IsAsBefore : D → Type 0
+  IsAsBefore new = WhereTold (content old) (λ _. (image : List ℕ) → may_leave new image → StandsAsOne (may_leave old) image)
+
+  pub failed-opening : (moment : D → ℕ) (left_since : D → ℕ → List ℕ → Type 0) (new : D) → ((t : ℕ) (image : List ℕ) → t ≤ moment new → may_leave new image → left_since new t image)
+      → WhereTold (content old) (λ _. LeavesOnly moment left_since old new (StandsAsOne (may_leave old))) → IsAsBefore new
+  failed-opening moment left_since new counts leaves = λ file told image left.
+      let stops = leaves file told in
+      stops.each image (counts (moment old) image stops.later left)
+
+  pub failed-reading : ((file : List ℕ) → content old ≡ Some file → may_leave old file) → (opened new : D) → Leads (content old) (content opened) IsOpened → content new ≡ content opened
+      → (journal : JournalState) → WhereTold (content new) (λ file. IsOn file (may_leave new) journal) → IsAsBefore new
+  failed-reading reads opened new leads same journal on = λ file told image left.
+      let (next, there, is) = forward (content old) (content opened) IsOpened leads file told in
+      subst (StandsAsOne (may_leave old)) (sym ((on next (same ∙ there)).durable image left)) (as-one-opened (may_leave old) file next (reads file told) is)
 
 -- ---- what was published of the file, by what it had before it was opened
 module _ (setup : SetupValue) (before opened : Option (List ℕ)) (leads : Leads before opened IsOpened) (first last : CustodianValue) (none : first.writer.list ≡ []) where
@@ -72,30 +104,32 @@ module _ (setup : SetupValue) (before opened : Option (List ℕ)) (leads : Leads
     pub recovered : AreRecovered setup (base_of first) before h.batches
     recovered = record {
       all = λ file told. let (next, now, is) = forward before opened IsOpened leads file told in subst (IsFileOf h.batches) is.is (file-is next (same ∙ now));
+      each = λ file told. let (next, now, is) = forward before opened IsOpened leads file told in (h.published.behind next now).each;
       follow = subst (λ (r : ReleaseValue). CanAllFollow setup r h.batches) at-base h.published.follow;
     }
 
   -- the batches before a fault
   comes-after : (batches : List (List Edit)) (place r : ℕ) → ArePublished setup opened place batches first last → r ≡ length batches + 1
-      → (file next : List ℕ) → opened ≡ Some next → IsOpened file next → ComesAfter setup (base_of first) batches (opened_file file) place r
-  comes-after batches place r published number file next now is = record {
+      → (file next : List ℕ) → IsOurs file → opened ≡ Some next → IsOpened file next → ComesAfter setup (base_of first) batches (opened_file file) place r
+  comes-after batches place r published number file next ours now is = record {
+    begins = opened-begins file ours;
     behind = subst (λ (f : List ℕ). LiesBehind f place batches) is.is (published.behind next now);
     follow = subst (λ (b : ReleaseValue). CanAllFollow setup b batches) at-base published.follow;
     number = number;
   }
 
-  pub bad-record : (r : ℕ) → HasPlayed setup opened first last (played.BadRecord r) → WhereTold before (λ file. IsJournalFault setup (base_of first) file (journal_fault.BadRecord r))
-  bad-record r h = λ file told.
+  pub bad-record : WhereTold before IsOurs → (r : ℕ) → HasPlayed setup opened first last (played.BadRecord r) → WhereTold before (λ file. IsJournalFault setup (base_of first) file (journal_fault.BadRecord r))
+  bad-record ours r h = λ file told.
       let (next, now, is) = forward before opened IsOpened leads file told in
-      (h.batches, h.place, comes-after h.batches h.place r h.published h.ends.0 file next now is, subst (λ (f : List ℕ). IsBad (drop h.place f)) is.is (h.ends.1 next now))
+      (h.batches, h.place, comes-after h.batches h.place r h.published h.ends.0 file next (ours file told) now is, subst (λ (f : List ℕ). IsBad (drop h.place f)) is.is (h.ends.1 next now))
 
-  pub does-not-follow : (r : ℕ) → HasPlayed setup opened first last (played.DoesNotFollow r) → WhereTold before (λ file. IsJournalFault setup (base_of first) file (journal_fault.DoesNotFollow r))
-  does-not-follow r h = λ file told.
+  pub does-not-follow : WhereTold before IsOurs → (r : ℕ) → HasPlayed setup opened first last (played.DoesNotFollow r) → WhereTold before (λ file. IsJournalFault setup (base_of first) file (journal_fault.DoesNotFollow r))
+  does-not-follow ours r h = λ file told.
       let (next, now, is) = forward before opened IsOpened leads file told in (
         h.batches,
         h.place,
         h.ends.1,
-        comes-after h.batches h.place r h.published h.ends.0 file next now is,
+        comes-after h.batches h.place r h.published h.ends.0 file next (ours file told) now is,
         subst (λ (f : List ℕ). IsNextRecord f h.place h.ends.1) is.is (h.ends.3 next now),
         subst (λ (b : ReleaseValue). DoesNotFollow setup (release_after b (batches_of b h.batches)) h.ends.1) at-base h.ends.2,
       )
@@ -120,17 +154,17 @@ module _ {D : Type 0} (may_leave : D → List ℕ → Type 0) (faults : D → �
       }
 
 -- ---- the run, where all of the file's batches were published
-by-end : (setup : SetupValue) (base : ReleaseValue) (lines : List ScriptLine) (batches : List (List Edit)) (first_faults : ℕ) (saw : JournalRun) (end : RunEnd) → AreRecovered setup base saw.content batches → saw.faults ≤ first_faults
+by-end : (setup : SetupValue) (base : ReleaseValue) (lines : List ScriptLine) (batches : List (List Edit)) (first_faults : ℕ) (saw : JournalRun) (end : RunEnd) → (end ≡ run_end.Memory → IsLeftAsItWas saw) → AreRecovered setup base saw.content batches → saw.faults ≤ first_faults
     → AreKeptFrom (after_playing base batches first_faults) setup base lines end saw → IsJournalRun setup base lines (keep_end.Ran end) saw
-by-end setup base lines batches first_faults saw run_end.Done are since kept = record { batches = batches; recovered = are; first_faults = first_faults; since = since; kept = kept }
-by-end setup base lines batches first_faults saw run_end.WriteFault are since kept = record { batches = batches; recovered = are; first_faults = first_faults; since = since; kept = kept }
-by-end setup base lines batches first_faults saw run_end.Memory are since kept = (kept.run.0, ap (λ (c : Charged KeptState). c.steps) kept.run.1)
+by-end setup base lines batches first_faults saw run_end.Done left are since kept = record { batches = batches; recovered = are; first_faults = first_faults; since = since; kept = kept }
+by-end setup base lines batches first_faults saw run_end.WriteFault left are since kept = record { batches = batches; recovered = are; first_faults = first_faults; since = since; kept = kept }
+by-end setup base lines batches first_faults saw run_end.Memory left are since kept = ((kept.run.0, ap (λ (c : Charged KeptState). c.steps) kept.run.1), left refl)
 
 module _ {D : Type 0} (content : D → Option (List ℕ)) (may_leave : D → List ℕ → Type 0) (faults : D → ℕ) (setup : SetupValue) (first last : CustodianValue) (none : first.writer.list ≡ []) (before opened played_by new : D)
     (leads : Leads (content before) (content opened) IsOpened) (ours : WhereTold (content before) IsOurs) (h : HasPlayed setup (content opened) first last played.All)
     (journal : JournalState) (same : content played_by ≡ content opened) (told : (image : List ℕ) → may_leave played_by image → is_none (content played_by) ≡ false)
     (on : WhereTold (content played_by) (λ file. IsOn file (may_leave played_by) journal)) (ended : journal.at_end ≡ true)
-    (lines : List ScriptLine) (end : RunEnd) (steps steps_after : ℕ) (taken taken_after : Option (List ℕ))
+    (lines : List ScriptLine) (end : RunEnd) (untouched : end ≡ run_end.Memory → new ≡ played_by) (steps steps_after : ℕ) (taken taken_after : Option (List ℕ))
     (runs : (batches : List (List Edit)) → last.writer.list ≡ batches_of (base_of last) batches → EachStandsFor (may_leave played_by) batches None
     → AreKeptFrom (after_playing (base_of last) batches (faults played_by)) setup (base_of last) lines end
     (record { content = content played_by; may_leave = may_leave new; faults = faults played_by; faults_after = faults new; steps = steps; steps_after = steps_after; taken = taken; taken_after = taken_after })) where
@@ -147,7 +181,9 @@ module _ {D : Type 0} (content : D → Option (List ℕ)) (may_leave : D → Lis
 
   pub all-ran : faults before ≤ faults played_by → IsJournalRun setup (base_of first) lines (keep_end.Ran end) (seen_since before)
   all-ran since =
-      by-end setup (base_of first) lines h.batches (faults played_by) (seen_since before) end (recovered setup (content before) (content opened) leads first last none h ours (content played_by) (may_leave played_by) journal same on ended) since
+      by-end setup (base_of first) lines h.batches (faults played_by) (seen_since before) end
+      (λ is. subst (λ (d : D). WhereTold (content before) (λ file. Only (opened_file file) (may_leave d))) (sym (untouched is)) (left-opened (content before) (content opened) (content played_by) leads same (may_leave played_by) journal on))
+      (recovered setup (content before) (content opened) leads first last none h ours (content played_by) (may_leave played_by) journal same on ended) since
       (record { last = kept.last; run = kept.run; left = kept.left; counted = kept.counted })
 
   -- the disk's count didn't fall

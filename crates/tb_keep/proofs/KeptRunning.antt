@@ -116,6 +116,13 @@ module _ {W : Type 0} (target : W → ℕ) (live : W → Bool) (faults : W → �
       ),
     )
 
+  -- before the first line nothing is written
+  pub unwritten : (lines : List ScriptLine) (old new : Charged (KeeperValue W)) (a b : Option (List ℕ)) (end : RunEnd) → IsOwnedRun (IsOwnedReply setup base_of chain_of Step) at_start lines end old new a b
+      → end ≡ run_end.Memory → new.at.ahead ≡ old.at.ahead
+  unwritten lines old new a b run_end.Done h is = absurd cc
+  unwritten lines old new a b run_end.WriteFault h is = absurd cc
+  unwritten lines old new a b run_end.Memory (none_taken, stays) is = ap (λ (c : Charged (KeeperValue W)). c.at.ahead) stays
+
 -- ---- the disk's count doesn't fall
 module _ (setup : SetupValue) (base : ReleaseValue) where
   own_counts : (asks : Bool) (old next : KeptState) (line : List ℕ) (reply : ReplyValue) → IsKeptStep asks (IsOwnStep setup base) base old line reply next → old.faults ≤ next.faults

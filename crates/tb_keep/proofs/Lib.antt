@@ -3,5 +3,6 @@ mod JournalRunning
 mod KeptRunning
 mod Owning
 mod Recovering
+mod Refusing
 pub mod SomeKeptReplies
 mod Writable

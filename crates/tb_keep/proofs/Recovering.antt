@@ -1,5 +1,5 @@
 -- What one batch more makes of the batches that were published so far, and where playing ends.
-use Rattle.std.proofs.Common.{◌≡◌, ◌≤◌, ◌+◌, ◌∙◌, sym, ap, refl, subst, ℕ, zero, suc, Bool, true, List, [], ◌∷◌, ◌++◌, length, map, take, drop, Option, Some, None, arith, append_assoc, length-append}
+use Rattle.std.proofs.Common.{◌≡◌, ◌≤◌, ◌+◌, ◌∙◌, sym, ap, refl, subst, ℕ, zero, suc, Bool, true, List, [], ◌∷◌, ◌++◌, length, map, take, drop, Option, Some, None, arith, append_assoc, length-append, length-take}
 use Rattle.std.specs.List.{AllByRecursion}
 use Rattle.std.proofs.lemmas.List.{append-nil, drop_at, map-append, take_at}
 use Rattle.std.proofs.lemmas.List.Sums.{fold-append}
@@ -10,8 +10,8 @@ use Rattle.tb_disk.specs.Images.{WhereTold}
 use Rattle.tb_disk.specs.Quiet.{IsQuiet}
 use Rattle.tb_disk.proofs.Quietly.{quiet-none, quiet-then}
 use Rattle.tb_front.specs.Holders.{Name}
-use Rattle.tb_journal.specs.Reading.{IsNextBatch}
-use Rattle.tb_journal.specs.Records.{HasGate, payload_at, payloads, payloads_before, stands_for}
+use Rattle.tb_journal.specs.Reading.{IsNextBatch, IsRecord}
+use Rattle.tb_journal.specs.Records.{HasGate, length_at, payload_at, payloads, payloads_before, stands_for}
 use Rattle.tb_journal.specs.States.{JournalState, opened}
 use Rattle.tb_journal.specs.Stops.{IsOn}
 use Rattle.tb_model.specs.Releases.{ReleaseValue}
@@ -25,7 +25,7 @@ use Rattle.tb_session.specs.Parties.{IsCustodianOf}
 use Rattle.tb_spelling.specs.Payloads.{IsPayload}
 use Rattle.tb_spelling.specs.Spelling.{spelled}
 use Rattle.tb_keep.specs.Chains.{batches_of}
-use Rattle.tb_keep.specs.Playing.{ArePublished, CanAllFollow, DoesNotFollow, Fit, HasPayload, HasPlayed, IsFollowed, PlaysNext, LiesBehind}
+use Rattle.tb_keep.specs.Playing.{ArePublished, CanAllFollow, DoesNotFollow, Fit, HasPlayed, HasRecord, IsFollowed, PlaysNext, LiesBehind}
 use Rattle.tb_keep.specs.declared.playing.Followed.TheVariants as followed
 use Rattle.tb_keep.specs.declared.playing.Played.{Played}
 use Rattle.tb_keep.specs.declared.playing.Played.TheVariants as played
@@ -37,7 +37,7 @@ follow-more : (setup : SetupValue) (release : ReleaseValue) (bs : List (List Edi
 follow-more setup release [] edits all fit can = (fit, can, tt)
 follow-more setup release (b ∷ bs) edits (first, follows, others) fit can = (first, follows, follow-more setup (after_batch release (batch_of release b)) bs edits others fit can)
 
-each-more : (bs : List (List Edit)) (edits : List Edit) → AllByRecursion HasPayload bs → HasPayload edits → AllByRecursion HasPayload (bs ++ edits ∷ [])
+each-more : (bs : List (List Edit)) (edits : List Edit) → AllByRecursion HasRecord bs → HasRecord edits → AllByRecursion HasRecord (bs ++ edits ∷ [])
 each-more [] edits each one = (one, tt)
 each-more (b ∷ bs) edits each one = (each.0, each-more bs edits each.1 one)
 
@@ -45,15 +45,19 @@ length-batches_of : (release : ReleaseValue) (bs : List (List Edit)) → length 
 length-batches_of release [] = refl
 length-batches_of release (b ∷ bs) = let more = length-batches_of (after_batch release (batch_of release b)) bs in omega (arith, more)
 
-has-payload : (bytes : List ℕ) (edits : List Edit) → IsPayload bytes edits → HasPayload edits
-has-payload bytes edits h = subst (λ (l : List ℕ). IsPayload l edits) h.is_spelled h
+-- edits whose record stands in front
+pub has-record : (bytes : List ℕ) (edits : List Edit) → IsRecord bytes → IsPayload (payload_at bytes) edits → HasRecord edits
+has-record bytes edits there payload = record {
+  payload = subst (λ (l : List ℕ). IsPayload l edits) payload.is_spelled payload;
+  short = omega (arith, ap length payload.is_spelled, length-take (length_at bytes) (drop 5 bytes), there.short);
+}
 
 -- a gate behind the record of edits
 behind-more : (file : List ℕ) (from to : JournalState) (bs : List (List Edit)) (edits : List Edit) → LiesBehind file from.place bs → IsNextBatch file from to edits → HasGate file to.place → LiesBehind file to.place (bs ++ edits ∷ [])
 behind-more file from to bs edits so_far next gate = record {
   gate = gate;
   before = next.before ∙ ap (λ (l : List (List ℕ)). l ++ payload_at (drop from.place file) ∷ []) so_far.before ∙ ap (λ (l : List ℕ). map spelled bs ++ l ∷ []) next.payload.is_spelled ∙ sym (map-append spelled bs (edits ∷ []));
-  each = each-more bs edits so_far.each (has-payload _ edits next.payload);
+  each = each-more bs edits so_far.each (has-record (drop from.place file) edits next.record_there next.payload);
 }
 
 -- no record stands before the first gate

@@ -1,15 +1,17 @@
 -- A script whose custodian keeps a journal: its batches are published first, and each further one
 -- is written into it ahead.
-use Rattle.std.specs.Prelude.{◌≡◌, ◌≤◌, ◌+◌, ℕ, List, length, drop, Option, None}
+use Rattle.std.specs.Prelude.{◌≡◌, ◌≤◌, ◌+◌, ℕ, List, length, take, drop, Option, None}
+use Rattle.std.specs.List.{AllByRecursion}
 use Rattle.tb_ahead.specs.Keeping.{KeptState}
 use Rattle.tb_ahead.specs.Publishing.{after_seeing}
-use Rattle.tb_disk.specs.Images.{WhereTold}
-use Rattle.tb_journal.specs.Opening.{IsForeign, opened_file}
+use Rattle.tb_disk.specs.Images.{Only, WhereTold}
+use Rattle.tb_journal.specs.Opening.{IsForeign, header, opened_file}
 use Rattle.tb_journal.specs.Reading.{IsBad}
 use Rattle.tb_journal_file.specs.Files.{EachStandsFor, IsFileOf}
 use Rattle.tb_keep.specs.Chains.{batches_of}
 use Rattle.tb_keep.specs.KeptRuns.{IsKeptRun}
-use Rattle.tb_keep.specs.Playing.{CanAllFollow, DoesNotFollow, IsNextRecord, LiesBehind}
+use Rattle.tb_keep.specs.Playing.{CanAllFollow, DoesNotFollow, HasRecord, IsNextRecord}
+use Rattle.tb_keep.specs.Playing.{LiesBehind}
 use Rattle.tb_keep.specs.declared.journal_run.JournalFault.{JournalFault}
 use Rattle.tb_keep.specs.declared.journal_run.JournalFault.TheVariants as journal_fault
 use Rattle.tb_keep.specs.declared.journal_run.KeepEnd.{KeepEnd}
@@ -23,11 +25,13 @@ use Rattle.tb_script.specs.Scripts.{ScriptLine}
 use Rattle.tb_script.specs.declared.run.RunEnd.{RunEnd}
 use Rattle.tb_script.specs.declared.run.RunEnd.TheVariants as run_end
 
--- batches are those of a journal's file, where what it had is told: it stands for just these, and
--- behind them lies a gate that isn't open; and each fits the setup and can follow
+-- batches are those of a journal's file, where what it had is told: it stands for just these, each
+-- of which can have a record, and behind them lies a gate that isn't open; and each fits the setup
+-- and can follow
 pub record AreRecovered (setup : SetupValue) (base : ReleaseValue) (content : Option (List ℕ))
     (batches : List (List Edit)) : Type 0 where
   pub all : WhereTold content (λ file. IsFileOf batches (opened_file file))
+  pub each : WhereTold content (λ _. AllByRecursion HasRecord batches)
   pub follow : CanAllFollow setup base batches
 
 -- where a custodian stands that has published them, with a live journal, and holds no edits
@@ -39,10 +43,11 @@ after_playing base batches faults = record {
   faults = faults;
 }
 
--- the record of number r, from 1, is at this place of the file: before it are these batches, which
--- can all follow
+-- the record of number r, from 1, is at this place of a journal's file: before it are these
+-- batches, which can all follow
 pub record ComesAfter (setup : SetupValue) (base : ReleaseValue) (batches : List (List Edit))
     (file : List ℕ) (place r : ℕ) : Type 0 where
+  pub begins : take 8 file ≡ header
   pub behind : LiesBehind file place batches
   pub follow : CanAllFollow setup base batches
   pub number : r ≡ length batches + 1
@@ -98,15 +103,22 @@ pub record AreLinesKept (setup : SetupValue) (base : ReleaseValue) (lines : List
 abbrev pub IsNoneAnswered : JournalRun → Type 0
 IsNoneAnswered saw = (saw.taken_after ≡ saw.taken) × (saw.steps_after ≡ saw.steps)
 
--- how a script with a journal was run: its lines were answered, or memory ran out before the first;
--- or the journal's file is refused, or the disk failed, and none was
+-- a stop now may leave the journal's file as it was, or written anew where it had at most nine
+-- bytes, and nothing else
+abbrev pub IsLeftAsItWas : JournalRun → Type 0
+IsLeftAsItWas saw = WhereTold saw.content (λ file. Only (opened_file file) saw.may_leave)
+
+-- How a script with a journal was run: its lines were answered; or none was, since memory ran out
+-- or the journal's file is refused, and then its file is left as it was, or since the disk failed.
 abbrev pub IsJournalRun : SetupValue → ReleaseValue → List ScriptLine → KeepEnd → JournalRun
     → Type 0
 IsJournalRun setup base lines (keep_end.Ran run_end.Done) saw =
     AreLinesKept setup base lines run_end.Done saw
 IsJournalRun setup base lines (keep_end.Ran run_end.WriteFault) saw =
     AreLinesKept setup base lines run_end.WriteFault saw
-IsJournalRun setup base lines (keep_end.Ran run_end.Memory) saw = IsNoneAnswered saw
+IsJournalRun setup base lines (keep_end.Ran run_end.Memory) saw =
+    IsNoneAnswered saw × IsLeftAsItWas saw
 IsJournalRun setup base lines (keep_end.Refused fault) saw =
-    IsNoneAnswered saw × WhereTold saw.content (λ file. IsJournalFault setup base file fault)
+    IsNoneAnswered saw × IsLeftAsItWas saw
+    × WhereTold saw.content (λ file. IsJournalFault setup base file fault)
 IsJournalRun setup base lines keep_end.DiskFault saw = IsNoneAnswered saw

@@ -5,3 +5,4 @@ pub mod Playing
 pub mod JournalOwners
 pub mod KeptRuns
 pub mod JournalRuns
+pub mod JournalLaws

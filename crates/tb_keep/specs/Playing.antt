@@ -18,6 +18,7 @@ use Rattle.tb_release.specs.Chains.{after_batch, release_after}
 use Rattle.tb_release.specs.declared.edits.Edit.{Edit}
 use Rattle.tb_release.specs.declared.fault.EditFaultKind.{EditFaultKind}
 use Rattle.tb_release.specs.declared.limits.TheConstants.{MOST_RELEASES}
+use Rattle.tb_spelling.specs.declared.limits.TheConstants.{MOST_PAYLOAD_BYTES}
 use Rattle.tb_spelling.specs.Payloads.{IsPayload}
 use Rattle.tb_spelling.specs.Spelling.{spelled}
 use Rattle.tb_keep.specs.Chains.{batches_of}
@@ -43,15 +44,16 @@ DoesNotFollow setup release edits =
     ¬ Fit setup edits
     ⊎ (kind : EditFaultKind) × (edit : ℕ) × (batch_refusal release edits ≡ Some (kind, edit))
 
--- edits have a payload
-abbrev pub HasPayload : List Edit → Type 0
-HasPayload edits = IsPayload (spelled edits) edits
+-- edits can have a record: they have a payload, and it isn't too long
+pub record HasRecord (edits : List Edit) : Type 0 where
+  pub payload : IsPayload (spelled edits) edits
+  pub short : length (spelled edits) ≤ MOST_PAYLOAD_BYTES
 
 -- a gate of the file lies at this place, and before it the records of these batches
 pub record LiesBehind (file : List ℕ) (place : ℕ) (batches : List (List Edit)) : Type 0 where
   pub gate : HasGate file place
   pub before : payloads_before place file ≡ map spelled batches
-  pub each : AllByRecursion HasPayload batches
+  pub each : AllByRecursion HasRecord batches
 
 -- the file's next record there is that of these edits
 pub record IsNextRecord (file : List ℕ) (place : ℕ) (edits : List Edit) : Type 0 where

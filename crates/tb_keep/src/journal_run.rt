@@ -1,8 +1,10 @@
 // A script with a journal: the journal is opened and played, and then the script's lines are
 // answered.
 
-ghost use Rattle.std.specs.Prelude.{◌≡◌, ◌≤◌, List, [], None, true};
+ghost use Rattle.std.specs.Prelude.{◌≡◌, ◌≤◌, ℕ, List, [], None, true};
+ghost use Rattle.tb_disk.specs.Images.{WhereTold};
 ghost use Rattle.tb_io.specs.Faults.{HasRisen};
+ghost use Rattle.tb_journal.specs.Opening.{StandsAsOne};
 ghost use Rattle.tb_journal_file.specs.Files.{CanPut, EachStandsFor};
 ghost use Rattle.tb_keep.specs.Chains.{batches_of};
 ghost use Rattle.tb_keep.specs.JournalRuns.{AreKeptFrom, IsJournalRun, after_playing};
@@ -65,6 +67,7 @@ fn run_played<B: Named, D: Disk, R: Threads + Wait + Sync, K: Sink, L: Ledger>(
     ensures count { K.faults sink.old ≤ K.faults sink.new }
     ensures failed { result ≡ run_end.WriteFault
         → HasRisen (K.faults sink.old) (K.faults sink.new) }
+    ensures unwritten { result ≡ run_end.Memory → disk.new ≡ disk.old }
     // Whatever batches it has published, for which each file stands that a stop may leave.
     ensures run { (batches : List (List Edit))
         → custodian.writer.list ≡ batches_of custodian.writer.start.base batches
@@ -131,6 +134,10 @@ pub fn run_with_journal<B: Named, D: Disk, R: Threads + Wait + Sync, K: Sink, L:
     ensures disk_count { D.faults disk.old ≤ D.faults disk.new }
     ensures disk_failed { result ≡ keep_end.DiskFault
         → HasRisen (D.faults disk.old) (D.faults disk.new) }
+    // Each file that a stop then may leave stands as one that a stop at the start could have left.
+    ensures left { result ≡ keep_end.DiskFault → WhereTold (D.content disk.old)
+        (λ _. (image : List ℕ) → D.may_leave disk.new image
+        → StandsAsOne (D.may_leave disk.old) image) }
     ensures run { IsJournalRun setting.now.setup.now custodian.writer.start.base
         script.now.lines result (record {
           content = D.content disk.old;

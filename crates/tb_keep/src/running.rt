@@ -41,6 +41,8 @@ pub fn run_kept<B: Named, W: WriteAhead, R: Threads + Wait + Sync, K: Sink, L: L
     ensures count { K.faults sink.old ≤ K.faults sink.new }
     ensures failed { result.0 ≡ run_end.WriteFault
         → HasRisen (K.faults sink.old) (K.faults sink.new) }
+    ensures unwritten { result.0 ≡ run_end.Memory
+        → result.1.keeper.ahead ≡ owner.keeper.ahead }
     // Wherever the custodian stood, the file stands for what the replies lead to.
     ensures run { RunsFrom W.target W.live W.faults W.StandsFor setting.now.setup.now
         script.now.lines result.0

@@ -7,3 +7,8 @@ returns-clause-run g c =
     let (base, into, reaches) = c.run_kept-end.ensures.run in
     lines-kept g.D.Disk.may_leave g.D.Disk.faults c.args.disk.now _ _ (search rules) _ c.args.setting.now.setup.now c.args.script.now.lines c.run_kept-end.result.0 c.args.custodian
     c.new-custody.result.party c.new-custody.ensures _ _ c.requires.live _ _ _ _ _ reaches
+
+pub returns-clause-unwritten : goal.returns-clause-unwritten
+returns-clause-unwritten g c = λ is.
+    let (base, into, reaches) = c.run_kept-end.ensures.run in
+    search rules
