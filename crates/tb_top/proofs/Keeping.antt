@@ -31,6 +31,7 @@ keeps-alone : (c : Command) → asks_to_keep (Some c) ≡ true → asks_to_gener
 keeps-alone (command.Script inputs script) keeps generates = cc
 keeps-alone (command.Lanes inputs script) keeps generates = cc
 keeps-alone (command.Keep inputs journal script) keeps generates = cc
+keeps-alone (command.Follow inputs script) keeps generates = cc
 keeps-alone (command.Serve inputs service) keeps generates = cc
 keeps-alone (command.Gen population) keeps generates = cc
 
@@ -80,9 +81,9 @@ module _ (call : Call) (command : Command) (census : CensusValue) (journal : Lis
   -- that of a journal's file that is refused, or of a disk that failed
   by_journal_line : (final : Status) (text : List ℕ) → IsKeepLine census saw final text → call.steps_after ≡ call.steps
       → IsEnded text final (output_of call) s → Keeps call s
-  by_journal_line final text (inl (fault, refused, is, line)) free ended =
+  by_journal_line final text (inl (fault, refused, left, is, line)) free ended =
       by_last_line final text (subst IsFinal (sym is) tt) (λ h. cc) (λ h. cc)
-      (λ at h. subst (λ x. IsWhole call at x text) (sym is) (census, journal, script, h, inl (fault, refused, refl, line)))
+      (λ at h. subst (λ x. IsWhole call at x text) (sym is) (census, journal, script, h, inl (fault, refused, left, refl, line)))
       (inr (inl (fault, is, line))) free ended
   by_journal_line final text (inr (failed, is, line)) free ended =
       by_last_line final text (subst IsFinal (sym is) tt) (λ h. cc) (λ h. failed)

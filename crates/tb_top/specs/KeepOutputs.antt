@@ -4,7 +4,8 @@ use Rattle.tb_base.specs.declared.status.Status.{Status}
 use Rattle.tb_base.specs.declared.status.Status.TheVariants as status
 use Rattle.tb_disk.specs.Images.{WhereTold}
 use Rattle.tb_io.specs.Faults.{HasRisen}
-use Rattle.tb_keep.specs.JournalRuns.{AreLinesKept, IsJournalFault, JournalRun, after_playing}
+use Rattle.tb_keep.specs.JournalRuns.{AreLinesKept, IsJournalFault, IsLeftAsItWas, JournalRun}
+use Rattle.tb_keep.specs.JournalRuns.{after_playing}
 use Rattle.tb_keep.specs.KeptRuns.{IsKeptReply}
 use Rattle.tb_keep.specs.Playing.{CanAllFollow}
 use Rattle.tb_keep.specs.declared.journal_run.JournalFault.{JournalFault}
@@ -80,14 +81,14 @@ kept_seen disk journal steps steps' out = record {
   taken_after = out.after;
 }
 
--- a text is the last line of a run whose journal's file is refused, for this fault, or couldn't be
--- read, since the disk failed; and that is its status
+-- a text is the last line of a run whose journal's file is refused, for this fault, and is left as
+-- it was, or couldn't be read, since the disk failed; and that is its status
 abbrev pub IsKeepLine : CensusValue → JournalRun → Status → List ℕ → Type 0
 IsKeepLine census saw s text =
     ((fault : JournalFault)
     × WhereTold saw.content (λ file.
     IsJournalFault census.setup (base_of census) file fault)
-    × (s ≡ status.Journal) × (text ≡ journal_line fault))
+    × IsLeftAsItWas saw × (s ≡ status.Journal) × (text ≡ journal_line fault))
     ⊎ (HasRisen saw.faults saw.faults_after × (s ≡ status.DiskFault) × (text ≡ disk_line))
 
 -- these are replies to the lines of a script, from some batches on that can all follow

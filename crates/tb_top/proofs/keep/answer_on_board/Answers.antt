@@ -27,7 +27,7 @@ returns-in-Ran-WriteFault-clause-answered g c =
 
 pub returns-in-Ran-Memory-clause-answered : goal.returns-in-Ran-Memory-clause-answered
 returns-in-Ran-Memory-clause-answered g c =
-    let none = lines-on-board c.args.setup.now c.args.opening _ c.new-board.ensures.custodian c.requires.first c.args.script.now.lines
+    let (none, left) = lines-on-board c.args.setup.now c.args.opening _ c.new-board.ensures.custodian c.requires.first c.args.script.now.lines
     c.in-Ran-Memory.field-0 run_end.Memory _ c.in-Ran-Memory.field-0-is c.in-Ran-Memory.ensures.run in
     inr (
       none.1,
@@ -38,13 +38,13 @@ returns-in-Ran-Memory-clause-answered g c =
 pub returns-in-Refused-clause-answered : goal.returns-in-Refused-clause-answered
 returns-in-Refused-clause-answered g c =
     let fault = c.in-Refused.fault in
-    let (none, told) = c.in-Refused.ensures.run in
+    let (none, left, told) = c.in-Refused.ensures.run in
     inr (
       none.1,
       inr (
         status.Journal,
         journal_line fault,
-        inl (fault, fault-on-board c.args.setup.now c.args.opening _ c.new-board.ensures.custodian c.requires.first _ fault told, refl, refl),
+        inl (fault, fault-on-board c.args.setup.now c.args.opening _ c.new-board.ensures.custodian c.requires.first _ fault told, left, refl, refl),
         line-later (journal_line fault) status.Journal _ _ _ _ _ _ _ c.in-Refused.ensures.count c.end_refused.ensures.count none.0
             c.end_refused.ensures.ended,
       ),
