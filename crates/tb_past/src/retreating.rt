@@ -23,9 +23,9 @@ fn undo(cube: &mut Cube, change: &Change)
 
 /// Leads the cube of a release back to that of the one before, over the same variables: each change
 /// of the batch between, the last one first, takes the person's record after it out of its cell,
-/// and puts the one before it into its cell. Its edits of the rules change no cube. In their own
-/// order the changes couldn't be undone: where one was dropped and then another added, a cell may
-/// have had no record between.
+/// and puts the one before it into its cell. In the batch's own order a record that was added and
+/// then amended couldn't be undone: it no longer stands in the cell into which it was added. The
+/// batch's edits of the rules change no cube.
 ///
 /// The counter rises by how many changes there are. It takes no memory.
 pub fn retreat<L: Ledger>(cube: &mut Cube, batch: &Batch, steps: &mut Steps<L>)
