@@ -186,6 +186,13 @@ fn worked_turns<B: Named, R: Wait>(
     ))
 }
 
+// How many records release 0 has, and how many batches there are, as a new pass is handed them.
+fn sizes_of_chain<B: Named, R: Wait>(rt: &R, board: &Board<B>) -> Result<(usize, usize), Memory> {
+    let mut pass = board.pass(rt);
+    let chain = board.chain(rt, &mut pass)?;
+    Ok((chain.base.len(), chain.batches.len()))
+}
+
 fn turn_by_turn<B: Named, R: Wait + Abort>(
     rt: &R,
     alloc: Global,
@@ -206,6 +213,7 @@ fn turn_by_turn<B: Named, R: Wait + Abort>(
         capacity: 2,
     };
     assert_eq!(rt; stats, want);
+    assert_eq!(rt; sizes_of_chain(rt, &board).ok(), Some((4, 1)));
     Ok(())
 }
 
