@@ -2,7 +2,7 @@
 use Rattle.std.proofs.Common.{◌≡◌, ◌∙◌, sym, ap, subst, ℕ, List, Ok, inl, inr, true, false, true≢false}
 use Rattle.std.specs.Prelude.{IfSome}
 use Rattle.tb_base.specs.declared.status.Status.{Status}
-use Rattle.tb_top.specs.Asking.{AskedValue, Gen, Keep, Lanes, Script, Serve, asked_of, is_keep}
+use Rattle.tb_top.specs.Asking.{AskedValue, Follow, Gen, Keep, Lanes, Script, Serve, asked_of, is_keep}
 use Rattle.tb_top.specs.Calls.{Call, journal_seen, output_of}
 use Rattle.tb_top.specs.Commands.{asks_to_keep, command_of}
 use Rattle.tb_top.specs.KeepOutputs.{AreKeepLinesAnswered, IsStill}
@@ -39,6 +39,7 @@ AreAnsweredFor call s (Keep census journal script) =
     AreKeepLinesAnswered census script s (output_of call) (journal_seen call journal)
 AreAnsweredFor call s (Script census script) = ⊥
 AreAnsweredFor call s (Lanes census script) = ⊥
+AreAnsweredFor call s (Follow census script) = ⊥
 AreAnsweredFor call s (Serve census service) = ⊥
 AreAnsweredFor call s (Gen population census script) = ⊥
 

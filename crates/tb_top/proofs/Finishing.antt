@@ -11,7 +11,7 @@ use Rattle.tb_top.specs.declared.endings.End.TheVariants as end
 use Rattle.tb_top.specs.declared.command.Command.{Command}
 use Rattle.tb_top.specs.declared.command.Command.TheVariants as command
 use Rattle.tb_top.specs.declared.command.Inputs.{Inputs}
-use Rattle.tb_top.specs.Asking.{AskedValue, CensusValue, Gen, Keep, Lanes, Script, Serve, asked_of, asked_over, contents_at, is_keep, is_service}
+use Rattle.tb_top.specs.Asking.{AskedValue, CensusValue, Follow, Gen, Keep, Lanes, Script, Serve, asked_of, asked_over, contents_at, is_keep, is_service}
 use Rattle.tb_top.specs.Calls.{Call, HasTaken, IsReadTo, NetFailed, ReadFailed, WriteFailed}
 use Rattle.tb_top.specs.Commands.{asks_to_generate, asks_to_keep, asks_to_serve, command_of, command_files, input_files, named}
 use Rattle.tb_top.specs.Endings.{IsEnded, IsLineWritten, last_line, status_of}
@@ -19,7 +19,7 @@ use Rattle.tb_top.specs.KeepOutputs.{HasFailed, IsStill}
 use Rattle.tb_top.specs.Loading.{Hold, Loads, Reading}
 use Rattle.tb_top.specs.Populations.{Population}
 use Rattle.tb_top.specs.Promises.{EndsBy, IsCaused, IsDefined, IsLastLine, IsPriced, IsTextOf, IsWhole, Keeps, defined_status}
-use Rattle.tb_top.specs.Outputs.{AreScriptReplies, IsAnswered, IsBegun, IsGenAnswered, IsScriptAnswered}
+use Rattle.tb_top.specs.Outputs.{AreAnswers, AreScriptReplies, IsAnswered, IsBegun, IsGenAnswered, IsOutput, IsScriptAnswered}
 use Rattle.tb_top.specs.Summaries.{summary_line}
 use Rattle.tb_top.specs.Summing.{most_counted}
 use Rattle.tb_top.proofs.Boards.{ended-so}
@@ -34,6 +34,7 @@ use Rattle.tb_script.specs.Scripts.{ScriptValue}
 use Rattle.tb_serve.specs.Stages.{IsFresh}
 use Rattle.tb_lines.specs.Outputs.{ReplyValue, price_of, text_of}
 use Rattle.tb_io.proofs.TakenLemmas.{TookPart-all}
+use Rattle.tb_io.specs.Taken.{TookPart}
 
 -- what the sink took of the last line of an end, and the status
 abbrev pub IsToldBy : Call → End → Status → Type 0
@@ -228,30 +229,35 @@ undone call e s free told still =
     ended-on-disk call s (status_of e) (last_line e) free (inl (e, refl, refl)) (ended-so e s _ _ _ _ told) (λ h. still)
 
 -- how a script was answered, and the status
-abbrev pub IsScriptAnsweredBy : Call → CensusValue → ScriptValue → Status → Type 0
-IsScriptAnsweredBy call census script s = IsScriptAnswered (Script census script) s call.write_faults call.write_faults_after call.taken
-    call.taken_after call.steps call.steps_after
+abbrev pub IsScriptAnsweredBy : Call → AskedValue → Status → Type 0
+IsScriptAnsweredBy call asked s = IsScriptAnswered asked s call.write_faults call.write_faults_after call.taken call.taken_after
+    call.steps call.steps_after
 
--- a run that comes to its script keeps all
-module _ (call : Call) (command : Command) (census : CensusValue) (script : ScriptValue) (s : Status)
-    (named : command_of call.words ≡ Some command) (told : IfSome call.content (λ at. asked_of at call.words ≡ Ok (Script census script)))
-    (fresh : All IsFresh call.ports) (same : call.ports_after ≡ call.ports) (still : IsStill call.disk) where
-  keeps_by_script : IsScriptAnsweredBy call census script s → Keeps call s
+-- a run that comes to its script keeps all, where its output is the text of its replies
+module _ (call : Call) (command : Command) (asked : AskedValue) (s : Status) (named : command_of call.words ≡ Some command)
+    (told : IfSome call.content (λ at. asked_of at call.words ≡ Ok asked)) (fresh : All IsFresh call.ports)
+    (same : call.ports_after ≡ call.ports) (disk : KeepsDisk call s)
+    (whole : (replies : List ReplyValue) → AreAnswers asked replies → IsOutput asked call.ports call.ports_after status.Done (text_of replies))
+    (begun : (replies : List ReplyValue) → s ≢ status.Memory → TookPart call.taken call.taken_after (text_of replies)
+    → IsBegun asked s replies call.taken call.taken_after) where
+  -- the counter rose by no more than the replies' price
+  script_priced : (replies : List ReplyValue) → AreAnswers asked replies → s ≢ status.Memory
+      → TookPart call.taken call.taken_after (text_of replies) → call.steps_after ≤ call.steps + price_of replies
+      → IfSome call.content (λ at. (call.steps_after ≡ call.steps) ⊎ IsPriced call at s)
+  script_priced replies answers some part cost =
+      where_told _ _ call.content (λ at h. inr (asked, h, (replies, answers, begun replies some part, cost))) told
+
+  keeps_by_script : IsScriptAnsweredBy call asked s → Keeps call s
   keeps_by_script (inl (is, (replies, answers, took, cost))) =
-      keeps_by_written call command (Script census script) s (text_of replies) named told (refl, (replies, answers, refl))
-      (where_told _ _ call.content (λ at h. inr (
-        Script census script,
-        h,
-        (replies, answers, (λ m. cc, TookPart-all call.taken call.taken_after (text_of replies) took), cost),
-      )) told)
-      fresh same (left-alone call (Script census script) s refl told still) (inl (is, took))
+      keeps_by_written call command asked s (text_of replies) named told (whole replies answers)
+      (script_priced replies answers (λ m. cc) (TookPart-all call.taken call.taken_after (text_of replies) took) cost) fresh same disk
+      (inl (is, took))
   keeps_by_script (inr (inl (is, failed, (replies, answers, part, cost)))) =
-      keeps_by_written call command (Script census script) s (text_of replies) named told (refl, (replies, answers, refl))
-      (where_told _ _ call.content (λ at h. inr (Script census script, h, (replies, answers, (λ m. cc, part), cost))) told)
-      fresh same (left-alone call (Script census script) s refl told still) (inr (is, failed, part))
+      keeps_by_written call command asked s (text_of replies) named told (whole replies answers)
+      (script_priced replies answers (λ m. cc) part cost) fresh same disk (inr (is, failed, part))
   keeps_by_script (inr (inr (free, ended))) =
       keeps_by_end call end.Memory s (λ h. cc) (λ h. cc) (λ file h. cc) (always_told _ call.content (λ at ne. absurd (ne refl)))
-      (λ h. refl) (unpriced call s free) fresh same (undone call end.Memory s free ended still) ended
+      (λ h. refl) (unpriced call s free) fresh same disk ended
 
 -- how a generated population was answered, and the status
 abbrev pub IsGenAnsweredBy : Call → Population → CensusValue → ScriptValue → Status → Type 0
@@ -305,11 +311,15 @@ keeps_by_answer : (call : Call) (command : Command) (asked : AskedValue) (s : St
     → is_service asked ≡ asks_to_serve (Some command) → is_keep asked ≡ asks_to_keep (Some command)
     → IfSome call.content (λ at. asked_of at call.words ≡ Ok asked) → All IsFresh call.ports → IsAnsweredBy call asked s → Keeps call s
 keeps_by_answer call command (Script census script) s named serves keeps told fresh (same, still, answered) =
-    keeps_by_script call command census script s named told fresh same still answered
+    keeps_by_script call command (Script census script) s named told fresh same (left-alone call (Script census script) s refl told still)
+    (λ replies are. (refl, (replies, are, refl))) (λ replies some part. (some, part)) answered
 keeps_by_answer call command (Lanes census script) s named serves keeps told fresh (same, still, free, answered) =
     keeps_by_lanes call command census script s named told free fresh same still answered
 keeps_by_answer call command (Keep census journal script) s named serves keeps told fresh (same, answered) =
     keeps_by_keep call command census journal script s named (sym keeps) told fresh same answered
+keeps_by_answer call command (Follow census script) s named serves keeps told fresh (same, still, answered) =
+    keeps_by_script call command (Follow census script) s named told fresh same (left-alone call (Follow census script) s refl told still)
+    (λ replies are. (refl, (replies, are, refl))) (λ replies some part. (some, part)) answered
 keeps_by_answer call command (Serve census service) s named serves keeps told fresh (still, free, answered) =
     keeps_by_service call command census service s named (sym serves) told free fresh still answered
 keeps_by_answer call command (Gen population census script) s named serves keeps told fresh (same, still, answered) =
@@ -361,6 +371,7 @@ holds : (at : List ℕ → Option (List ℕ)) (c : Command) → Hold at (command
 holds at (command.Script inputs script) = holds-files at inputs.recodes inputs.classes inputs.ptable inputs.people script inputs.threshold
 holds at (command.Lanes inputs script) = holds-files at inputs.recodes inputs.classes inputs.ptable inputs.people script inputs.threshold
 holds at (command.Keep inputs journal script) = holds-files at inputs.recodes inputs.classes inputs.ptable inputs.people script inputs.threshold
+holds at (command.Follow inputs script) = holds-files at inputs.recodes inputs.classes inputs.ptable inputs.people script inputs.threshold
 holds at (command.Serve inputs service) = holds-inputs at inputs.recodes inputs.classes inputs.ptable inputs.people inputs.threshold
 holds at (command.Gen population) = tt
 

@@ -31,6 +31,7 @@ keeps-alone : (c : Command) → asks_to_keep (Some c) ≡ true → asks_to_gener
 keeps-alone (command.Script inputs script) keeps generates = cc
 keeps-alone (command.Lanes inputs script) keeps generates = cc
 keeps-alone (command.Keep inputs journal script) keeps generates = cc
+keeps-alone (command.Follow inputs script) keeps generates = cc
 keeps-alone (command.Serve inputs service) keeps generates = cc
 keeps-alone (command.Gen population) keeps generates = cc
 

@@ -3,6 +3,7 @@ pub mod Boards
 pub mod CommandWords
 pub mod DiskKept
 pub mod Finishing
+pub mod Following
 pub mod Generating
 pub mod Keeping
 pub mod LanesRun

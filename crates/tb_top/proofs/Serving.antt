@@ -177,6 +177,7 @@ serves-alone : (c : Command) → asks_to_serve (Some c) ≡ true → asks_to_gen
 serves-alone (command.Script inputs script) serves generates = cc
 serves-alone (command.Lanes inputs script) serves generates = cc
 serves-alone (command.Keep inputs journal script) serves generates = cc
+serves-alone (command.Follow inputs script) serves generates = cc
 serves-alone (command.Serve inputs service) serves generates = cc
 serves-alone (command.Gen population) serves generates = cc
 

@@ -13,7 +13,7 @@ use Rattle.tb_top.specs.declared.command.Inputs.{Inputs}
 use Rattle.tb_base.specs.declared.people.TheConstants.{MOST_PERSONS}
 use Rattle.tb_base.specs.declared.limits.TheConstants.{MOST_THRESHOLD}
 use Rattle.tb_top.specs.declared.service.TheConstants.{MOST_PORT, MOST_SESSIONS, MOST_WORKERS}
-use Rattle.tb_top.specs.Commands.{command_of, gen_named, gen_words, inputs_named, inputs_with, is_file_name, keep_named, keep_words, lanes_words, may_name_recodes, script_words, serve_named, serve_words, threshold_in, with_script, word_at, words_with_script}
+use Rattle.tb_top.specs.Commands.{command_of, follow_words, gen_named, gen_words, inputs_named, inputs_with, is_file_name, keep_named, keep_words, lanes_words, may_name_recodes, script_words, serve_named, serve_words, threshold_in, with_script, word_at, words_with_script}
 use Rattle.tb_top.specs.Numbers.{number_within}
 use Rattle.tb_top.specs.Populations.{population_named, population_with}
 use Rattle.tb_top.specs.ServicePorts.{service_named, service_with}
@@ -188,14 +188,14 @@ serve_list (a ∷ b ∷ c ∷ d ∷ e ∷ f ∷ g ∷ h ∷ i ∷ []) k len name
     let plain = plain_inputs b c d e f inputs read in
     let values = b ∷ handed c ∷ d ∷ e ∷ f ∷ g ∷ h ∷ i ∷ [] in
     let first : a ≡ codes "serve" = (bytes_eq-Decides a (codes "serve")).0 name in
-    inr (inr (inr (inl (
+    inr (inr (inr (inr (inl (
       values,
       handed_at a b c (d ∷ e ∷ f ∷ g ∷ h ∷ i ∷ []) ∙ ap (λ (word : List ℕ). word ∷ values) first,
       refl,
       all_true _ _ plain.classes (all_true _ _ (plain_handed c plain.recodes) (all_true _ _ plain.ptable (all_true _ _ plain.people
           (all_true _ _ plain.threshold (all_true _ _ (plain_within 1 MOST_PORT p g port) (all_true _ _ (plain_within 1 MOST_WORKERS w h workers)
           (all_true _ _ (plain_within 1 MOST_SESSIONS n i sessions) refl))))))),
-    ))))
+    )))))
 serve_list (a ∷ b ∷ c ∷ d ∷ e ∷ f ∷ g ∷ h ∷ i ∷ x ∷ rest) k len name named = absurd (omega (arith, len))
 
 plain_either : (word : List ℕ) → is_plain word ≡ true → is_plain (handed word) ≡ true
@@ -216,23 +216,20 @@ gen_list (a ∷ b ∷ c ∷ []) k len name named =
     let (start, is_start) = map_some (population_with p) (number_of c) population more in
     let values = b ∷ handed c ∷ [] in
     let first : a ≡ codes "gen" = (bytes_eq-Decides a (codes "gen")).0 name in
-    inr (inr (inr (inr (
+    inr (inr (inr (inr (inr (
       values,
       handed_at a b c [] ∙ ap (λ (word : List ℕ). word ∷ values) first,
       refl,
       all_true _ _ (plain_within 1 MOST_PERSONS p b persons) (all_true _ _ (plain_either c (plain_number c start is_start)) refl),
-    ))))
+    )))))
 gen_list (a ∷ b ∷ c ∷ x ∷ rest) k len name named = absurd (omega (arith, len))
 
-script_tested : (words : List (List ℕ)) (k : Command) → script_words words ≡ Some k → AreTested words
-script_tested words k h =
-    let (named, is) = map_some (λ (named : Inputs × List ℕ). command.Script named.0 named.1) (words_with_script (codes "script") words) k h in
-    inl (with_script_tested (codes "script") words named is)
-
-lanes_tested : (words : List (List ℕ)) (k : Command) → lanes_words words ≡ Some k → AreTested words
-lanes_tested words k h =
-    let (named, is) = map_some (λ (named : Inputs × List ℕ). command.Lanes named.0 named.1) (words_with_script (codes "lanes") words) k h in
-    inr (inl (with_script_tested (codes "lanes") words named is))
+-- so do those of a command that is made of its inputs and its script's name
+made_tested : (word : List ℕ) (make : Inputs × List ℕ → Command) (words : List (List ℕ)) (k : Command)
+    → option_map make (words_with_script word words) ≡ Some k → AreTestedAfter word words
+made_tested word make words k h =
+    let (named, is) = map_some make (words_with_script word words) k h in
+    with_script_tested word words named is
 
 keep_tested : (words : List (List ℕ)) (k : Command) → keep_words words ≡ Some k → AreTested words
 keep_tested words k h =
@@ -261,8 +258,13 @@ either P None other x h one two = two h
 pub tested : (words : List (List ℕ)) (k : Command) → command_of words ≡ Some k → AreTested words
 tested words k h =
     let served = option_or (serve_words words) (gen_words words) in
-    let kept = option_or (keep_words words) served in
-    either (AreTested words) (script_words words) (option_or (lanes_words words) kept) k h (script_tested words k)
-    (λ more. either (AreTested words) (lanes_words words) kept k more (lanes_tested words k)
-    (λ most. either (AreTested words) (keep_words words) served k most (keep_tested words k)
-    (λ last. either (AreTested words) (serve_words words) (gen_words words) k last (serve_tested words k) (gen_tested words k))))
+    let followed = option_or (follow_words words) served in
+    let kept = option_or (keep_words words) followed in
+    either (AreTested words) (script_words words) (option_or (lanes_words words) kept) k h
+    (λ is. inl (made_tested (codes "script") (λ named. command.Script named.0 named.1) words k is))
+    (λ more. either (AreTested words) (lanes_words words) kept k more
+    (λ is. inr (inl (made_tested (codes "lanes") (λ named. command.Lanes named.0 named.1) words k is)))
+    (λ most. either (AreTested words) (keep_words words) followed k most (keep_tested words k)
+    (λ rest. either (AreTested words) (follow_words words) served k rest
+    (λ is. inr (inr (inr (inl (made_tested (codes "follow") (λ named. command.Follow named.0 named.1) words k is)))))
+    (λ last. either (AreTested words) (serve_words words) (gen_words words) k last (serve_tested words k) (gen_tested words k)))))

@@ -131,12 +131,13 @@ census_in inputs contents =
     }))))
 
 -- what is asked for over a census: replies to the lines of a script, one after another, of its
--- lanes at the same time, or with a journal under a name; sessions; or, over that of a generated
--- population, a summary of such replies
+-- lanes at the same time, with a journal under a name, or by a follower; sessions; or, over that of
+-- a generated population, a summary of such replies
 pub data AskedValue : Type 0 where
   Script : CensusValue → ScriptValue → AskedValue
   Lanes : CensusValue → ScriptValue → AskedValue
   Keep : CensusValue → (journal : List ℕ) → ScriptValue → AskedValue
+  Follow : CensusValue → ScriptValue → AskedValue
   Serve : CensusValue → Service → AskedValue
   Gen : Population → CensusValue → ScriptValue → AskedValue
 
@@ -145,6 +146,7 @@ abbrev pub is_service : AskedValue → Bool
 is_service (Script census script) = false
 is_service (Lanes census script) = false
 is_service (Keep census journal script) = false
+is_service (Follow census script) = false
 is_service (Serve census service) = true
 is_service (Gen population census script) = false
 
@@ -153,6 +155,7 @@ abbrev pub is_keep : AskedValue → Bool
 is_keep (Script census script) = false
 is_keep (Lanes census script) = false
 is_keep (Keep census journal script) = true
+is_keep (Follow census script) = false
 is_keep (Serve census service) = false
 is_keep (Gen population census script) = false
 
@@ -179,6 +182,7 @@ asked_over (command.Script inputs name) contents = script_over Script inputs con
 asked_over (command.Lanes inputs name) contents = script_over Lanes inputs contents
 asked_over (command.Keep inputs journal script) contents =
     script_over (λ census script. Keep census journal script) inputs contents
+asked_over (command.Follow inputs name) contents = script_over Follow inputs contents
 asked_over (command.Serve inputs service) contents =
     census_in inputs contents >>= (λ census. Ok (Serve census service))
 asked_over (command.Gen population) contents = generated_asked population

@@ -77,8 +77,8 @@ words_with_script word words =
     (word_at words 5) (word_at words 6)
     else None
 
--- what `script` asks for, one line after another, and `lanes`, whose lanes are answered at the same
--- time
+-- what `script` asks for, one line after another; `lanes`, whose lanes are answered at the same
+-- time; and `follow`, whose lanes are a leader and those who ask its follower
 abbrev pub script_words : List (List ℕ) → Option Command
 script_words words =
     option_map (λ named. command.Script named.0 named.1)
@@ -87,6 +87,11 @@ script_words words =
 abbrev pub lanes_words : List (List ℕ) → Option Command
 lanes_words words =
     option_map (λ named. command.Lanes named.0 named.1) (words_with_script (codes "lanes") words)
+
+abbrev pub follow_words : List (List ℕ) → Option Command
+follow_words words =
+    option_map (λ named. command.Follow named.0 named.1)
+    (words_with_script (codes "follow") words)
 
 -- what `keep CLASSES RECODES PTABLE PEOPLE THRESHOLD JOURNAL SCRIPT` asks for
 abbrev pub keep_named : (classes recodes ptable people threshold journal script : List ℕ)
@@ -124,7 +129,8 @@ abbrev pub command_of : List (List ℕ) → Option Command
 command_of words =
     option_or (script_words words)
     (option_or (lanes_words words)
-    (option_or (keep_words words) (option_or (serve_words words) (gen_words words))))
+    (option_or (keep_words words)
+    (option_or (follow_words words) (option_or (serve_words words) (gen_words words)))))
 
 -- an input and the name of its file
 pub record NamedFile : Type 0 where
@@ -159,6 +165,7 @@ abbrev pub command_files : Command → List NamedFile
 command_files (command.Script inputs script) = scripted_files inputs script
 command_files (command.Lanes inputs script) = scripted_files inputs script
 command_files (command.Keep inputs journal script) = scripted_files inputs script
+command_files (command.Follow inputs script) = scripted_files inputs script
 command_files (command.Serve inputs service) = input_files inputs
 command_files (command.Gen population) = []
 
@@ -168,6 +175,7 @@ asks_to_serve (Some (command.Serve inputs service)) = true
 asks_to_serve (Some (command.Script inputs script)) = false
 asks_to_serve (Some (command.Lanes inputs script)) = false
 asks_to_serve (Some (command.Keep inputs journal script)) = false
+asks_to_serve (Some (command.Follow inputs script)) = false
 asks_to_serve (Some (command.Gen population)) = false
 asks_to_serve None = false
 
@@ -177,6 +185,7 @@ asks_to_generate (Some (command.Gen population)) = true
 asks_to_generate (Some (command.Script inputs script)) = false
 asks_to_generate (Some (command.Lanes inputs script)) = false
 asks_to_generate (Some (command.Keep inputs journal script)) = false
+asks_to_generate (Some (command.Follow inputs script)) = false
 asks_to_generate (Some (command.Serve inputs service)) = false
 asks_to_generate None = false
 
@@ -185,6 +194,7 @@ abbrev pub asks_to_keep : Option Command → Bool
 asks_to_keep (Some (command.Keep inputs journal script)) = true
 asks_to_keep (Some (command.Script inputs script)) = false
 asks_to_keep (Some (command.Lanes inputs script)) = false
+asks_to_keep (Some (command.Follow inputs script)) = false
 asks_to_keep (Some (command.Serve inputs service)) = false
 asks_to_keep (Some (command.Gen population)) = false
 asks_to_keep None = false

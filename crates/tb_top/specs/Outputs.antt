@@ -4,6 +4,9 @@ use Rattle.tb_base.specs.declared.status.Status.{Status}
 use Rattle.tb_base.specs.declared.status.Status.TheVariants as status
 use Rattle.tb_io.specs.Faults.{HasRisen}
 use Rattle.tb_io.specs.Taken.{Took, TookPart}
+use Rattle.tb_follow_lanes.specs.FollowRuns.{IsFollowReply}
+use Rattle.tb_leader.specs.Lanes.{first_lane}
+use Rattle.tb_model.specs.Schemas.{shape_of}
 use Rattle.tb_script.specs.Runs.{IsLaneReply}
 use Rattle.tb_script.specs.Scripts.{ScriptValue}
 use Rattle.tb_serve.specs.Ports.{PortValue}
@@ -11,7 +14,7 @@ use Rattle.tb_serve.specs.Serves.{output}
 use Rattle.tb_ahead.specs.Publishing.{after_seeing}
 use Rattle.tb_lines.specs.Outputs.{AreReplies, ReplyValue, price_of, text_of}
 use Rattle.tb_top.specs.declared.endings.End.TheVariants as end
-use Rattle.tb_top.specs.Asking.{AskedValue, CensusValue, Gen, Keep, Lanes, Script, Serve, base_of}
+use Rattle.tb_top.specs.Asking.{AskedValue, CensusValue, Follow, Gen, Keep, Lanes, Script, Serve, base_of}
 use Rattle.tb_top.specs.Endings.{IsEnded, IsLineWritten, last_line}
 use Rattle.tb_top.specs.KeepOutputs.{AreKeepReplies, DiskSeen, IsKeepAnswered, IsStill}
 use Rattle.tb_top.specs.KeepOutputs.{kept_seen}
@@ -27,12 +30,21 @@ AreScriptReplies census script replies =
     AreReplies (IsLaneReply census.setup (base_of census))
     (after_seeing []) script.lines replies
 
--- the same of what is asked for, which may be a summary of them, or begin at the batches of a
--- journal; lanes that are answered at the same time and sessions get their replies elsewhere
+-- these are replies to them with a follower in place of a board, which begins at release 0: one
+-- lane brings it a leader's messages, and the others ask at the release that it has reached
+abbrev pub AreFollowReplies : CensusValue → ScriptValue → List ReplyValue → Type 0
+AreFollowReplies census script replies =
+    AreReplies (IsFollowReply census.setup)
+    (first_lane (shape_of census.setup.schema) (base_of census)) script.lines replies
+
+-- the same of what is asked for, which may be a summary of them, begin at the batches of a journal,
+-- or be a follower's; lanes that are answered at the same time and sessions get their replies
+-- elsewhere
 abbrev pub AreAnswers : AskedValue → List ReplyValue → Type 0
 AreAnswers (Script census script) replies = AreScriptReplies census script replies
 AreAnswers (Lanes census script) replies = ⊥
 AreAnswers (Keep census journal script) replies = AreKeepReplies census script replies
+AreAnswers (Follow census script) replies = AreFollowReplies census script replies
 AreAnswers (Serve census service) replies = ⊥
 AreAnswers (Gen population census script) replies = AreScriptReplies census script replies
 
@@ -48,6 +60,10 @@ IsOutput (Lanes census script) ports ports' s text =
 IsOutput (Keep census journal script) ports ports' s text =
     (s ≡ status.Done)
     × ((replies : List ReplyValue) × AreAnswers (Keep census journal script) replies
+    × (text ≡ text_of replies))
+IsOutput (Follow census script) ports ports' s text =
+    (s ≡ status.Done)
+    × ((replies : List ReplyValue) × AreAnswers (Follow census script) replies
     × (text ≡ text_of replies))
 IsOutput (Serve census service) ports ports' s text =
     IsServiceOutput census service ports ports' s text
@@ -66,6 +82,8 @@ IsBegun (Script census script) s replies taken taken' =
 IsBegun (Lanes census script) s replies taken taken' = ⊥
 IsBegun (Keep census journal script) s replies taken taken' =
     (s ≢ status.Memory) × TookPart taken taken' (text_of replies)
+IsBegun (Follow census script) s replies taken taken' =
+    (s ≢ status.Memory) × TookPart taken taken' (text_of replies)
 IsBegun (Serve census service) s replies taken taken' = ⊥
 IsBegun (Gen population census script) s replies taken taken' =
     ((s ≢ status.Memory) × TookPart taken taken' (summary_line population (text_of replies)))
@@ -76,11 +94,13 @@ abbrev pub IsOutputToMemory : AskedValue → List ℕ → Type 0
 IsOutputToMemory (Script census script) text = ⊥
 IsOutputToMemory (Lanes census script) text = IsTextToMemory census script text
 IsOutputToMemory (Keep census journal script) text = ⊥
+IsOutputToMemory (Follow census script) text = ⊥
 IsOutputToMemory (Serve census service) text = ⊥
 IsOutputToMemory (Gen population census script) text = ⊥
 
--- A script was answered: all replies were taken, or, where a write failed, a beginning of them, and
--- the counter of steps rose by no more than their price. Or memory ran out before the first line.
+-- A script was answered, over a board or by a follower: all replies were taken, or, where a write
+-- failed, a beginning of them, and the counter of steps rose by no more than their price. Or memory
+-- ran out before the first line.
 abbrev pub IsScriptAnswered : AskedValue → Status → (faults faults' : ℕ)
     → (taken taken' : Option (List ℕ)) → (steps steps' : ℕ) → Type 0
 IsScriptAnswered asked s faults faults' taken taken' steps steps' =
@@ -126,6 +146,9 @@ IsAnswered (Keep census journal script) ports ports' disk s faults faults' taken
     let out = output taken taken' faults faults' in
     (ports' ≡ ports)
     × IsKeepAnswered census script s out (kept_seen disk journal steps steps' out)
+IsAnswered (Follow census script) ports ports' disk s faults faults' taken taken' steps steps' =
+    (ports' ≡ ports) × IsStill disk
+    × IsScriptAnswered (Follow census script) s faults faults' taken taken' steps steps'
 IsAnswered (Serve census service) ports ports' disk s faults faults' taken taken' steps steps' =
     IsStill disk × (steps' ≡ steps)
     × IsServiceAnswered census service ports ports' s faults faults' taken taken'

@@ -1,7 +1,8 @@
 // The arguments of the command line.
 
 ghost use Rattle.std.specs.Prelude.{◌≡◌, None, Some, if◌then◌else◌, map, string_bytes};
-ghost use Rattle.tb_top.specs.Commands.{command_of, gen_named, gen_words, inputs_named};
+ghost use Rattle.tb_top.specs.Commands.{command_of, follow_words, gen_named, gen_words};
+ghost use Rattle.tb_top.specs.Commands.{inputs_named};
 ghost use Rattle.tb_top.specs.Commands.{is_file_name as names_a_file};
 ghost use Rattle.tb_top.specs.Commands.{keep_named, keep_words, lanes_words, may_name_recodes};
 ghost use Rattle.tb_top.specs.Commands.{recodes_name as name_of_recodes, script_words};
@@ -44,9 +45,10 @@ pub struct Inputs<'a> {
 }
 
 /// A command: one of several, each with its inputs and its task. `Script` answers the lines of the
-/// script of that name, `Lanes` its lanes at the same time, and `Keep` as `Script`, with a journal
-/// under a name of its own; `Serve` serves sessions; `Gen` reads no files, and sums up what
-/// `Script` would write over those of a generated population.
+/// script of that name, `Lanes` its lanes at the same time, `Keep` as `Script`, with a journal
+/// under a name of its own, and `Follow` with a follower in place of a board; `Serve` serves
+/// sessions; `Gen` reads no files, and sums up what `Script` would write over those of a generated
+/// population.
 #[derive(Drop)]
 pub enum Command<'a> {
     Script {
@@ -60,6 +62,10 @@ pub enum Command<'a> {
     Keep {
         inputs: Inputs<'a>,
         journal: FileName<'a>,
+        script: FileName<'a>,
+    },
+    Follow {
+        inputs: Inputs<'a>,
         script: FileName<'a>,
     },
     Serve {
@@ -264,6 +270,16 @@ fn read_lanes_words(words: &[String]) -> Option<Command<'_>>
     }
 }
 
+// What the arguments `follow` with the same after it ask for.
+fn read_follow_words(words: &[String]) -> Option<Command<'_>>
+    ensures { result ≡ follow_words (map string_bytes words.now) }
+{
+    match read_with_script("follow", words) {
+        Some((inputs, script)) => Some(Command::Follow { inputs, script }),
+        None => None,
+    }
+}
+
 // What the arguments `keep CLASSES RECODES PTABLE PEOPLE THRESHOLD JOURNAL SCRIPT` ask for.
 fn read_keep_words(words: &[String]) -> Option<Command<'_>>
     ensures { result ≡ keep_words (map string_bytes words.now) }
@@ -354,24 +370,27 @@ pub fn generated_inputs<'a>() -> Inputs<'a>
     }
 }
 
-/// What the arguments ask for: `script CLASSES RECODES PTABLE PEOPLE THRESHOLD SCRIPT`, `lanes`
-/// with the same after it, `keep` with JOURNAL before SCRIPT, or `serve CLASSES RECODES PTABLE
-/// PEOPLE THRESHOLD PORT WORKERS SESSIONS`, RECODES being a file's name or `-`; or `gen N START`.
-/// None at all other arguments.
+/// What the arguments ask for: `script CLASSES RECODES PTABLE PEOPLE THRESHOLD SCRIPT`, `lanes` or
+/// `follow` with the same after it, `keep` with JOURNAL before SCRIPT, or `serve CLASSES RECODES
+/// PTABLE PEOPLE THRESHOLD PORT WORKERS SESSIONS`, RECODES being a file's name or `-`; or `gen N
+/// START`. None at all other arguments.
 pub fn read_command(words: &[String]) -> Option<Command<'_>>
     ensures { result ≡ command_of (map string_bytes words.now) }
 {
-    match read_script_words(words) {
-        Some(command) => Some(command),
-        None => match read_lanes_words(words) {
-            Some(command) => Some(command),
-            None => match read_keep_words(words) {
-                Some(command) => Some(command),
-                None => match read_serve_words(words) {
-                    Some(command) => Some(command),
-                    None => read_gen_words(words),
-                },
-            },
-        },
+    if let Some(command) = read_script_words(words) {
+        return Some(command);
     }
+    if let Some(command) = read_lanes_words(words) {
+        return Some(command);
+    }
+    if let Some(command) = read_keep_words(words) {
+        return Some(command);
+    }
+    if let Some(command) = read_follow_words(words) {
+        return Some(command);
+    }
+    if let Some(command) = read_serve_words(words) {
+        return Some(command);
+    }
+    read_gen_words(words)
 }

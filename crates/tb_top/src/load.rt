@@ -51,8 +51,8 @@ pub struct Scripted {
 }
 
 /// What a run is asked for over a census: to answer the lines of a script, its lanes at the same
-/// time, or its lines with a journal under this name; to serve sessions; or to sum up the replies
-/// to a generated script.
+/// time, its lines with a journal under this name, or its lines with a follower in place of a
+/// board; to serve sessions; or to sum up the replies to a generated script.
 #[derive(Drop)]
 pub enum Asked {
     Script {
@@ -66,6 +66,10 @@ pub enum Asked {
     Keep {
         census: Census,
         journal: String,
+        script: Script,
+    },
+    Follow {
+        census: Census,
         script: Script,
     },
     Serve {
@@ -297,6 +301,11 @@ pub fn load<F: Files>(alloc: Global, files: &mut F, command: &Command<'_>) -> Re
                 journal,
                 script,
             })
+        }
+        Command::Follow { inputs, script } => {
+            let read = load_scripted(alloc, files, inputs, script)?;
+            let Scripted { census, script } = read;
+            Ok(Asked::Follow { census, script })
         }
         Command::Serve { inputs, service } => {
             let census = load_census(alloc, files, inputs)?;

@@ -21,6 +21,7 @@ ghost use Rattle.tb_top.specs.Summing.{AreSums};
 
 use crate::asking::ask;
 use crate::endings::End;
+use crate::follow::answer_follow;
 use crate::keep::answer_keep;
 use crate::lanes::answer_lanes;
 use crate::load::{Asked, Census};
@@ -201,6 +202,9 @@ fn answer<R: Threads + Wait + Sync, O: Sink, N: Listen + Send, D: Disk, L: Ledge
             journal,
             script,
         } => answer_keep(rt, alloc, census, journal, script, out, disk, steps),
+        Asked::Follow { census, script } => {
+            answer_follow(rt, alloc, census, &script, out, steps)
+        }
         Asked::Serve { census, service } => serve_census(rt, alloc, census, &service, out, net),
         Asked::Gen {
             population,
@@ -219,22 +223,25 @@ fn answer<R: Threads + Wait + Sync, O: Sink, N: Listen + Send, D: Disk, L: Ledge
 /// what these lend isn't counted. With `keep CLASSES RECODES PTABLE PEOPLE THRESHOLD JOURNAL
 /// SCRIPT` the batches of the journal in the disk's file of that name are published first, and then
 /// the script is answered as `script` does, but that each batch is on the disk before its
-/// publication is told. With `serve CLASSES RECODES PTABLE PEOPLE THRESHOLD PORT WORKERS SESSIONS`
-/// the listeners are bound, the first to PORT for the custodian and one for each worker to the
-/// ports after it, and each worker serves sessions in a thread of its own, one after another; in
-/// the end `out` takes how many each had. With `gen N START` no file is read: the replies are those
-/// that `script` would write over the generated files of N persons, and `out` takes how many lines
-/// and bytes they have, and the sum of their byte values. Other arguments are refused.
+/// publication is told. With `follow` and the arguments of `script` the lane `leader` brings
+/// numbered messages to a follower, and every other lane's line is a query over the release that
+/// the follower has reached by then. With `serve CLASSES RECODES PTABLE PEOPLE THRESHOLD PORT
+/// WORKERS SESSIONS` the listeners are bound, the first to PORT for the custodian and one for each
+/// worker to the ports after it, and each worker serves sessions in a thread of its own, one after
+/// another; in the end `out` takes how many each had. With `gen N START` no file is read: the
+/// replies are those that `script` would write over the generated files of N persons, and `out`
+/// takes how many lines and bytes they have, and the sum of their byte values. Other arguments are
+/// refused.
 ///
 /// A printed table is the perturbed table counted from scratch over the release of its number, to
-/// which the custodian's lines before it led, by the perturbation table and threshold of that
-/// release, and a query is refused for the first fault of its text, whatever cubes are kept. A line
-/// that finds no memory gets the reply `memory`, and the next line is answered. The counter rises
-/// by how many records and changes are lent: for a table the release's records at most once, or,
-/// where a cube is kept, the changes that it is behind; where memory ran out before the first line
-/// it doesn't. It takes memory for the files, for what they say, for one table at a time, for at
-/// most 64 cubes or as many as `cache K` says, for the edits that are held, and for the next
-/// release while it is made.
+/// which the custodian's lines before it led, or the leader's messages, by the perturbation table
+/// and threshold of that release, and a query is refused for the first fault of its text, whatever
+/// cubes are kept. A line that finds no memory gets the reply `memory`, and the next line is
+/// answered. The counter rises by how many records and changes are lent: for a table the release's
+/// records at most once, or, where a cube is kept, the changes that it is behind; where memory ran
+/// out before the first line it doesn't. It takes memory for the files, for what they say, for one
+/// table at a time, for at most 64 cubes or as many as `cache K` says, for the edits that are held,
+/// for at most 64 messages that wait, and for the next release while it is made.
 pub fn tablebuilder<F: Files, O: Sink, N: Listen + Send, D: Disk, L: Ledger>(
     rt: &(impl Threads + Wait + Sync),
     alloc: Global,
