@@ -9,7 +9,7 @@ use tb_top::read_command;
 // Arguments, which one blank parts, and whether they are a command's.
 type Row = (&'static str, bool);
 
-static ROWS: [Row; 91] = [
+static ROWS: [Row; 96] = [
     ("", false),
     ("help", false),
     ("help script", false),
@@ -66,6 +66,11 @@ static ROWS: [Row; 91] = [
     ("keep classes - ptable people 0 - script", false),
     ("keep classes - ptable people 0 journal -x", false),
     ("keep classes - ptable people 1000001 journal script", false),
+    ("follow classes - ptable people 0", false),
+    ("follow classes - ptable people 0 script", true),
+    ("follow classes - ptable people 0 script script", false),
+    ("follow classes - ptable people 1000001 script", false),
+    ("follow classes - ptable people 0 -x", false),
     ("serve classes - ptable people 0 5000 1", false),
     ("serve classes - ptable people 0 5000 1 1", true),
     ("serve classes - ptable people 0 5000 1 1 1", false),

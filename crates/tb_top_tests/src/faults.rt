@@ -40,11 +40,16 @@ static READINGS: [Readings; 7] = [
 // The arguments, how many bytes the sink takes, and these bytes.
 type Cut = (&'static str, usize, &'static [u8]);
 
-static CUTS: [Cut; 4] = [
+static CUTS: [Cut; 5] = [
     ("", 0, b""),
     ("", 5, b"fault"),
     (WITHOUT_RECODES, 0, b""),
     (WITHOUT_RECODES, 12, b"release 0\nSE"),
+    (
+        "follow classes - ptable people 0 script",
+        12,
+        b"release 0\nSE",
+    ),
 ];
 
 fn readings() -> &'static [Readings] {

@@ -1,6 +1,6 @@
 //! Tests of the top call over files and a sink in memory: worked runs and scripts, generated
-//! populations, files that are cut, readings and sinks that fail, tables of many places, arguments
-//! at each edge, and calls with ample memory.
+//! populations, scripts that a follower answers, files that are cut, readings and sinks that fail,
+//! tables of many places, arguments at each edge, and calls with ample memory.
 #![tactic(auto)]
 
 #[cfg(test)]
@@ -9,6 +9,8 @@ mod arguments;
 mod cuts;
 #[cfg(test)]
 mod faults;
+#[cfg(test)]
+mod follows;
 #[cfg(test)]
 mod generated;
 #[cfg(test)]

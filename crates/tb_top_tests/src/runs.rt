@@ -34,7 +34,7 @@ const WITH_KEY_24: &[u8] = b"pcv,ckey,pvalue\n3,64,-2\n1,7,1\n4,71,2\n3,127,3\n2
 const WIDE_PEOPLE: &[u8] = b"person,record_key,SEX,AGE,AREA\n101,4000,1,0-15,E1\n\
     102,100,1,16-64,E1\n103,20,1,65+,E2\n104,7,2,16-64,E2\n";
 
-static RUNS: [Over; 35] = [
+static RUNS: [Over; 39] = [
     ("one_variable", WITHOUT_RECODES, &[], 0, SEX),
     ("one_variable", WITH_RECODES, &[], 0, SEX),
     (
@@ -274,6 +274,34 @@ static RUNS: [Over; 35] = [
         &[("none", b"")],
         3,
         b"fault recodes 1 BadHeader 0\n",
+    ),
+    (
+        "a_follower",
+        "follow classes - ptable people 2 script",
+        &[],
+        0,
+        b"release 0\nSEX,count\n1,c\n2,2\n.\n",
+    ),
+    (
+        "a_follower",
+        "follow classes - ptable people 0 script",
+        &[("script", b"")],
+        0,
+        b"",
+    ),
+    (
+        "a_follower_over_files_at_fault",
+        "follow classes - ptable nobody 0 script",
+        &[],
+        7,
+        b"fault read people\n",
+    ),
+    (
+        "a_follower_over_files_at_fault",
+        "follow classes - ptable people 0 script",
+        &[("script", b"leader end\na table SEX\n!x\n")],
+        6,
+        b"fault script 3\n",
     ),
     (
         "a_service_without_sessions",

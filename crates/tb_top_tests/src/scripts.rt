@@ -1,13 +1,17 @@
 // Worked scripts over the small setup with its recodes.
 
 use super::running::{Run, WITH_RECODES, is_so};
+use std::alloc::Global;
+use std::sync::Wait;
 use std::test::Fail;
+use std::thread::Threads;
+use tb_base::Memory;
 
 // What a script shows, its bytes, and the replies.
-struct Script {
-    name: &'static str,
-    lines: &'static [u8],
-    replies: &'static [u8],
+pub struct Script {
+    pub name: &'static str,
+    pub lines: &'static [u8],
+    pub replies: &'static [u8],
 }
 
 static SCRIPTS: [Script; 22] = [
@@ -215,19 +219,30 @@ fn scripts() -> &'static [Script] {
     &SCRIPTS
 }
 
+// Whether a run with these arguments over the script writes its replies.
+pub fn is_replied(
+    rt: &(impl Threads + Wait + Sync),
+    alloc: Global,
+    arguments: &str,
+    script: &Script,
+) -> Result<bool, Memory> {
+    let others = [("script", script.lines)];
+    let run = Run {
+        arguments,
+        others: &others,
+        fails: &[],
+        bound: 700,
+        status: 0,
+        text: script.replies,
+    };
+    is_so(rt, alloc, &run)
+}
+
 #[test]
 fn worked_scripts(rt: HostRuntime) -> Result<(), Fail> {
     for script in scripts() {
-        let others = [("script", script.lines)];
-        let run = Run {
-            arguments: WITH_RECODES,
-            others: &others,
-            fails: &[],
-            bound: 700,
-            status: 0,
-            text: script.replies,
-        };
-        assert!(rt; is_so(&rt, rt.alloc(), &run)?, "{}", script.name);
+        let is = is_replied(&rt, rt.alloc(), WITH_RECODES, script)?;
+        assert!(rt; is, "{}", script.name);
     }
     Ok(())
 }
