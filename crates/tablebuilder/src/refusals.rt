@@ -11,6 +11,7 @@ pub enum Refusal<'a> {
     #[error("usage: tablebuilder script CLASSES RECODES PTABLE PEOPLE THRESHOLD SCRIPT\n       \
         tablebuilder lanes CLASSES RECODES PTABLE PEOPLE THRESHOLD SCRIPT\n       \
         tablebuilder keep CLASSES RECODES PTABLE PEOPLE THRESHOLD JOURNAL SCRIPT\n       \
+        tablebuilder follow CLASSES RECODES PTABLE PEOPLE THRESHOLD SCRIPT\n       \
         tablebuilder serve CLASSES RECODES PTABLE PEOPLE THRESHOLD PORT WORKERS SESSIONS\n       \
         tablebuilder gen N START")]
     Usage,
@@ -73,6 +74,7 @@ fn inputs_of<'c, 'a>(command: &'c Command<'a>) -> Option<&'c Inputs<'a>> {
             journal: _,
             script: _,
         } => Some(inputs),
+        Command::Follow { inputs, script: _ } => Some(inputs),
         Command::Serve { inputs, service: _ } => Some(inputs),
         Command::Gen { .. } => None,
     }
@@ -94,6 +96,7 @@ fn name_of<'a>(command: &Command<'a>, file: Input) -> Option<&'a str> {
                 journal: _,
                 script,
             } => Some(script.as_str()),
+            Command::Follow { inputs: _, script } => Some(script.as_str()),
             Command::Serve { .. } | Command::Gen { .. } => None,
         },
     }
@@ -109,6 +112,7 @@ fn journal_of<'a>(command: &Command<'a>) -> Option<&'a str> {
         } => Some(journal.as_str()),
         Command::Script { .. }
         | Command::Lanes { .. }
+        | Command::Follow { .. }
         | Command::Serve { .. }
         | Command::Gen { .. } => None,
     }
@@ -179,6 +183,7 @@ impl<'a> Refusal<'a> {
                 Command::Script { .. }
                 | Command::Lanes { .. }
                 | Command::Keep { .. }
+                | Command::Follow { .. }
                 | Command::Gen { .. } => None,
             },
             Status::Journal => of_journal(command?, line?),
