@@ -69,6 +69,8 @@ parsed words (inr (inl (values, is, len, plain))) =
 parsed words (inr (inr (inl (values, is, len, plain)))) =
     rw is (one_by_one 7 (Behind (codes "keep")) (λ a b c d e f g plain. behind 2 _ _ plain refl refl refl refl refl) values len plain)
 parsed words (inr (inr (inr (inl (values, is, len, plain))))) =
-    rw is (one_by_one 8 (Behind (codes "serve")) (λ a b c d e f g h plain. behind 3 _ _ plain refl refl refl refl refl) values len plain)
-parsed words (inr (inr (inr (inr (values, is, len, plain))))) =
-    rw is (one_by_one 2 (Behind (codes "gen")) (λ a b plain. behind 4 _ _ plain refl refl refl refl refl) values len plain)
+    rw is (one_by_one 6 (Behind (codes "follow")) (λ a b c d e f plain. behind 3 _ _ plain refl refl refl refl refl) values len plain)
+parsed words (inr (inr (inr (inr (inl (values, is, len, plain)))))) =
+    rw is (one_by_one 8 (Behind (codes "serve")) (λ a b c d e f g h plain. behind 4 _ _ plain refl refl refl refl refl) values len plain)
+parsed words (inr (inr (inr (inr (inr (values, is, len, plain)))))) =
+    rw is (one_by_one 2 (Behind (codes "gen")) (λ a b plain. behind 5 _ _ plain refl refl refl refl refl) values len plain)

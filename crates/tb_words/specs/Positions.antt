@@ -3,7 +3,8 @@
 use Rattle.std.specs.Prelude.{List, [], ◌∷◌, fold, codes, bytes_eq, true, if◌then◌else◌, map, Option, Some, None, unwrap_or}
 use Rattle.clap.specs.Words.{App, Row, Rule, Text, first_of, new_app, new_rule, with_rule, with_subcommand}
 
--- the names of the positions of each command: those of `script`, which are those of `lanes` too
+-- the names of the positions of each command: those of `script`, which are those of `lanes` and
+-- `follow` too
 abbrev pub script_positions : List Text
 script_positions =
     codes "CLASSES" ∷ codes "RECODES" ∷ codes "PTABLE" ∷ codes "PEOPLE" ∷ codes "THRESHOLD"
@@ -28,6 +29,7 @@ positions_of name =
     if bytes_eq name (codes "script") then script_positions
     else if bytes_eq name (codes "lanes") then script_positions
     else if bytes_eq name (codes "keep") then keep_positions
+    else if bytes_eq name (codes "follow") then script_positions
     else if bytes_eq name (codes "serve") then serve_positions
     else gen_positions
 
@@ -60,9 +62,10 @@ with_command a name positions = with_subcommand a (command_with name positions).
 
 abbrev pub program : App
 program =
-    with_command (with_command (with_command (with_command (with_command bare_program
+    with_command (with_command (with_command (with_command (with_command (with_command bare_program
     (codes "script") script_positions) (codes "lanes") script_positions)
-    (codes "keep") keep_positions) (codes "serve") serve_positions) (codes "gen") gen_positions
+    (codes "keep") keep_positions) (codes "follow") script_positions)
+    (codes "serve") serve_positions) (codes "gen") gen_positions
 
 -- what stands at a position
 abbrev pub value_at : List Row → Text → Text

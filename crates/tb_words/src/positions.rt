@@ -10,7 +10,7 @@ ghost use Rattle.tb_words.specs.Words.{AreCommand};
 use clap::{Arg, ArgMatches, Command, Error};
 use std::alloc::{AllocError, Global};
 
-static COMMANDS: [&str; 5] = ["script", "lanes", "keep", "serve", "gen"];
+static COMMANDS: [&str; 6] = ["script", "lanes", "keep", "follow", "serve", "gen"];
 
 static SCRIPT: [&str; 6] = [
     "CLASSES",
@@ -54,6 +54,8 @@ pub(crate) fn positions_of(name: &str) -> &'static [&'static str]
         SCRIPT.as_slice()
     } else if name == "keep" {
         KEEP.as_slice()
+    } else if name == "follow" {
+        SCRIPT.as_slice()
     } else if name == "serve" {
         SERVE.as_slice()
     } else {
