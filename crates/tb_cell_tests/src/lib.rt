@@ -1,6 +1,6 @@
 //! Tests of releases and cubes: batches of edits, also of records and rules mixed, pages and their
-//! stamps, columns, tallies, key sums, cubes, runs of events and the recency list, worked by hand
-//! over the small setup. Their calls have ample memory.
+//! stamps, columns, tallies, key sums, cubes, past releases, runs of events and the recency list,
+//! worked by hand over the small setup. Their calls have ample memory.
 //!
 //! They call public functions alone. Tests stand in crates of their own since a crate that has
 //! tests is proved twice. Whole runs stand in `tablebuilder`.
@@ -22,6 +22,8 @@ mod mixed_batches;
 mod packed_cubes;
 #[cfg(test)]
 mod pages;
+#[cfg(test)]
+mod past_releases;
 #[cfg(test)]
 mod pieces;
 #[cfg(test)]
