@@ -248,6 +248,7 @@ def others(runs):
     runs.run(here, "fault people 5 PersonTwice 2\n", said, 5)
     serve = ["serve", *here[1:6], "4000", "1", "1"]
     runs.run(serve, "fault people 5 PersonTwice 2\n", said, 5)
+    runs.run(["follow", *here[1:]], "fault people 5 PersonTwice 2\n", said, 5)
     with socket.socket() as taken:
         taken.bind(("127.0.0.1", 0))
         taken.listen()
