@@ -17,8 +17,8 @@ import bench
 
 # How many messages of one amend come in order, beside as many batches of a script; and how many
 # come so that all wait for the first, which comes last, in how many rounds.
-IN_ORDER, WAITING, ROUNDS = 1_000, 64, 16
-TURNS = 9
+IN_ORDER, WAITING, ROUNDS = 8_000, 64, 125
+TURNS = 7
 # What a message may take beside a `publish`, and one that waited beside one in order.
 MOST_MESSAGE, MOST_WAITED = 1.2, 1.1
 TABLE = "a table SEX\n"
