@@ -60,8 +60,8 @@ class Refused(Error):
     word : str
         The fault's word, such as ``UnknownName``.
     position : int or None
-        Of a query: the token at fault, from 1, or the byte for ``NotText``. None where the fault
-        has no place, and for edits.
+        Of a query: the token at fault, from 1, or the byte for ``NotText``; for ``NoSuchRelease``
+        the number of the last release. None where the fault has no place, and for edits.
     edit : int or None
         Of `Session.publish`: the edit that can't be made, from 1; 0 where it is for all of them
         together. None for queries and for an edit's own line.
@@ -227,6 +227,7 @@ class Session:
         where: Optional[str] = None,
         totals: bool = False,
         labels: bool = False,
+        at: Optional[int] = None,
     ) -> Table:
         """A table.
 
@@ -239,6 +240,10 @@ class Session:
             The filters, as ``AGE in (16-64, 65+) and SEX not in (1)``.
         totals, labels : bool
             Whether to add totals, and to give labels in place of a variable's codes.
+        at : int, optional
+            The number of the release over which to count; None counts over the current one. Where
+            there is no such release, `Refused` has the word ``NoSuchRelease`` and as its position
+            the number of the last one.
         """
         words = query.split(None, 1)
         if words and words[0] == "table":
@@ -250,6 +255,8 @@ class Session:
             line += f" where {where}" if where is not None else ""
             line += " with totals" if totals else ""
             line += " with labels" if labels else ""
+        if at is not None:
+            line = f"at {at} {line}"
         reply = self._reply(line)
         try:
             return _table(reply)

@@ -197,6 +197,14 @@ class Custodians(unittest.TestCase):
             session.set_threshold(0)
             session.publish()
             self.assertEqual(other.table("SEX").counts, [1, 2])
+            # Each release has its own rules still.
+            for number, counts in enumerate([[1, 2], [8, None], [1, 2]], release):
+                table = other.table("SEX", at=number)
+                self.assertEqual((table.release, table.counts), (number, counts))
+            with self.assertRaises(Refused) as caught:
+                other.table("SEX", at=release + 3)
+            told = (caught.exception.number, caught.exception.word, caught.exception.position)
+            self.assertEqual(told, (10, "NoSuchRelease", release + 2))
 
     def test_kept_cubes(self):
         with custodian("NEW") as session, analyst("NEW") as other:

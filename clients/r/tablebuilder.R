@@ -22,8 +22,9 @@
 #
 #     tb_refused      the server refused the line, for its first fault. It has the `line`, the
 #                     fault's `number` and `word`, its `position` (of a query: the token, from 1, or
-#                     the byte for NotText; else NA) and, of tb_publish, the `edit` that can't be
-#                     made (from 1; 0 for all of them together; else NA). The session goes on.
+#                     the byte for NotText; for NoSuchRelease the number of the last release; else
+#                     NA) and, of tb_publish, the `edit` that can't be made (from 1; 0 for all of
+#                     them together; else NA). The session goes on.
 #     tb_memory       the server had no memory for the reply. Nothing has changed, and the same may
 #                     be tried again.
 #     tb_ended        the session has ended: it was closed, or the server went away.
@@ -62,10 +63,11 @@ tb_close <- function(session) {
 #'   then has its filters and the rest in it.
 #' @param where The filters, as "AGE in (16-64, 65+) and SEX not in (1)".
 #' @param totals,labels Whether to add totals, and to give labels in place of a variable's codes.
+#' @param at The number of the release over which to count, else the current one.
 #' @return A data frame with a column of text for each dimension (a code, a group or a label, or
 #'   "Total") and the integer column `count`, which is NA where the server shows "c", since the count
 #'   is below its threshold. The attribute "release" is the release's number.
-tb_table <- function(session, query, where = NULL, totals = FALSE, labels = FALSE) {
+tb_table <- function(session, query, where = NULL, totals = FALSE, labels = FALSE, at = NULL) {
   line <- query
   if (!grepl("^[ \t]*table([ \t]|$)", query)) {
     line <- paste0(
@@ -77,6 +79,7 @@ tb_table <- function(session, query, where = NULL, totals = FALSE, labels = FALS
   } else if (!is.null(where) || totals || labels) {
     stop("a whole query has its filters, totals and labels in it")
   }
+  if (!is.null(at)) line <- paste("at", tb_digits(at), line)
   reply <- tb_reply(session, line)
   last <- length(reply)
   if (last < 4 || !grepl("^release [0-9]+$", reply[1])) tb_expect_another(session, reply)

@@ -182,6 +182,13 @@ tests <- list(
     tb_set_threshold(session, 0)
     tb_publish(session)
     expect(tb_table(other, "SEX")$count, c(1L, 2L))
+    # Each release has its own rules still.
+    expect(tb_table(other, "SEX", at = release)$count, c(1L, 2L))
+    expect(tb_table(other, "SEX", at = release + 1), table)
+    expect_refused(
+      tb_table(other, "SEX", at = release + 3), 10, "NoSuchRelease",
+      position = release + 2
+    )
     tb_close(session)
     tb_close(other)
   },

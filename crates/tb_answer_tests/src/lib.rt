@@ -1,5 +1,6 @@
 //! Tests of lines that are answered over a board: the worked scripts, a cube that is built while
-//! another caller is answered, a cube of more variables, and a sink that fails.
+//! another caller is answered, a cube of more variables, a table at each of 50 releases, and a sink
+//! that fails.
 #![tactic(auto)]
 
 #[cfg(test)]
@@ -8,6 +9,8 @@ mod asking;
 mod gates;
 #[cfg(test)]
 mod making;
+#[cfg(test)]
+mod past;
 #[cfg(test)]
 mod scripts;
 #[cfg(test)]

@@ -24,7 +24,7 @@ struct Row {
     replies: &'static [u8],
 }
 
-static ROWS: [Row; 3] = [
+static ROWS: [Row; 5] = [
     Row {
         name: "cache_and_price",
         script: b"custodian cache 1\na table SEX\na table AREA\na table AREA\ncustodian drop 104\n\
@@ -51,6 +51,26 @@ static ROWS: [Row; 3] = [
             custodian table SEX\n",
         replies: b"release 0\nSEX,count\n1,1\n2,2\n.\nheld 1\npublished 1\ncache 2\nrelease 1\n\
             SEX,count\n1,1\n2,0\n.\n",
+    },
+    Row {
+        name: "past_releases",
+        script: b"custodian drop 104\ncustodian publish\na at 0 table SEX\na at 1 table SEX\n\
+            a at 2 table SEX\na at x table SEX\na at 0 table FOO\n",
+        replies: b"held 1\npublished 1\nrelease 0\nSEX,count\n1,1\n2,2\n.\nrelease 1\nSEX,count\n\
+            1,1\n2,0\n.\nrefused 10 NoSuchRelease 1\nrefused 2 Syntax 1\nrefused 3 UnknownName 2\n",
+    },
+    // A number may have leading zeros; without a query, with a comment or another `at` behind it,
+    // or with a bracket at its end, it is no query. A look counts, also where the number is too
+    // large, and not where the query has a fault.
+    Row {
+        name: "past_lines",
+        script: b"custodian  at\t007 table SEX\na at 00 table SEX\na at 0\na at 0 #x\n\
+            a at 0 at 0 table SEX\na at 0table SEX\na at\ncustodian at 4294967296 table SEX\n\
+            custodian stats\n",
+        replies: b"refused 10 NoSuchRelease 0\nrelease 0\nSEX,count\n1,1\n2,2\n.\n\
+            refused 2 Syntax 1\nrefused 2 Syntax 1\nrefused 2 Syntax 1\nrefused 2 Syntax 1\n\
+            refused 2 Syntax 1\nrefused 2 Syntax 1\n\
+            stats release 0 looks 2 hits 0 entries 1 capacity 64\n",
     },
 ];
 

@@ -38,18 +38,19 @@ by-publish base old next text (counts, inr (inr (inr (is, same, inl (batches, fu
 by-publish base old next text (counts, inr (inr (inr (is, same, inr (can, (none, batches, further)))))) theirs = ap chain_of same ∙ theirs ∙ sym (ap (batches_of base) batches)
 
 -- a reply to another line
-same-chain : (what : Asks) (setup : SetupValue) (release : ReleaseValue) (state : StateValue) (line : List ℕ) (reply : ReplyValue) (next : StateValue) → is_publish what ≡ false
-    → IsReplyTo what setup release state line reply next → next.chain ≡ state.chain
-same-chain asks.Nothing setup release state line reply next h is = ap chain_of is.1
-same-chain asks.Table setup release state line reply next h is = ap chain_of is.1
-same-chain asks.Edit setup release state line reply next h is = is.1
-same-chain asks.Publish setup release state line reply next h is = absurd (cc)
-same-chain asks.Stats setup release state line reply next h is = ap chain_of is.2
-same-chain asks.Clear setup release state line reply next h is = ap chain_of is.1
-same-chain (asks.Cache capacity) setup release state line reply next h is = ap chain_of is.2
+same-chain : (what : Asks) (setup : SetupValue) (base : ReleaseValue) (state : StateValue) (line : List ℕ) (reply : ReplyValue) (next : StateValue) → is_publish what ≡ false
+    → IsReplyTo what setup base state line reply next → next.chain ≡ state.chain
+same-chain asks.Nothing setup base state line reply next h is = ap chain_of is.1
+same-chain asks.Table setup base state line reply next h is = ap chain_of is.1
+same-chain (asks.At n) setup base state line reply next h is = ap chain_of is.1
+same-chain asks.Edit setup base state line reply next h is = is.1
+same-chain asks.Publish setup base state line reply next h is = absurd (cc)
+same-chain asks.Stats setup base state line reply next h is = ap chain_of is.2
+same-chain asks.Clear setup base state line reply next h is = ap chain_of is.1
+same-chain (asks.Cache capacity) setup base state line reply next h is = ap chain_of is.2
 
 own-chain : (setup : SetupValue) (base : ReleaseValue) (old : StateValue) (line : List ℕ) (reply : ReplyValue) (new : StateValue) → asks_to_publish line ≡ false → IsOwnStep setup base old line reply new → new.chain ≡ old.chain
-own-chain setup base old line reply new h (at, same, is) = same-chain (asks_of role.Custodian line) setup _ at line reply new h is ∙ ap chain_of same
+own-chain setup base old line reply new h (at, same, is) = same-chain (asks_of role.Custodian line) setup base at line reply new h is ∙ ap chain_of same
 
 by-line : (asks : Bool) (setup : SetupValue) (base : ReleaseValue) (old next : KeptState) (line : List ℕ) (reply : ReplyValue) → asks_to_publish line ≡ asks → IsKeptStep asks (IsOwnStep setup base) base old line reply next → IsTheirs base old → IsTheirs base next
 by-line true setup base old next line reply h step theirs = by-publish base old next reply.text step.1 theirs

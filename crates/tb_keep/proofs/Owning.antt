@@ -69,23 +69,24 @@ none-held : (next : StateValue) (chain : _) → next ≡ record { chain = chain;
 none-held next chain goes = subst AreWritable (sym goes) (All-nil CanBeWritten)
 
 -- whatever the line asks for, each that is held after it can be written
-writable-after : (what : Asks) (setup : SetupValue) (release : ReleaseValue) (state : StateValue) (line : List ℕ) (reply : ReplyValue) (next : StateValue) → length setup.schema.variables ≤ MOST_PARTS
-    → IsReplyTo what setup release state line reply next → AreWritable state → AreWritable next
-writable-after asks.Nothing setup release state line reply next few is held = subst AreWritable (sym is.1) held
-writable-after asks.Table setup release state line reply next few is held = subst AreWritable (sym is.1) held
-writable-after asks.Edit setup release state line reply next few (price, chain, inl (edit, reads, room, text, after)) held =
+writable-after : (what : Asks) (setup : SetupValue) (base : ReleaseValue) (state : StateValue) (line : List ℕ) (reply : ReplyValue) (next : StateValue) → length setup.schema.variables ≤ MOST_PARTS
+    → IsReplyTo what setup base state line reply next → AreWritable state → AreWritable next
+writable-after asks.Nothing setup base state line reply next few is held = subst AreWritable (sym is.1) held
+writable-after asks.Table setup base state line reply next few is held = subst AreWritable (sym is.1) held
+writable-after (asks.At n) setup base state line reply next few is held = subst AreWritable (sym is.1) held
+writable-after asks.Edit setup base state line reply next few (price, chain, inl (edit, reads, room, text, after)) held =
     subst AreThese (sym after) (All-push CanBeWritten state.held edit held (can_be_written setup.schema line edit few reads))
-writable-after asks.Edit setup release state line reply next few (price, chain, inr (same, why)) held = subst AreThese (sym same) held
-writable-after asks.Publish setup release state line reply next few (price, inl (can, text, goes)) held = none-held next _ goes
-writable-after asks.Publish setup release state line reply next few (price, inr (inl (kind, edit, why, text, goes))) held = none-held next _ goes
-writable-after asks.Publish setup release state line reply next few (price, inr (inr (text, same))) held = subst AreWritable (sym same) held
-writable-after asks.Stats setup release state line reply next few is held = subst AreWritable (sym is.2) held
-writable-after asks.Clear setup release state line reply next few is held = subst AreWritable (sym is.1) held
-writable-after (asks.Cache capacity) setup release state line reply next few is held = subst AreWritable (sym is.2) held
+writable-after asks.Edit setup base state line reply next few (price, chain, inr (same, why)) held = subst AreThese (sym same) held
+writable-after asks.Publish setup base state line reply next few (price, inl (can, text, goes)) held = none-held next _ goes
+writable-after asks.Publish setup base state line reply next few (price, inr (inl (kind, edit, why, text, goes))) held = none-held next _ goes
+writable-after asks.Publish setup base state line reply next few (price, inr (inr (text, same))) held = subst AreWritable (sym same) held
+writable-after asks.Stats setup base state line reply next few is held = subst AreWritable (sym is.2) held
+writable-after asks.Clear setup base state line reply next few is held = subst AreWritable (sym is.1) held
+writable-after (asks.Cache capacity) setup base state line reply next few is held = subst AreWritable (sym is.2) held
 
 stays-writable : (setup : SetupValue) (base : ReleaseValue) (old : StateValue) (line : List ℕ) (reply : ReplyValue) (new : StateValue) → length setup.schema.variables ≤ MOST_PARTS
     → IsOwnStep setup base old line reply new → AreWritable old → AreWritable new
-stays-writable setup base old line reply new few (at, same, is) held = writable-after (asks_of role.Custodian line) setup _ at line reply new few is (subst AreWritable (sym same) held)
+stays-writable setup base old line reply new few (at, same, is) held = writable-after (asks_of role.Custodian line) setup base at line reply new few is (subst AreWritable (sym same) held)
 
 abbrev IsCustodian : Role → Type 0
 IsCustodian role.Analyst = ⊥

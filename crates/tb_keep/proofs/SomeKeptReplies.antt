@@ -23,20 +23,21 @@ use Rattle.tb_keep.specs.KeptRuns.{IsKeptReply, IsKeptRun, IsKeptStepOf}
 use Rattle.tb_keep.specs.Publishers.{IsOwnStep, asks_to_publish}
 
 -- what has some reply has one after which the party stands where it stood
-stays_by : (what : Asks) (setup : SetupValue) (release : ReleaseValue) (state : StateValue) (line : List ℕ) (reply : ReplyValue) (next : StateValue) → IsReplyTo what setup release state line reply next
-    → (other : ReplyValue) × IsReplyTo what setup release state line other state
-stays_by asks.Nothing setup release state line reply next (is, same) = (reply, (is, refl))
-stays_by asks.Table setup release state line reply next (is, same) = (reply, (is, refl))
-stays_by asks.Edit setup release state line reply next is = (free_reply memory_line, (refl, refl, inr (refl, inr (inr refl))))
-stays_by asks.Publish setup release state line reply next is = (free_reply memory_line, (refl, inr (inr (refl, refl))))
-stays_by asks.Stats setup release state line reply next (price, is, same) = (reply, (price, is, refl))
-stays_by asks.Clear setup release state line reply next (is, same) = (reply, (is, refl))
-stays_by (asks.Cache capacity) setup release state line reply next (price, is, same) = (reply, (price, is, refl))
+stays_by : (what : Asks) (setup : SetupValue) (base : ReleaseValue) (state : StateValue) (line : List ℕ) (reply : ReplyValue) (next : StateValue) → IsReplyTo what setup base state line reply next
+    → (other : ReplyValue) × IsReplyTo what setup base state line other state
+stays_by asks.Nothing setup base state line reply next (is, same) = (reply, (is, refl))
+stays_by asks.Table setup base state line reply next (is, same) = (reply, (is, refl))
+stays_by (asks.At n) setup base state line reply next (is, same) = (reply, (is, refl))
+stays_by asks.Edit setup base state line reply next is = (free_reply memory_line, (refl, refl, inr (refl, inr (inr refl))))
+stays_by asks.Publish setup base state line reply next is = (free_reply memory_line, (refl, inr (inr (refl, refl))))
+stays_by asks.Stats setup base state line reply next (price, is, same) = (reply, (price, is, refl))
+stays_by asks.Clear setup base state line reply next (is, same) = (reply, (is, refl))
+stays_by (asks.Cache capacity) setup base state line reply next (price, is, same) = (reply, (price, is, refl))
 
 module _ (setup : SetupValue) (base : ReleaseValue) where
   -- each line has
   stays : (who : Role) (state : StateValue) (line : List ℕ) → (reply : ReplyValue) × IsReply who setup base state line reply state
-  stays who state line = let (reply, next, is) = some_reply who setup base state line in stays_by (asks_of who line) setup _ state line reply next is
+  stays who state line = let (reply, next, is) = some_reply who setup base state line in stays_by (asks_of who line) setup base state line reply next is
 
   -- to `publish` of a custodian who writes ahead it is that memory was refused, and nothing put
   own_stays : (asks : Bool) (s : KeptState) (line : List ℕ) → (reply : ReplyValue) × IsKeptStep asks (IsOwnStep setup base) base s line reply s

@@ -22,17 +22,18 @@ never : false ≡ true → ⊥
 never h = subst IsFalseBit h tt
 
 -- the reply to what asks to publish goes by the held edits and the release
-of_publish : (what : Asks) (setup : SetupValue) (release : ReleaseValue) (state : StateValue)
+of_publish : (what : Asks) (setup : SetupValue) (base : ReleaseValue) (state : StateValue)
     (line : List ℕ) (reply : ReplyValue) (next : StateValue) → is_publish what ≡ true
-    → IsReplyTo what setup release state line reply next
-    → (reply.price ≡ 0) × IsPublishReply release state reply.text next
-of_publish asks.Nothing setup release state line reply next h is = absurd (never h)
-of_publish asks.Table setup release state line reply next h is = absurd (never h)
-of_publish asks.Edit setup release state line reply next h is = absurd (never h)
-of_publish asks.Publish setup release state line reply next h is = is
-of_publish asks.Stats setup release state line reply next h is = absurd (never h)
-of_publish asks.Clear setup release state line reply next h is = absurd (never h)
-of_publish (asks.Cache capacity) setup release state line reply next h is = absurd (never h)
+    → IsReplyTo what setup base state line reply next
+    → (reply.price ≡ 0) × IsPublishReply (release_after base state.chain) state reply.text next
+of_publish asks.Nothing setup base state line reply next h is = absurd (never h)
+of_publish asks.Table setup base state line reply next h is = absurd (never h)
+of_publish (asks.At n) setup base state line reply next h is = absurd (never h)
+of_publish asks.Edit setup base state line reply next h is = absurd (never h)
+of_publish asks.Publish setup base state line reply next h is = is
+of_publish asks.Stats setup base state line reply next h is = absurd (never h)
+of_publish asks.Clear setup base state line reply next h is = absurd (never h)
+of_publish (asks.Cache capacity) setup base state line reply next h is = absurd (never h)
 
 -- and so does that to such a line
 pub own_publishing : (setup : SetupValue) (base : ReleaseValue) (old : StateValue) (line : List ℕ)
@@ -40,6 +41,6 @@ pub own_publishing : (setup : SetupValue) (base : ReleaseValue) (old : StateValu
     → IsOwnStep setup base old line reply new
     → (reply.price ≡ 0) × IsPublishReply (release_after base old.chain) old reply.text new
 own_publishing setup base old line reply new so (at, same, is) =
-    of_publish (asks_of role.Custodian line) setup (release_after base old.chain) old line reply new
-    so (subst (λ (s : StateValue). IsReplyTo (asks_of role.Custodian line) setup
-    (release_after base s.chain) s line reply new) same is)
+    of_publish (asks_of role.Custodian line) setup base old line reply new so
+    (subst (λ (s : StateValue). IsReplyTo (asks_of role.Custodian line) setup base s line reply new)
+    same is)

@@ -23,6 +23,7 @@ pub record CanWriteAhead (name : Name) (shape : List ℕ) (party : Party) : Type
 abbrev pub is_publish : Asks → Bool
 is_publish asks.Nothing = false
 is_publish asks.Table = false
+is_publish (asks.At n) = false
 is_publish asks.Edit = false
 is_publish asks.Publish = true
 is_publish asks.Stats = false

@@ -73,8 +73,13 @@ impl<'a, B: Named, R: Threads + Wait + Sync, G: Gate> Publisher<Setting<'a, B, R
     fn asks_to_publish(&self, line: &[u8]) -> bool {
         match asks_of(Role::Custodian, line) {
             Asks::Publish => true,
-            Asks::Nothing | Asks::Table | Asks::Edit | Asks::Stats | Asks::Clear | Asks::Cache(_) =>
-                false,
+            Asks::Nothing
+            | Asks::Table
+            | Asks::At(_)
+            | Asks::Edit
+            | Asks::Stats
+            | Asks::Clear
+            | Asks::Cache(_) => false,
         }
     }
 

@@ -7,7 +7,6 @@ use Rattle.tb_lanes.specs.Phases.{LaneGoes, PhaseGoes, PhasesGo, Progress, Stand
 use Rattle.tb_lanes.proofs.Going.{AreBehind, advanced, one_more}
 use Rattle.tb_model.specs.Releases.{ReleaseValue}
 use Rattle.tb_model.specs.Setups.{SetupValue}
-use Rattle.tb_release.specs.Chains.{release_after}
 use Rattle.tb_script.specs.Scripts.{ScriptValue, role_of_lane}
 use Rattle.tb_session.specs.Asks.{asks_of}
 use Rattle.tb_session.specs.declared.asks.Asks.{Asks}
@@ -23,13 +22,14 @@ use Rattle.tb_tables.specs.Answers.{free_reply}
 use Rattle.tb_tables.specs.ReplyLines.{memory_line}
 
 -- a reply to a line after which the party stands where it stood
-reply_in_place : (what : Asks) (setup : SetupValue) (release : ReleaseValue) (state : StateValue) (line : List ℕ)
-    → (reply : ReplyValue) × IsReplyTo what setup release state line reply state
-reply_in_place asks.Nothing setup release state line = (free_reply [], (refl, refl))
-reply_in_place asks.Table setup release state line = (free_reply memory_line, (inr (refl, inr refl), refl))
-reply_in_place asks.Edit setup release state line = (free_reply memory_line, (refl, refl, inr (refl, inr (inr refl))))
-reply_in_place asks.Publish setup release state line = (free_reply memory_line, (refl, inr (inr (refl, refl))))
-reply_in_place asks.Stats setup release state line =
+reply_in_place : (what : Asks) (setup : SetupValue) (base : ReleaseValue) (state : StateValue) (line : List ℕ)
+    → (reply : ReplyValue) × IsReplyTo what setup base state line reply state
+reply_in_place asks.Nothing setup base state line = (free_reply [], (refl, refl))
+reply_in_place asks.Table setup base state line = (free_reply memory_line, (inr (refl, inr refl), refl))
+reply_in_place (asks.At n) setup base state line = (free_reply memory_line, (inr (refl, inr refl), refl))
+reply_in_place asks.Edit setup base state line = (free_reply memory_line, (refl, refl, inr (refl, inr (inr refl))))
+reply_in_place asks.Publish setup base state line = (free_reply memory_line, (refl, inr (inr (refl, refl))))
+reply_in_place asks.Stats setup base state line =
     let stats : Stats = record { release = length state.chain; looks = 0; hits = 0; entries = 0; capacity = 1 } in (
       free_reply (stats_line stats),
       (
@@ -48,8 +48,8 @@ reply_in_place asks.Stats setup release state line =
         refl,
       ),
     )
-reply_in_place asks.Clear setup release state line = (free_reply cleared_line, (refl, refl))
-reply_in_place (asks.Cache capacity) setup release state line = (free_reply memory_line, (refl, inr refl, refl))
+reply_in_place asks.Clear setup base state line = (free_reply cleared_line, (refl, refl))
+reply_in_place (asks.Cache capacity) setup base state line = (free_reply memory_line, (refl, inr refl, refl))
 
 sees_itself : (who : Role) (state : StateValue) → Sees who state state
 sees_itself role.Analyst state = (prefix_self state.chain, refl)
@@ -60,7 +60,7 @@ stays : (who : Role) (setup : SetupValue) (base : ReleaseValue) (state : StateVa
     → (replies : List ReplyValue) × IsLegal who setup base state lines replies state
 stays who setup base state [] = ([], refl)
 stays who setup base state (line ∷ lines) =
-    let (reply, is) = reply_in_place (asks_of who line) setup (release_after base state.chain) state line in
+    let (reply, is) = reply_in_place (asks_of who line) setup base state line in
     let (replies, others) = stays who setup base state lines in
     (reply ∷ replies, (state, (state, sees_itself who state, is), others))
 

@@ -18,7 +18,7 @@ struct Row {
     text: &'static [u8],
 }
 
-static ROWS: [Row; 6] = [
+static ROWS: [Row; 7] = [
     Row {
         name: "no_line_at_all",
         script: b"",
@@ -53,6 +53,16 @@ static ROWS: [Row; 6] = [
         script: b"b publish\n--\na publish\nb publish\n",
         text: b"phase 1\nlane b\nrefused 2 Syntax 1\nphase 2\nlane b\nrefused 2 Syntax 1\n\
             lane a\nrefused 2 Syntax 1\n",
+    },
+    // Beside a publication or after it, a table of an earlier release is the same.
+    Row {
+        name: "past_beside_a_publication",
+        script: b"custodian drop 104\ncustodian publish\na at 0 table SEX\nb at 0 table SEX\n--\n\
+            a at 1 table SEX\nb at 0 table SEX\nb at 2 table SEX\ncustodian at 0 table SEX\n",
+        text: b"phase 1\nlane custodian\nheld 1\npublished 1\nlane a\nrelease 0\nSEX,count\n1,1\n\
+            2,2\n.\nlane b\nrelease 0\nSEX,count\n1,1\n2,2\n.\nphase 2\nlane custodian\n\
+            release 0\nSEX,count\n1,1\n2,2\n.\nlane a\nrelease 1\nSEX,count\n1,1\n2,0\n.\n\
+            lane b\nrelease 0\nSEX,count\n1,1\n2,2\n.\nrefused 10 NoSuchRelease 1\n",
     },
 ];
 

@@ -1,6 +1,7 @@
 -- An analyst's reply, over the batches that were seen.
 use Rattle.std.proofs.Common.{◌≡◌, subst, refl, ℕ, Bool, true, false, List}
-use Rattle.std.specs.Prelude.{if◌then◌else◌}
+use Rattle.std.specs.Prelude.{if◌then◌else◌, Option, Some, None}
+use Rattle.tb_base.specs.Words.{words_of}
 use Rattle.tb_board.specs.Holders.{HolderValue}
 use Rattle.tb_front.specs.Holders.{IsLater, Name}
 use Rattle.tb_model.specs.Releases.{ReleaseValue}
@@ -11,28 +12,30 @@ use Rattle.tb_lines.specs.Lines.{is_passed_over}
 use Rattle.tb_lines.specs.Outputs.{ReplyValue}
 use Rattle.tb_session.specs.Parties.{IsAnalystOf, IsBehind, IsPartyOf, seen_by}
 use Rattle.tb_ahead.specs.Publishing.{StateValue}
-use Rattle.tb_session.specs.Replies.{IsReply, IsReplyTo, table_price}
+use Rattle.tb_session.specs.Asks.{asks_at_or}
+use Rattle.tb_session.specs.PastLines.{past_number, past_query}
+use Rattle.tb_session.specs.PastTables.{IsPastAnswer}
+use Rattle.tb_session.specs.Replies.{IsReply, IsReplyTo, IsTableReply}
 use Rattle.tb_session.specs.declared.asks.Asks.TheVariants as asks
 use Rattle.tb_session.specs.declared.party.Party.{Party}
 use Rattle.tb_session.specs.declared.party.Party.TheVariants as party
 use Rattle.tb_session.specs.declared.party.Role.TheVariants as role
-use Rattle.tb_tables.specs.Answers.{IsAnswer}
 
 -- an analyst's reply changes nothing, and is one wherever the same batches were seen
-over_any : (over : Bool) (setup : SetupValue) (base : ReleaseValue) (at after state : StateValue) (line : List ℕ) (reply : ReplyValue) → at.chain ≡ state.chain
-    → IsReplyTo (if over then asks.Nothing else asks.Table) setup (release_after base at.chain) at line reply after
-    → (after ≡ at) × IsReplyTo (if over then asks.Nothing else asks.Table) setup (release_after base state.chain) state line reply state
-over_any true setup base at after state line reply same (is, goes) = (goes, (is, refl))
-over_any false setup base at after state line reply same (is, goes) =
-    (goes, (subst (λ (chain : List BatchValue). IsAnswer setup (release_after base chain) (table_price setup (release_after base chain)) line reply) same is, refl))
+over_any : (over : Bool) (number : Option ℕ) (setup : SetupValue) (base : ReleaseValue) (at after state : StateValue) (line : List ℕ) (reply : ReplyValue) → at.chain ≡ state.chain
+    → IsReplyTo (if over then asks.Nothing else asks_at_or number asks.Table) setup base at line reply after
+    → (after ≡ at) × IsReplyTo (if over then asks.Nothing else asks_at_or number asks.Table) setup base state line reply state
+over_any true number setup base at after state line reply same (is, goes) = (goes, (is, refl))
+over_any false None setup base at after state line reply same (is, goes) = (goes, (subst (λ (chain : List BatchValue). IsTableReply setup (release_after base chain) line reply) same is, refl))
+over_any false (Some n) setup base at after state line reply same (is, goes) = (goes, (subst (λ (chain : List BatchValue). IsPastAnswer setup base chain n (past_query line) reply) same is, refl))
 
 -- so it changes nothing
 pub analyst_stays : (setup : SetupValue) (base : ReleaseValue) (at after : StateValue) (line : List ℕ) (reply : ReplyValue) → IsReply role.Analyst setup base at line reply after → after ≡ at
-analyst_stays setup base at after line reply is = (over_any (is_passed_over line) setup base at after at line reply refl is).0
+analyst_stays setup base at after line reply is = (over_any (is_passed_over line) (past_number (words_of line)) setup base at after at line reply refl is).0
 
 -- and is one wherever they were
 pub analyst_anywhere : (setup : SetupValue) (base : ReleaseValue) (at after state : StateValue) (line : List ℕ) (reply : ReplyValue) → at.chain ≡ state.chain → IsReply role.Analyst setup base at line reply after → IsReply role.Analyst setup base state line reply state
-analyst_anywhere setup base at after state line reply same is = (over_any (is_passed_over line) setup base at after state line reply same is).1
+analyst_anywhere setup base at after state line reply same is = (over_any (is_passed_over line) (past_number (words_of line)) setup base at after state line reply same is).1
 
 -- ---- parties whose pass is confirmed
 pub party_front : (name : Name) (shape : List ℕ) (p : Party) → IsPartyOf name shape p → (seen_by p).name ≡ name

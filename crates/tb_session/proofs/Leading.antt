@@ -1,6 +1,7 @@
 -- Where a line leads, by what it asks for.
 use Rattle.std.proofs.Common.{◌≡◌, ◌∙◌, length, refl, sym, ap, subst, ℕ, ◌+◌, ◌≤◌, Bool, true, false, List, [], arith}
-use Rattle.std.specs.Prelude.{if◌then◌else◌}
+use Rattle.std.specs.Prelude.{if◌then◌else◌, Option, Some, None}
+use Rattle.tb_base.specs.Words.{words_of}
 use Rattle.tb_board.specs.Custodians.{CustodianValue, IsWhole}
 use Rattle.tb_board.specs.Holders.{HolderValue, release_seen}
 use Rattle.tb_board.specs.Starts.{StartValue}
@@ -12,7 +13,7 @@ use Rattle.tb_model.specs.Releases.{ReleaseValue}
 use Rattle.tb_model.specs.Setups.{SetupValue}
 use Rattle.tb_release.specs.Chains.{release_after}
 use Rattle.tb_release.specs.declared.edits.Edit.{Edit}
-use Rattle.tb_session.specs.Asks.{asks_of}
+use Rattle.tb_session.specs.Asks.{asks_at_or, asks_of}
 use Rattle.tb_session.specs.declared.asks.Asks.{Asks}
 use Rattle.tb_session.specs.declared.asks.Asks.TheVariants as asks
 use Rattle.tb_session.specs.declared.party.Role.{Role}
@@ -20,16 +21,18 @@ use Rattle.tb_session.specs.declared.party.Role.TheVariants as role
 use Rattle.tb_lines.specs.Lines.{is_passed_over}
 use Rattle.tb_session.specs.Parties.{Leads, PublishLeads, state_at}
 use Rattle.tb_ahead.specs.Publishing.{StateValue}
-use Rattle.tb_session.specs.Replies.{IsCapacityReply, IsEditReply, IsReplyTo, IsStatsReply, table_price}
+use Rattle.tb_session.specs.PastLines.{past_number, past_query}
+use Rattle.tb_session.specs.PastTables.{IsPastAnswer, past_reply}
+use Rattle.tb_session.specs.Replies.{IsCapacityReply, IsEditReply, IsReplyTo, IsStatsReply, IsTableReply, table_price}
 use Rattle.tb_session.specs.ReplyLines.{cleared_line}
 use Rattle.tb_session.specs.Transcripts.{Sees}
-use Rattle.tb_tables.specs.Answers.{Answers, IsAnswer, free_reply}
+use Rattle.tb_tables.specs.Answers.{Answers, AnswersBy, free_reply}
 
 by_asks : (who : Role) (setup : SetupValue) (base : ReleaseValue) (old at new : StateValue) (line text : List ℕ) (p q : ℕ) → Sees who old at → (what : Asks) (price : ℕ) → asks_of who line ≡ what
-    → IsReplyTo what setup (release_after base at.chain) at line (record { text = text; price = price }) new → q ≤ p + price → Leads who setup base old line text p q new
+    → IsReplyTo what setup base at line (record { text = text; price = price }) new → q ≤ p + price → Leads who setup base old line text p q new
 by_asks who setup base old at new line text p q sees what price is reply cost = record {
   price = price;
-  step = (at, sees, subst (λ (w : Asks). IsReplyTo w setup (release_after base at.chain) at line (record { text = text; price = price }) new) (sym is) reply);
+  step = (at, sees, subst (λ (w : Asks). IsReplyTo w setup base at line (record { text = text; price = price }) new) (sym is) reply);
   cost = cost;
 }
 
@@ -44,7 +47,7 @@ module _ (setup : SetupValue) (old new : CustodianValue) (held after : List Edit
   Own = Leads role.Custodian setup old.writer.start.base (state_at old.writer held) line text p q (state_at new.writer after)
 
   by_own : (what : Asks) (price : ℕ) → asks_of role.Custodian line ≡ what
-      → IsReplyTo what setup (release_seen old.writer) (state_at old.writer held) line (record { text = text; price = price }) (state_at new.writer after) → q ≤ p + price → Own
+      → IsReplyTo what setup old.writer.start.base (state_at old.writer held) line (record { text = text; price = price }) (state_at new.writer after) → q ≤ p + price → Own
   by_own what price is reply cost = by_asks role.Custodian setup old.writer.start.base (state_at old.writer held) (state_at old.writer held) (state_at new.writer after) line text p q refl what price is reply cost
 
   same_state : new ≡ old → after ≡ held → state_at new.writer after ≡ state_at old.writer held
@@ -53,6 +56,9 @@ module _ (setup : SetupValue) (old new : CustodianValue) (held after : List Edit
 
   pub leads_to_table : asks_of role.Custodian line ≡ asks.Table → new ≡ old → after ≡ held → Answers setup (release_seen old.writer) (table_price setup (release_seen old.writer)) line text p q → Own
   leads_to_table is same also (price, answer, cost) = by_own asks.Table price is (answer, same_state same also) cost
+
+  pub leads_to_past : (n : ℕ) → asks_of role.Custodian line ≡ asks.At n → new ≡ old → after ≡ held → AnswersBy setup (past_reply setup old.writer.start.base old.writer.list n) (past_query line) text p q → Own
+  leads_to_past n is same also (price, answer, cost) = by_own (asks.At n) price is (answer, same_state same also) cost
 
   pub leads_to_edit : asks_of role.Custodian line ≡ asks.Edit → new ≡ old → IsEditReply setup line held text after → q ≡ p → Own
   leads_to_edit is same reply free = by_own asks.Edit 0 is (refl, ap (λ (c : CustodianValue). c.writer.list) same, reply) (omega (arith, free))
@@ -79,20 +85,28 @@ module _ (setup : SetupValue) (old new : HolderValue) (line text : List ℕ) (p 
   abbrev Other : Type 0
   Other = Leads role.Analyst setup old.start.base (state_at old []) line text p q (state_at new [])
 
-  by_role : (over : Bool) → is_passed_over line ≡ over → asks_of role.Analyst line ≡ (if over then asks.Nothing else asks.Table)
-  by_role over is = ap (λ b. if b then asks.Nothing else asks.Table) is
+  by_role : (over : Bool) (number : Option ℕ) → is_passed_over line ≡ over → past_number (words_of line) ≡ number → asks_of role.Analyst line ≡ (if over then asks.Nothing else asks_at_or number asks.Table)
+  by_role over number is names = ap (λ b. if b then asks.Nothing else asks_at_or (past_number (words_of line)) asks.Table) is ∙ ap (λ o. if over then asks.Nothing else asks_at_or o asks.Table) names
 
   -- a line without a reply
   pub analyst_nothing : is_passed_over line ≡ true → new ≡ old → text ≡ [] → q ≡ p → Other
   analyst_nothing over same is_text free =
-      let is : asks_of role.Analyst line ≡ asks.Nothing = by_role true over in
+      let is : asks_of role.Analyst line ≡ asks.Nothing = by_role true (past_number (words_of line)) over refl in
       let stays : state_at new [] ≡ state_at old [] = ap (λ (h : HolderValue). state_at h []) same in
       by_asks role.Analyst setup old.start.base (state_at old []) (state_at old []) (state_at new []) line text p q (prefix_self old.list, refl) asks.Nothing 0 is (ap (λ (t : List ℕ). free_reply t) is_text, stays) (omega (arith, free))
 
   -- a query
-  pub analyst_query : is_passed_over line ≡ false → IsLater old new → Answers setup (release_seen new) (table_price setup (release_seen new)) line text p q → Other
-  analyst_query over later (price, answer, cost) =
-      let is : asks_of role.Analyst line ≡ asks.Table = by_role false over in
-      let own : IsAnswer setup (release_after old.start.base new.list) (table_price setup (release_after old.start.base new.list)) line (record { text = text; price = price }) =
-      subst (λ (s : StartValue). IsAnswer setup (release_after s.base new.list) (table_price setup (release_after s.base new.list)) line (record { text = text; price = price })) later.base answer in
+  pub analyst_query : is_passed_over line ≡ false → past_number (words_of line) ≡ None → IsLater old new → Answers setup (release_seen new) (table_price setup (release_seen new)) line text p q → Other
+  analyst_query over names later (price, answer, cost) =
+      let is : asks_of role.Analyst line ≡ asks.Table = by_role false None over names in
+      let own : IsTableReply setup (release_after old.start.base new.list) line (record { text = text; price = price }) =
+      subst (λ (s : StartValue). IsTableReply setup (release_after s.base new.list) line (record { text = text; price = price })) later.base answer in
       by_asks role.Analyst setup old.start.base (state_at old []) (state_at new []) (state_at new []) line text p q (later.begins, refl) asks.Table price is (own, refl) cost
+
+  -- a query at a release that it names
+  pub analyst_past : (n : ℕ) → is_passed_over line ≡ false → past_number (words_of line) ≡ Some n → IsLater old new → AnswersBy setup (past_reply setup new.start.base new.list n) (past_query line) text p q → Other
+  analyst_past n over names later (price, answer, cost) =
+      let is : asks_of role.Analyst line ≡ asks.At n = by_role false (Some n) over names in
+      let own : IsPastAnswer setup old.start.base new.list n (past_query line) (record { text = text; price = price }) =
+      subst (λ (s : StartValue). IsPastAnswer setup s.base new.list n (past_query line) (record { text = text; price = price })) later.base answer in
+      by_asks role.Analyst setup old.start.base (state_at old []) (state_at new []) (state_at new []) line text p q (later.begins, refl) (asks.At n) price is (own, refl) cost

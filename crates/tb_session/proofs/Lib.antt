@@ -5,6 +5,12 @@ pub mod Owning
 mod Texts
 mod Revising
 mod Leading
+mod PastTexts
+mod PastTaking
+mod PastPrices
+mod PastCubes
+mod PastCounts
+mod PastReplies
 mod Numbers
 mod Publishing
 mod OwnCells

@@ -1,6 +1,8 @@
 -- What a party has seen, and the numbers of its releases.
-use Rattle.std.proofs.Common.{◌≡◌, ◌∙◌, sym, ap, subst, refl, ℕ, ◌+◌, List, [], ◌∷◌, ◌++◌, length, inl, inr, arith}
-use Rattle.std.specs.Prelude.{ℤ, codes, decimal, flat_map, zip}
+use Rattle.std.proofs.Common.{◌≡◌, ◌∙◌, sym, ap, subst, refl, ℕ, ◌+◌, List, [], ◌∷◌, ◌++◌, length, take, inl, inr, arith}
+use Rattle.std.specs.Prelude.{ℤ, codes, decimal, flat_map, if◌then◌else◌, zip}
+use Rattle.std.proofs.lemmas.Bool.{le-leb}
+use Rattle.std.proofs.lemmas.List.{length-take-le}
 use mathlib.Core.List.{IsPrefix}
 use Rattle.tb_base.specs.declared.cells.Cell.{Cell}
 use Rattle.tb_front.proofs.Prefixes.{prefix_length, prefix_more, prefix_self, prefix_trans}
@@ -14,7 +16,7 @@ use Rattle.tb_model.specs.Texts.{heading, line_text, place_text, table_text, tex
 use Rattle.tb_release.specs.Batches.{BatchValue, batch_of}
 use Rattle.tb_release.specs.Chains.{after_batch, release_after}
 use Rattle.tb_session.specs.Asks.{asks_of}
-use Rattle.tb_session.specs.Laws.{NumbersNeverFall, TablesNameTheirList}
+use Rattle.tb_session.specs.Laws.{NumbersNeverFall, PastTablesNameTheirRelease, TablesNameTheirList}
 use Rattle.tb_lines.specs.Outputs.{ReplyValue}
 use Rattle.tb_ahead.specs.Publishing.{IsPublishReply, StateValue}
 use Rattle.tb_session.specs.Replies.{IsReplyTo}
@@ -42,14 +44,15 @@ publish_begins release state next text (inl (can, is, goes)) =
 publish_begins release state next text (inr (inl (kind, edit, why, is, goes))) = same_begins state.chain next.chain (ap (λ (s : StateValue). s.chain) goes)
 publish_begins release state next text (inr (inr (is, goes))) = same_chain state next goes
 
-reply_begins : (what : Asks) (setup : SetupValue) (release : ReleaseValue) (state : StateValue) (line : List ℕ) (reply : ReplyValue) (next : StateValue) → IsReplyTo what setup release state line reply next → IsPrefix state.chain next.chain
-reply_begins asks.Nothing setup release state line reply next (is, goes) = same_chain state next goes
-reply_begins asks.Table setup release state line reply next (is, goes) = same_chain state next goes
-reply_begins asks.Edit setup release state line reply next (free, same, is) = same_begins state.chain next.chain same
-reply_begins asks.Publish setup release state line reply next (free, is) = publish_begins release state next reply.text is
-reply_begins asks.Stats setup release state line reply next (free, is, goes) = same_chain state next goes
-reply_begins asks.Clear setup release state line reply next (is, goes) = same_chain state next goes
-reply_begins (asks.Cache capacity) setup release state line reply next (free, is, goes) = same_chain state next goes
+reply_begins : (what : Asks) (setup : SetupValue) (base : ReleaseValue) (state : StateValue) (line : List ℕ) (reply : ReplyValue) (next : StateValue) → IsReplyTo what setup base state line reply next → IsPrefix state.chain next.chain
+reply_begins asks.Nothing setup base state line reply next (is, goes) = same_chain state next goes
+reply_begins asks.Table setup base state line reply next (is, goes) = same_chain state next goes
+reply_begins (asks.At number) setup base state line reply next (is, goes) = same_chain state next goes
+reply_begins asks.Edit setup base state line reply next (free, same, is) = same_begins state.chain next.chain same
+reply_begins asks.Publish setup base state line reply next (free, is) = publish_begins (release_after base state.chain) state next reply.text is
+reply_begins asks.Stats setup base state line reply next (free, is, goes) = same_chain state next goes
+reply_begins asks.Clear setup base state line reply next (is, goes) = same_chain state next goes
+reply_begins (asks.Cache capacity) setup base state line reply next (free, is, goes) = same_chain state next goes
 
 sees_begins : (who : Role) (before at : StateValue) → Sees who before at → IsPrefix before.chain at.chain
 sees_begins role.Analyst before at (begins, held) = begins
@@ -57,7 +60,7 @@ sees_begins role.Custodian before at same = same_chain before at same
 
 step_begins : (who : Role) (setup : SetupValue) (base : ReleaseValue) (before : StateValue) (line : List ℕ) (reply : ReplyValue) (after : StateValue) → IsStep who setup base before line reply after → IsPrefix before.chain after.chain
 step_begins who setup base before line reply after (at, sees, is) =
-    prefix_trans before.chain at.chain after.chain (sees_begins who before at sees) (reply_begins (asks_of who line) setup (release_after base at.chain) at line reply after is)
+    prefix_trans before.chain at.chain after.chain (sees_begins who before at sees) (reply_begins (asks_of who line) setup base at line reply after is)
 
 pub legal_begins : (who : Role) (setup : SetupValue) (base : ReleaseValue) (lines : List (List ℕ)) (replies : List ReplyValue) (first last : StateValue) → IsLegal who setup base first lines replies last → IsPrefix first.chain last.chain
 legal_begins who setup base [] [] first last e = same_chain first last e
@@ -86,3 +89,12 @@ tables_name_their_list setup base chain query none =
     let number : release.number ≡ length chain = number_after base chain ∙ omega (arith, none) in
     subst (λ n. IsPrefix (line_text (codes "release " ++ decimal n)) (table_text setup release query)) number
     (text_begins setup.schema (pvalues_of setup release) (threshold_of release) query release.number (cells_of setup.schema query release.records))
+
+-- a table of release n of a chain names n
+pub past_tables_name_their_release : PastTablesNameTheirRelease
+past_tables_name_their_release setup base chain n query none low =
+    let first : List ℕ = line_text (codes "release " ++ decimal n) in
+    let long : length (take n chain) ≡ n = length-take-le n chain low in
+    let table : IsPrefix first (table_text setup (release_after base (take n chain)) query) =
+    subst (λ k. IsPrefix (line_text (codes "release " ++ decimal k)) (table_text setup (release_after base (take n chain)) query)) long (tables_name_their_list setup base (take n chain) query none) in
+    rw (le-leb n (length chain) low) table

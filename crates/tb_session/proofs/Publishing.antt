@@ -20,14 +20,15 @@ use Rattle.tb_session.specs.declared.asks.Asks.TheVariants as asks
 use Rattle.tb_session.specs.declared.party.Role.TheVariants as role
 
 -- a line that doesn't ask to publish leaves the batches
-chain_stays : (what : Asks) (setup : SetupValue) (release : ReleaseValue) (state : StateValue) (line : List ℕ) (reply : ReplyValue) (next : StateValue) → what ≢ asks.Publish → IsReplyTo what setup release state line reply next → next.chain ≡ state.chain
-chain_stays asks.Nothing setup release state line reply next other (is, goes) = ap (λ (s : StateValue). s.chain) goes
-chain_stays asks.Table setup release state line reply next other (is, goes) = ap (λ (s : StateValue). s.chain) goes
-chain_stays asks.Edit setup release state line reply next other (free, same, is) = same
-chain_stays asks.Publish setup release state line reply next other is = absurd (other refl)
-chain_stays asks.Stats setup release state line reply next other (free, is, goes) = ap (λ (s : StateValue). s.chain) goes
-chain_stays asks.Clear setup release state line reply next other (is, goes) = ap (λ (s : StateValue). s.chain) goes
-chain_stays (asks.Cache capacity) setup release state line reply next other (free, is, goes) = ap (λ (s : StateValue). s.chain) goes
+chain_stays : (what : Asks) (setup : SetupValue) (base : ReleaseValue) (state : StateValue) (line : List ℕ) (reply : ReplyValue) (next : StateValue) → what ≢ asks.Publish → IsReplyTo what setup base state line reply next → next.chain ≡ state.chain
+chain_stays asks.Nothing setup base state line reply next other (is, goes) = ap (λ (s : StateValue). s.chain) goes
+chain_stays asks.Table setup base state line reply next other (is, goes) = ap (λ (s : StateValue). s.chain) goes
+chain_stays (asks.At number) setup base state line reply next other (is, goes) = ap (λ (s : StateValue). s.chain) goes
+chain_stays asks.Edit setup base state line reply next other (free, same, is) = same
+chain_stays asks.Publish setup base state line reply next other is = absurd (other refl)
+chain_stays asks.Stats setup base state line reply next other (free, is, goes) = ap (λ (s : StateValue). s.chain) goes
+chain_stays asks.Clear setup base state line reply next other (is, goes) = ap (λ (s : StateValue). s.chain) goes
+chain_stays (asks.Cache capacity) setup base state line reply next other (free, is, goes) = ap (λ (s : StateValue). s.chain) goes
 
 chains_stay : (setup : SetupValue) (base : ReleaseValue) (lines : List (List ℕ)) (replies : List ReplyValue) (first last : StateValue) → All (λ l. asks_of role.Custodian l ≢ asks.Publish) lines
     → IsLegal role.Custodian setup base first lines replies last → last.chain ≡ first.chain
@@ -37,7 +38,7 @@ chains_stay setup base (x ∷ xs) [] first last others e = absurd e
 chains_stay setup base (x ∷ xs) (r ∷ rs) first last others (next, (at, same, is), more) =
     let P : List ℕ → Type 0 = λ l. asks_of role.Custodian l ≢ asks.Publish in
     chains_stay setup base xs rs next last (All-tail P x xs others) more
-    ∙ chain_stays (asks_of role.Custodian x) setup (release_after base at.chain) at x r next (All-head P x xs others) is
+    ∙ chain_stays (asks_of role.Custodian x) setup base at x r next (All-head P x xs others) is
     ∙ ap (λ (s : StateValue). s.chain) same
 
 -- two lines that begin with other letters differ
@@ -68,5 +69,5 @@ published_at base state next text n named small (inr (inr (is, goes))) = absurd 
 pub published_stays : PublishedStays
 published_stays setup base before after last line reply n lines replies (at, same, is) asked named small legal others =
     let stays : last.chain ≡ after.chain = chains_stay setup base lines replies after last others legal in
-    let own : IsReplyTo asks.Publish setup (release_after base at.chain) at line reply after = subst (λ (w : Asks). IsReplyTo w setup (release_after base at.chain) at line reply after) asked is in
+    let own : IsReplyTo asks.Publish setup base at line reply after = subst (λ (w : Asks). IsReplyTo w setup base at line reply after) asked is in
     ap (λ (chain : List BatchValue). (release_after base chain).number) stays ∙ published_at base at after reply.text n named small own.1

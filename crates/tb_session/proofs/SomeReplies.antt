@@ -3,7 +3,6 @@ use Rattle.std.proofs.Common.{refl, ℕ, List, [], length, inr, arith}
 use Rattle.tb_core.specs.declared.desk.Stats.{Stats}
 use Rattle.tb_model.specs.Releases.{ReleaseValue}
 use Rattle.tb_model.specs.Setups.{SetupValue}
-use Rattle.tb_release.specs.Chains.{release_after}
 use Rattle.tb_session.specs.Asks.{asks_of}
 use Rattle.tb_session.specs.declared.asks.Asks.{Asks}
 use Rattle.tb_session.specs.declared.asks.Asks.TheVariants as asks
@@ -15,17 +14,18 @@ use Rattle.tb_session.specs.ReplyLines.{cleared_line, stats_line}
 use Rattle.tb_tables.specs.Answers.{free_reply}
 use Rattle.tb_tables.specs.ReplyLines.{memory_line}
 
-reply_to_any : (what : Asks) (setup : SetupValue) (release : ReleaseValue) (state : StateValue) (line : List ℕ) → (reply : ReplyValue) × (next : StateValue) × IsReplyTo what setup release state line reply next
-reply_to_any asks.Nothing setup release state line = (free_reply [], state, (refl, refl))
-reply_to_any asks.Table setup release state line = (free_reply memory_line, state, (inr (refl, inr refl), refl))
-reply_to_any asks.Edit setup release state line = (free_reply memory_line, state, (refl, refl, inr (refl, inr (inr refl))))
-reply_to_any asks.Publish setup release state line = (free_reply memory_line, state, (refl, inr (inr (refl, refl))))
-reply_to_any asks.Stats setup release state line =
+reply_to_any : (what : Asks) (setup : SetupValue) (base : ReleaseValue) (state : StateValue) (line : List ℕ) → (reply : ReplyValue) × (next : StateValue) × IsReplyTo what setup base state line reply next
+reply_to_any asks.Nothing setup base state line = (free_reply [], state, (refl, refl))
+reply_to_any asks.Table setup base state line = (free_reply memory_line, state, (inr (refl, inr refl), refl))
+reply_to_any (asks.At n) setup base state line = (free_reply memory_line, state, (inr (refl, inr refl), refl))
+reply_to_any asks.Edit setup base state line = (free_reply memory_line, state, (refl, refl, inr (refl, inr (inr refl))))
+reply_to_any asks.Publish setup base state line = (free_reply memory_line, state, (refl, inr (inr (refl, refl))))
+reply_to_any asks.Stats setup base state line =
     let stats : Stats = record { release = length state.chain; looks = 0; hits = 0; entries = 0; capacity = 1 } in
     (free_reply (stats_line stats), state, (refl, (stats, record { release = refl; hits = omega arith; entries = omega arith; some = omega arith; few = omega arith }, refl), refl))
-reply_to_any asks.Clear setup release state line = (free_reply cleared_line, state, (refl, refl))
-reply_to_any (asks.Cache capacity) setup release state line = (free_reply memory_line, state, (refl, inr refl, refl))
+reply_to_any asks.Clear setup base state line = (free_reply cleared_line, state, (refl, refl))
+reply_to_any (asks.Cache capacity) setup base state line = (free_reply memory_line, state, (refl, inr refl, refl))
 
 -- a line of blanks has none, and every other may find no memory, or is of `stats` or `clear`
 pub some_reply : (who : Role) (setup : SetupValue) (base : ReleaseValue) (state : StateValue) (line : List ℕ) → (reply : ReplyValue) × (next : StateValue) × IsReply who setup base state line reply next
-some_reply who setup base state line = reply_to_any (asks_of who line) setup (release_after base state.chain) state line
+some_reply who setup base state line = reply_to_any (asks_of who line) setup base state line

@@ -10,6 +10,7 @@ use Rattle.tb_release.specs.Batches.{BatchValue}
 use Rattle.tb_release.specs.Chains.{release_after}
 use Rattle.tb_session.specs.Asks.{asks_of}
 use Rattle.tb_lines.specs.Outputs.{ReplyValue}
+use Rattle.tb_session.specs.PastTables.{past_text}
 use Rattle.tb_ahead.specs.Publishing.{StateValue, published_line}
 use Rattle.tb_session.specs.Transcripts.{IsLegal, IsStep}
 use Rattle.tb_session.specs.declared.asks.Asks.TheVariants as asks
@@ -50,6 +51,14 @@ TablesNameTheirList =
     → base.number ≡ 0
     → IsPrefix (line_text (codes "release " ++ decimal (length chain)))
     (table_text setup (release_after base chain) query)
+
+-- the first line of a table of release n of a chain names n
+abbrev pub PastTablesNameTheirRelease : Type 0
+PastTablesNameTheirRelease =
+    (setup : SetupValue) (base : ReleaseValue) (chain : List BatchValue) (n : ℕ)
+    (query : QueryValue)
+    → base.number ≡ 0 → n ≤ length chain
+    → IsPrefix (line_text (codes "release " ++ decimal n)) (past_text setup base chain n query)
 
 -- after the custodian's `published N`, its release is N until it asks to publish again
 abbrev pub PublishedStays : Type 0

@@ -1,5 +1,8 @@
+pub mod PastLines
 pub mod Asks
 pub mod ReplyLines
+pub mod PastTables
+pub mod PastTaken
 pub mod Replies
 pub mod Transcripts
 pub mod Laws

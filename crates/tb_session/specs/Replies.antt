@@ -18,6 +18,8 @@ use Rattle.tb_release.specs.declared.edits.Edit.{Edit}
 use Rattle.tb_release.specs.declared.limits.TheConstants.{MOST_EDITS}
 use Rattle.tb_session.specs.Asks.{asks_of}
 use Rattle.tb_lines.specs.Outputs.{ReplyValue}
+use Rattle.tb_session.specs.PastLines.{past_query}
+use Rattle.tb_session.specs.PastTables.{IsPastAnswer}
 use Rattle.tb_session.specs.ReplyLines.{held_line, edit_refusal_line}
 use Rattle.tb_revise.specs.FaultNames.{too_many}
 use Rattle.tb_ahead.specs.Publishing.{IsPublishReply, StateValue}
@@ -37,6 +39,12 @@ plan_price plan release =
 -- how many the table of a query may
 abbrev pub table_price : SetupValue → ReleaseValue → QueryValue → ℕ
 table_price setup release query = plan_price (plan_of setup.schema query) release
+
+-- a reply to a query's line over a release: its table at that price, the line of its first fault,
+-- or that memory was refused
+abbrev pub IsTableReply : SetupValue → ReleaseValue → List ℕ → ReplyValue → Type 0
+IsTableReply setup release line reply =
+    IsAnswer setup release (table_price setup release) line reply
 
 -- an edit is held, as the last
 abbrev pub IsHeld : SetupValue → List ℕ → List Edit → List ℕ → List Edit → Type 0
@@ -76,24 +84,26 @@ IsStatsReply chain text =
 abbrev pub IsCapacityReply : ℕ → List ℕ → Type 0
 IsCapacityReply capacity text = (text ≡ capacity_line capacity) ⊎ (text ≡ memory_line)
 
--- the reply to a line that asks for this, over the current release; only an edit and `publish`
--- change what comes after
+-- the reply to a line that asks for this, over the current release, to which the batches lead from
+-- release 0, or over the one that it names; only an edit and `publish` change what comes after
 abbrev pub IsReplyTo : Asks → SetupValue → ReleaseValue → StateValue → List ℕ → ReplyValue
     → StateValue → Type 0
-IsReplyTo asks.Nothing setup release state line reply next =
+IsReplyTo asks.Nothing setup base state line reply next =
     (reply ≡ free_reply []) × (next ≡ state)
-IsReplyTo asks.Table setup release state line reply next =
-    IsAnswer setup release (table_price setup release) line reply × (next ≡ state)
-IsReplyTo asks.Edit setup release state line reply next =
+IsReplyTo asks.Table setup base state line reply next =
+    IsTableReply setup (release_after base state.chain) line reply × (next ≡ state)
+IsReplyTo (asks.At n) setup base state line reply next =
+    IsPastAnswer setup base state.chain n (past_query line) reply × (next ≡ state)
+IsReplyTo asks.Edit setup base state line reply next =
     (reply.price ≡ 0) × (next.chain ≡ state.chain)
     × IsEditReply setup line state.held reply.text next.held
-IsReplyTo asks.Publish setup release state line reply next =
-    (reply.price ≡ 0) × IsPublishReply release state reply.text next
-IsReplyTo asks.Stats setup release state line reply next =
+IsReplyTo asks.Publish setup base state line reply next =
+    (reply.price ≡ 0) × IsPublishReply (release_after base state.chain) state reply.text next
+IsReplyTo asks.Stats setup base state line reply next =
     (reply.price ≡ 0) × IsStatsReply state.chain reply.text × (next ≡ state)
-IsReplyTo asks.Clear setup release state line reply next =
+IsReplyTo asks.Clear setup base state line reply next =
     (reply ≡ free_reply cleared_line) × (next ≡ state)
-IsReplyTo (asks.Cache capacity) setup release state line reply next =
+IsReplyTo (asks.Cache capacity) setup base state line reply next =
     (reply.price ≡ 0) × IsCapacityReply capacity reply.text × (next ≡ state)
 
 -- a reply to a party's line: at the batches and the held edits before it, and what comes after; an
@@ -101,4 +111,4 @@ IsReplyTo (asks.Cache capacity) setup release state line reply next =
 abbrev pub IsReply : Role → SetupValue → ReleaseValue → StateValue → List ℕ → ReplyValue
     → StateValue → Type 0
 IsReply who setup base state line reply next =
-    IsReplyTo (asks_of who line) setup (release_after base state.chain) state line reply next
+    IsReplyTo (asks_of who line) setup base state line reply next

@@ -3,6 +3,10 @@ use Rattle.std.specs.Prelude.{◌++◌, ℕ, List, codes, decimal}
 use Rattle.tb_core.specs.declared.desk.Stats.{Stats}
 use Rattle.tb_rows.specs.FaultNames.{FaultNameValue}
 
+-- a query at a release that isn't there: the number of the last one
+abbrev pub no_such_release_line : ℕ → List ℕ
+no_such_release_line last = codes "refused 10 NoSuchRelease " ++ decimal last ++ codes "\n"
+
 -- an edit that is held: how many are
 abbrev pub held_line : ℕ → List ℕ
 held_line count = codes "held " ++ decimal count ++ codes "\n"

@@ -8,15 +8,19 @@ ghost use Rattle.tb_model.specs.Schemas.{shape_of};
 ghost use Rattle.tb_session.specs.Parties.{IsAnswered, IsCustodianOf, IsPartyOf};
 ghost use Rattle.tb_session.specs.Parties.{GoesOn, HasSeen, IsPassOf, Leads, SawTurn, role_of};
 ghost use Rattle.tb_session.specs.Parties.{seen_by, state_at, state_of};
+ghost use Rattle.tb_session.specs.PastLines.{past_query};
+ghost use Rattle.tb_session.specs.PastTables.{past_reply};
 ghost use Rattle.tb_session.specs.Replies.{IsCapacityReply, table_price};
 ghost use Rattle.tb_session.specs.ReplyLines.{cleared_line};
 ghost use Rattle.tb_session.specs.ReplyTexts.{reply_text};
 ghost use Rattle.tb_session.specs.declared.party.Role.TheVariants as roles;
-ghost use Rattle.tb_tables.specs.Answers.{Answers};
+ghost use Rattle.tb_tables.specs.Answers.{Answers, AnswersBy};
 ghost use Rattle.tb_tables.specs.ReplyTexts.{table_reply_text};
 
 use crate::asks::{Asks, asks_of};
 use crate::party::{Party, Role};
+use crate::past::answer_past;
+use crate::past_line::past_number;
 use crate::query::answer_query;
 use crate::reply::Reply;
 use crate::revise::{hold, publish};
@@ -75,6 +79,9 @@ fn reply_to_analyst<'a, B: Named, R: Threads + Wait + Sync, G: Gate, L: Ledger>(
     if is_passed_over(line) {
         return Reply::Nothing;
     }
+    if let Some(number) = past_number(line) {
+        return answer_past(rt, alloc, setup, board, pass, number, line, gate, steps);
+    }
     Reply::Query(answer_query(rt, alloc, setup, board, pass, line, gate, steps))
 }
 
@@ -104,6 +111,33 @@ fn answer_own<'a, B: Named, R: Threads + Wait + Sync, G: Gate, L: Ledger>(
     reply
 }
 
+// The reply to the custodian's line `at N QUERY`, over its own pass too.
+fn answer_own_past<'a, B: Named, R: Threads + Wait + Sync, G: Gate, L: Ledger>(
+    rt: &R,
+    alloc: Global,
+    setup: &'a Setup,
+    board: &Board<B>,
+    custodian: &mut Custodian,
+    number: u32,
+    line: &[u8],
+    gate: &mut G,
+    steps: &mut Steps<L>,
+) -> Reply<'a>
+    requires few { length line.now ≤ MOST_LINE_BYTES }
+    requires front { custodian.old.writer.name ≡ B.name }
+    requires fits { custodian.old.writer.start.shape ≡ shape_of setup.now.schema }
+    requires whole { IsWhole custodian.old }
+    ensures same { custodian.new ≡ custodian.old }
+    ensures answer { AnswersBy setup.now (past_reply setup.now custodian.old.writer.start.base
+        custodian.old.writer.list number) (past_query line.now) (reply_text result)
+        steps.old steps.new }
+{
+    let pass = custodian.pass();
+    let reply = answer_past(rt, alloc, setup, board, pass, number, line, gate, steps);
+    board.settle(custodian);
+    reply
+}
+
 // The reply to the custodian's line.
 fn reply_to_custodian<'a, B: Named, R: Threads + Wait + Sync, G: Gate, L: Ledger>(
     rt: &R,
@@ -129,6 +163,11 @@ fn reply_to_custodian<'a, B: Named, R: Threads + Wait + Sync, G: Gate, L: Ledger
         Asks::Table => Reply::Query(answer_own(
             rt, alloc, setup, board, custodian, line, gate, steps,
         )),
+        Asks::At(number) => {
+            answer_own_past(
+                rt, alloc, setup, board, custodian, number, line, gate, steps,
+            )
+        }
         Asks::Edit => hold(alloc, setup, held, line),
         Asks::Publish => publish(rt, alloc, board, custodian, held),
         Asks::Stats => Reply::Stats(board.stats(rt, custodian)),
@@ -167,10 +206,10 @@ fn reply_to<'a, B: Named, R: Threads + Wait + Sync, G: Gate, L: Ledger>(
 
 /// Writes the reply to one line of a party: a long table piece by piece, any other reply in one
 /// write. An analyst's query is answered over the release of the turn in which it is taken; the
-/// custodian's over its own current release. It takes memory for a table, a cube, an edit that is
-/// held and the next release, all before the first byte; where that is refused, the reply is
-/// `memory`. It waits for the board's lock, and holds none while a cube is built, advanced or
-/// printed.
+/// custodian's over its own current release; a line `at N QUERY` of either over release N. It takes
+/// memory for a table, a cube, an earlier release, an edit that is held and the next release, all
+/// before the first byte; where that is refused, the reply is `memory`. It waits for the board's
+/// lock, and holds none while a cube is built, led to another release or printed.
 pub fn answer<B: Named, K: Sink, G: Gate, L: Ledger>(
     setup: &Setup,
     board: &Board<B>,

@@ -34,10 +34,10 @@ use tb_query::Query;
 use tb_tables::{Counted, count_records, plan_for, roll_up, shape_in};
 use tb_text::{PreparedTable, Setup};
 
-// The cube over some variables of the release that was taken: what is made of the one that was
-// found, for which the changes that it is behind are lent, or one that is built, for which the
-// records are.
-fn cube_of<R: Threads + Sync, G: Gate, L: Ledger>(
+/// The cube over some variables of the release that was taken: what is made of the one that was
+/// found, for which the changes that it is behind are lent, or one that is built, for which the
+/// records are. It takes memory for a cube that is made.
+pub(crate) fn cube_of<R: Threads + Sync, G: Gate, L: Ledger>(
     rt: &R,
     alloc: Global,
     shape: &Shape,
@@ -71,9 +71,9 @@ fn pack(cube: &mut Cube)
     }
 }
 
-// Offers a cube to the board, packed where that pays. Where the memory for what holds it is
-// refused, it isn't kept.
-fn offer<B: Named>(
+/// Offers a cube to the board, packed where that pays. Where the memory for what holds it is
+/// refused, it isn't kept.
+pub(crate) fn offer<B: Named>(
     rt: &impl Wait,
     alloc: Global,
     board: &Board<B>,

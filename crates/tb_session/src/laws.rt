@@ -2,7 +2,8 @@
 //! nothing, and its contract is a law over the definitions alone.
 
 ghost use Rattle.tb_session.specs.Laws.{MeetingTranscriptsJoin, NumbersNeverFall, OneMoreLine};
-ghost use Rattle.tb_session.specs.Laws.{PublishedStays, TablesNameTheirList};
+ghost use Rattle.tb_session.specs.Laws.{PastTablesNameTheirRelease, PublishedStays};
+ghost use Rattle.tb_session.specs.Laws.{TablesNameTheirList};
 ghost use Rattle.tb_session.specs.RunWorlds.{AgreeingRepliesShowTheSame, RepliesAnswerTakes};
 ghost use Rattle.tb_session.specs.RunWorlds.{RepliesShowTheirWorlds};
 
@@ -24,6 +25,11 @@ pub fn numbers_never_fall()
 /// The first line of a table names how many batches lead to its release.
 pub fn tables_name_their_list()
     ensures { TablesNameTheirList }
+{}
+
+/// The first line of a table of release n of a chain names n.
+pub fn past_tables_name_their_release()
+    ensures { PastTablesNameTheirRelease }
 {}
 
 /// After the custodian's `published N`, its release is N until it asks to publish again.

@@ -4,16 +4,21 @@
 //!
 //! It stands on `tb_tables` (a query's line, its table and the reply to it, over a release),
 //! `tb_ahead` (the reply to `publish`), `tb_board` (the desk behind its lock), `tb_build` (a cube
-//! that isn't kept), `tb_core` (one that is), `tb_revise` (the custodian's edits), `tb_io` (where
-//! lines come from, and where replies go) and `tb_lines` (lines that are answered one after
-//! another: what a session did). Its contracts cite `specs/Asks` (what a line asks for), `Replies`
-//! (what the reply to it is), `Transcripts` (which replies are legal), `Parties` (who asks, and
-//! what an answer says), `PartySessions` (whose session) and
-//! `Owners` (who answers the custodian's lines); `laws` cites `Laws`, and `RunWorlds`
-//! (what a reply of a run of `tb_core`'s events shows at a place of a table).
+//! that isn't kept), `tb_core` (one that is), `tb_past` (one that is led to another release, and an
+//! earlier release), `tb_revise` (the custodian's edits), `tb_io` (where lines come from, and where
+//! replies go) and `tb_lines` (lines that are answered one after another: what a session did). Its
+//! contracts cite `specs/Asks` (what a line asks for) with `PastLines` (a line `at N QUERY`),
+//! `Replies` (what the reply to it is) with `PastTables` (that to a line `at N QUERY`),
+//! `Transcripts` (which replies are legal), `Parties` (who asks, and what an answer says),
+//! `PartySessions` (whose session) and `Owners` (who answers the custodian's lines); `laws` cites
+//! `Laws`, and `RunWorlds` (what a reply of a run of `tb_core`'s events shows at a place of a
+//! table).
 //!
 //! Of the proofs, `Leading` leads from what a line asks for to where the party stands then, and
-//! `Revising` does so for `publish`; `Texts` says how lines are put together; `Numbers` and
+//! `Revising` does so for `publish`; `Texts` says how lines are put together; of a line `at N
+//! QUERY`, `PastTexts` has what follows its number, `PastTaking` what was taken along a chain that
+//! goes on, `PastCubes` the cube of release n, `PastCounts` what is counted by it, `PastPrices` what
+//! it may cost and `PastReplies` its text; `Numbers` and
 //! `Publishing` prove the laws of transcripts. Those of runs are proved by `RunSteps` (what an
 //! event may do), `TakeRuns` (a reply's cells), `ReplyTakes` (the take that it answers), `OwnCells`
 //! (a table from a cube over its plan's variables) and `RunLaws`. For scripts, `SomeReplies` and
@@ -25,11 +30,14 @@ mod answering;
 mod asks;
 mod confirming;
 mod count;
+mod count_past;
 mod custody;
 pub mod laws;
 mod limits;
 mod owner;
 mod party;
+mod past;
+mod past_line;
 mod query;
 mod reply;
 mod revise;

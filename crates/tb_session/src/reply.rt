@@ -1,12 +1,13 @@
 // A reply, and how it is written.
 
+ghost use Rattle.std.specs.Prelude.{◌≡◌};
 ghost use Rattle.tb_ahead.specs.Publishing.{batch_refusal_line};
 ghost use Rattle.tb_io.specs.Taken.{IsWritten};
 ghost use Rattle.tb_session.specs.ReplyLines.{stats_line};
-ghost use Rattle.tb_session.specs.ReplyTexts.{reply_text};
+ghost use Rattle.tb_session.specs.ReplyTexts.{reply_text, text_or_memory};
 
 use itoa::Buffer;
-use tb_base::print_number;
+use tb_base::{Memory, print_number};
 use tb_core::Stats;
 use tb_io::{Sink, Wrote, write_all};
 use tb_rows::FaultName;
@@ -19,6 +20,8 @@ pub(crate) enum Reply<'a> {
     Nothing,
     /// The reply to a query's line.
     Query(TableReply<'a>),
+    /// A query is refused since there is no such release: the last one has this number.
+    NoSuchRelease(u32),
     /// So many edits are held, with this one.
     Held(u32),
     /// An edit is refused by its first fault.
@@ -89,6 +92,16 @@ fn write_stats<O: Sink>(out: &mut O, stats: &Stats) -> Wrote
 }
 
 impl<'a> Reply<'a> {
+    /// A reply, or `Memory` where it couldn't be made.
+    pub(crate) fn or_memory(reply: Result<Reply<'a>, Memory>) -> Reply<'a>
+        ensures { reply_text result ≡ text_or_memory reply.entry }
+    {
+        match reply {
+            Ok(reply) => reply,
+            Err(Memory) => Reply::Memory,
+        }
+    }
+
     /// Writes the reply's text: a long table piece by piece, any other in one write. It takes no
     /// memory.
     pub(crate) fn write<O: Sink>(self, out: &mut O) -> Wrote
@@ -98,6 +111,7 @@ impl<'a> Reply<'a> {
         match self {
             Reply::Nothing => Wrote::All,
             Reply::Query(reply) => reply.write(out),
+            Reply::NoSuchRelease(last) => write_number(out, b"refused 10 NoSuchRelease ", last),
             Reply::Held(count) => write_number(out, b"held ", count),
             Reply::EditRefused(fault) => write_fault(out, b"refused edit ", &fault),
             Reply::Published(number) => write_number(out, b"published ", number),

@@ -20,14 +20,13 @@ table_reply setup release price query =
 abbrev pub free_reply : List ℕ → ReplyValue
 free_reply text = record { text = text; price = 0 }
 
--- the reply to a line that reads as a query: its table, or that memory was refused, and then the
--- release's records may have been lent
-abbrev pub IsTable : SetupValue → ReleaseValue → (QueryValue → ℕ) → List ℕ → ReplyValue → Type 0
-IsTable setup release price line reply =
+-- the reply to a line that reads as a query, of which each has a whole reply: that one, or that
+-- memory was refused, and then as many records may have been lent
+abbrev pub IsReplyOf : SetupValue → (QueryValue → ReplyValue) → List ℕ → ReplyValue → Type 0
+IsReplyOf setup whole line reply =
     (query : QueryValue)
     × queries.Reads setup.schema line query
-    × ((reply ≡ table_reply setup release price query)
-    ⊎ (reply ≡ record (table_reply setup release price query) { text = memory_line }))
+    × ((reply ≡ whole query) ⊎ (reply ≡ record (whole query) { text = memory_line }))
 
 -- the reply to a line with a fault
 abbrev pub IsRefusal : SetupValue → List ℕ → List ℕ → Type 0
@@ -36,17 +35,28 @@ IsRefusal setup line text =
     × queries.IsRefused setup.schema line fault × (query_names.fault_name fault ≡ Some name)
     × (text ≡ refusal_line name (query_names.fault_position fault))
 
+-- a reply to a query's line, where each query has a whole reply: that one, the line of its first
+-- fault, or that memory was refused
+abbrev pub IsAnswerBy : SetupValue → (QueryValue → ReplyValue) → List ℕ → ReplyValue → Type 0
+IsAnswerBy setup whole line reply =
+    IsReplyOf setup whole line reply
+    ⊎ (reply.price ≡ 0) × (IsRefusal setup line reply.text ⊎ (reply.text ≡ memory_line))
+
 -- a reply to a query's line over a release: its table, the line of its first fault, or that memory
 -- was refused
 abbrev pub IsAnswer : SetupValue → ReleaseValue → (QueryValue → ℕ) → List ℕ → ReplyValue → Type 0
 IsAnswer setup release price line reply =
-    IsTable setup release price line reply
-    ⊎ (reply.price ≡ 0) × (IsRefusal setup line reply.text ⊎ (reply.text ≡ memory_line))
+    IsAnswerBy setup (table_reply setup release price) line reply
 
--- a query's line gets this text over a release, at no more than its price: the counter of steps
--- goes from one number to another
+-- a query's line gets this text, where each query has a whole reply, at no more than its price: the
+-- counter of steps goes from one number to another
+abbrev pub AnswersBy : SetupValue → (QueryValue → ReplyValue) → List ℕ → List ℕ → ℕ → ℕ → Type 0
+AnswersBy setup whole line text before after =
+    (cost : ℕ) × IsAnswerBy setup whole line (record { text = text; price = cost })
+    × (after ≤ before + cost)
+
+-- the same over a release
 abbrev pub Answers : SetupValue → ReleaseValue → (QueryValue → ℕ) → List ℕ → List ℕ → ℕ → ℕ
     → Type 0
 Answers setup release price line text before after =
-    (cost : ℕ) × IsAnswer setup release price line (record { text = text; price = cost })
-    × (after ≤ before + cost)
+    AnswersBy setup (table_reply setup release price) line text before after

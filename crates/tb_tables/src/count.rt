@@ -1,13 +1,14 @@
 // The cells of a plan's table over a release.
 
 ghost use Rattle.std.specs.Prelude.{◌≡◌, ◌+◌, ◌≤◌, IfOk, OnOk, length};
+ghost use Rattle.std.specs.Arc.{arc_value};
 ghost use Rattle.tb_base.specs.Records.{AllFit};
 ghost use Rattle.tb_cube.specs.Cubes.{cube_over, unpacked};
 ghost use Rattle.tb_model.specs.Releases.{ReleaseValue};
 ghost use Rattle.tb_model.specs.Texts.{table_text as text_of_table};
 ghost use Rattle.tb_plan.specs.Plans.{plan_of, vars_of};
 ghost use Rattle.tb_query.specs.Over.{IsOver};
-ghost use Rattle.tb_tables.specs.Counting.{IsCounted};
+ghost use Rattle.tb_tables.specs.Counting.{IsCounted, IsPlansCube};
 
 use std::alloc::Global;
 use std::sync::Arc;
@@ -53,8 +54,32 @@ impl Counted {
     }
 }
 
-/// The cells of a plan's table over a release, rolled up from the cube of the plan's variables. It
-/// takes memory for the cells.
+/// The cells of a plan's table over the release of this number and with these rules, rolled up from
+/// its cube over the plan's variables. It takes memory for the cells.
+pub fn roll_up_at(
+    alloc: Global,
+    cube: &Cube,
+    plan: &Plan,
+    number: u32,
+    rules: Arc<Rules>,
+) -> Result<Counted, Memory>
+    requires { (release : ReleaseValue)
+        × IsPlansCube plan.now release cube.now number (arc_value rules) }
+    // Whichever release it is.
+    ensures { IfOk result (λ counted. (release : ReleaseValue)
+        → IsPlansCube plan.now release cube.now number (arc_value rules)
+        → IsCounted plan.now release counted) }
+{
+    let mut cells = empty_cells(alloc, plan)?;
+    roll_into(cube, plan, &mut cells);
+    Ok(Counted {
+        number,
+        rules,
+        cells,
+    })
+}
+
+/// The same where the release is at hand.
 pub fn roll_up(
     alloc: Global,
     cube: &Cube,
@@ -68,13 +93,8 @@ pub fn roll_up(
 {
     release.soundness();
     let rules = release.shared_rules()?;
-    let mut cells = empty_cells(alloc, plan)?;
-    roll_into(cube, plan, &mut cells);
-    Ok(Counted {
-        number: release.number(),
-        rules,
-        cells,
-    })
+    let number = release.number();
+    roll_up_at(alloc, cube, plan, number, rules)
 }
 
 /// The same cells, counted from the records one by one, which are lent once. It takes memory for

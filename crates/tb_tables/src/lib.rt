@@ -21,7 +21,7 @@ mod reply;
 mod writing;
 
 pub use answer::{answer_at, table_anew};
-pub use count::{Counted, count_anew, count_records, roll_up};
+pub use count::{Counted, count_anew, count_records, roll_up, roll_up_at};
 pub use query::{plan_for, read, shape_in};
 pub use reply::TableReply;
 pub use writing::{write_fault, write_number};

@@ -1,7 +1,7 @@
 use Rattle.std.proofs.Common.{◌∙◌, refl, sym, []}
 use Rattle.tb_session.specs.ReplyTexts.{reply_text}
 use Rattle.tb_tables.specs.ReplyTexts.{table_reply_text}
-use Rattle.tb_session.proofs.Leading.{leads_to_capacity, leads_to_clear, leads_to_edit, leads_to_nothing, leads_to_publish, leads_to_stats, leads_to_table, own_stats}
+use Rattle.tb_session.proofs.Leading.{leads_to_capacity, leads_to_clear, leads_to_edit, leads_to_nothing, leads_to_past, leads_to_publish, leads_to_stats, leads_to_table, own_stats}
 use Rattle.tb_session.proofs.answering.reply_to_custodian.Goals as goal
 
 pub returns-in-Nothing-clause-leads : goal.returns-in-Nothing-clause-leads
@@ -13,6 +13,11 @@ pub returns-in-Table-clause-leads : goal.returns-in-Table-clause-leads
 returns-in-Table-clause-leads g c =
     leads_to_table c.args.setup.now c.args.custodian.now c.answer_own.new.custodian c.args.held.now c.args.held.now c.args.line.now (table_reply_text c.answer_own.result) c.args.steps.now c.answer_own.new.steps
     (sym c.asks_of.ensures.asks ∙ c.in-Table.is) c.answer_own.ensures.same refl c.answer_own.ensures.answer
+
+pub returns-in-At-clause-leads : goal.returns-in-At-clause-leads
+returns-in-At-clause-leads g c =
+    leads_to_past c.args.setup.now c.args.custodian.now c.answer_own_past.new.custodian c.args.held.now c.args.held.now c.args.line.now (reply_text c.answer_own_past.result) c.args.steps.now c.answer_own_past.new.steps
+    c.in-At.number (sym c.asks_of.ensures.asks ∙ c.in-At.is) c.answer_own_past.ensures.same refl c.answer_own_past.ensures.answer
 
 pub returns-in-Edit-clause-leads : goal.returns-in-Edit-clause-leads
 returns-in-Edit-clause-leads g c =
