@@ -5,6 +5,7 @@ use Rattle.tb_base.specs.declared.keys.TheConstants.{MOST_KEYS}
 use Rattle.tb_base.specs.Keys.{ckey_of}
 use Rattle.tb_base.proofs.KeyLemmas.{ckey-kept}
 use Rattle.tb_model.specs.Perturbations.{by_sum, perturbation, shown, shown_text}
+use Rattle.tb_model.specs.UnitWorlds.{SameHomesShown}
 use Rattle.tb_model.specs.Worlds.{SameShown}
 
 -- where a count, a threshold and a perturbation agree, so does the text
@@ -23,3 +24,8 @@ same-shown a b f g t u n m k l count ckey threshold same =
 pub worlds_show_the_same : SameShown
 worlds_show_the_same v w agree =
     same-shown v.schema.keys w.schema.keys v.pvalues w.pvalues v.threshold w.threshold _ _ _ _ agree.count agree.ckey agree.threshold agree.same_perturbation
+
+-- and of a table of dwellings
+pub homes_show_the_same : SameHomesShown
+homes_show_the_same v w agree =
+    same-shown v.world.schema.keys w.world.schema.keys v.world.pvalues w.world.pvalues v.world.threshold w.world.threshold _ _ _ _ agree.count agree.ckey agree.threshold agree.same_perturbation

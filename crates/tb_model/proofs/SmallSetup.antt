@@ -1,5 +1,5 @@
 -- A small setup with worked tables.
-use Rattle.std.specs.Prelude.{ℕ, ℤ, pos, negsuc, List, [], ◌∷◌, codes, false, true}
+use Rattle.std.specs.Prelude.{ℕ, ℤ, pos, negsuc, List, [], ◌∷◌, codes, false, true, None}
 use Rattle.tb_base.specs.declared.keys.Keys.TheVariants.{K256, K4096}
 use Rattle.tb_base.specs.declared.records.Record.{Record}
 use Rattle.tb_model.specs.declared.names.NameOf.{NameOf}
@@ -42,7 +42,7 @@ records =
 
 -- the setup with these lines of the perturbation table
 abbrev pub setup : List PerturbationLine → SetupValue
-setup listed = record { schema = schema; lines = listed }
+setup listed = record { schema = schema; lines = listed; units = None }
 
 -- the same with the key range 4096
 abbrev pub wide_setup : List PerturbationLine → SetupValue

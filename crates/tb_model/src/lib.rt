@@ -5,7 +5,8 @@
 //! how a release's records stand in pages, `Rules` which pvalues and threshold a release has,
 //! `Queries` what is asked, `Places` which records a cell counts, and `Texts` the table's text.
 //! `Cubes` says how a table's cells come from those of a finer table, and `Worlds` when two cells
-//! show the same text. The code is their types and `laws`.
+//! show the same text. `Units` says what a table of dwellings counts, and `UnitWorlds` when two of
+//! its cells show the same text. The code is their types and `laws`.
 //!
 //! Of the proofs, `SumLemmas` and `RollUp` have sums of cells, `RowMajorLemmas` and `TableLemmas`
 //! the number and order of places and how cells change with the records, and `CubeLemmas` a table's

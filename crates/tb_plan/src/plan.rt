@@ -3,7 +3,7 @@
 ghost use Rattle.std.specs.Prelude.{◌≡◌, ℕ, ◌<◌, ◌≤◌, IfOk, true, length, map, slice_index};
 ghost use Rattle.tb_base.specs.declared.var_set.TheConstants.{VARIABLES_IN_PLACE};
 ghost use Rattle.tb_grid.specs.declared.products.TheConstants.{MOST_CELLS};
-ghost use Rattle.tb_grid.specs.Totals.{AreTotals, WereTotals};
+ghost use Rattle.tb_grid.specs.Totals.{AreSome, AreTotals, WereTotals};
 ghost use Rattle.tb_model.specs.Places.{places_of};
 ghost use Rattle.tb_model.specs.RowMajor.{product};
 ghost use Rattle.tb_query.specs.Over.{IsOver};
@@ -113,6 +113,15 @@ impl Plan {
     {
         let _ = &self.axes;
         places_from(&self.sizes, 0)
+    }
+
+    /// How many entries each dimension has, Total counted.
+    pub fn sizes(&self) -> &[usize]
+        ensures sizes { result.now ≡ sizes_of self.now }
+        ensures some { AreSome result.now }
+    {
+        let _ = &self.axes;
+        self.sizes.as_slice()
     }
 
     /// How many cells the cube over `vars` has; none exactly where they are more than `MOST_CELLS`

@@ -17,3 +17,4 @@ mod tallied;
 
 pub use put::put_all;
 pub use scan::{empty_cells, put_totals, scan_into};
+pub use tallied::numbers_of;

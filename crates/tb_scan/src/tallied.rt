@@ -29,8 +29,9 @@ fn add_steps(plan: &Plan, v: u16, steps: &[u32], chunk: &[Record], numbers: &mut
     }
 }
 
-// The numbers to which the records of a chunk lead.
-fn numbers_of(plan: &Plan, chunk: &[Record]) -> [u32; CHUNK]
+/// The numbers to which the records of a chunk lead, as far as a `u32` goes: that of a record's
+/// place without Total, or one past all places where the record fails a filter. It takes no memory.
+pub fn numbers_of(plan: &Plan, chunk: &[Record]) -> [u32; CHUNK]
     requires fit { AllFit plan.now.shape chunk.now }
     requires few { length chunk.now ≤ CHUNK }
     ensures { take (length chunk.now) result ≡ numbers_by plan.now chunk.now }

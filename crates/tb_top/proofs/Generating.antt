@@ -1,5 +1,5 @@
 -- What a generated population asks for, by steps over its files in memory.
-use Rattle.std.proofs.Common.{◌≡◌, ◌≢◌, ◌∙◌, ap, sym, subst, refl, ℕ, List, [], Option, Some, Result, Ok, Err, false, true≢false, arith}
+use Rattle.std.proofs.Common.{◌≡◌, ◌≢◌, ◌∙◌, ap, sym, subst, refl, ℕ, List, [], Option, None, Some, Result, Ok, Err, false, true≢false, arith}
 use Rattle.std.specs.Prelude.{◌≤◌, IfErr, IfSome, bytes_eq, codes, length, unwrap_or}
 use Rattle.std.proofs.lemmas.Bool.{le-ltb}
 use Rattle.tb_script.specs.Scripts.{ScriptValue, script_lines, script_value}
@@ -193,7 +193,7 @@ module _ (p : Population) (has : HasPersons p) where
 
   abbrev census : CensusValue
   census = record {
-    setup = record { schema = whole_schema; lines = (generated_table p.start).lines };
+    setup = record { schema = whole_schema; lines = (generated_table p.start).lines; units = None };
     threshold = generated_inputs.threshold;
     records = generated_records p.persons p.start;
   }

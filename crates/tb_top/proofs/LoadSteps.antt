@@ -340,7 +340,7 @@ skips-people schema place below =
 -- a census of what its files say
 abbrev pub census_with : Inputs → SchemaValue → TableValue → List Record → CensusValue
 census_with inputs schema table records = record {
-  setup = record { schema = schema; lines = table.lines };
+  setup = record { schema = schema; lines = table.lines; units = None };
   threshold = inputs.threshold;
   records = records;
 }

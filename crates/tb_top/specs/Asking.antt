@@ -125,7 +125,7 @@ census_in inputs contents =
     perturbation_in schema.keys contents >>= (λ table.
     people_in schema contents >>= (λ records.
     Ok (record {
-      setup = record { schema = schema; lines = table.lines };
+      setup = record { schema = schema; lines = table.lines; units = None };
       threshold = inputs.threshold;
       records = records;
     }))))

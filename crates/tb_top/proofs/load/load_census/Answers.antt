@@ -1,4 +1,4 @@
-use Rattle.std.proofs.Common.{◌≡◌, ◌∙◌, ap, subst, sym, refl, ℕ, List, Ok, Err}
+use Rattle.std.proofs.Common.{◌≡◌, ◌∙◌, ap, subst, sym, refl, ℕ, List, None, Ok, Err}
 use Rattle.std.proofs.lemmas.Result.{err_from_is_err_and}
 use Rattle.tb_base.specs.declared.records.Record.{Record}
 use Rattle.tb_base.specs.Rules.{RulesValue, first_rules}
@@ -55,7 +55,7 @@ returns-clause-loads g c =
     census-steps census_value inputs schema table _ refl refl refl refl refl refl c.in_ok-schema.ensures.loads (rw c.keys.ensures at c.in_ok-ptable.ensures.loads)
     (Loads-ends (λ people. people) census_value (people_in schema)
     (λ contents records. Ok (census_with inputs schema table records)) c.in_ok-people.people _
-    (λ contents. ap (λ (r : ReleaseValue). Ok (census_over (record { schema = schema; lines = table.lines }) r)) (sym first)) c.in_ok-people.ensures.loads)
+    (λ contents. ap (λ (r : ReleaseValue). Ok (census_over (record { schema = schema; lines = table.lines; units = None }) r)) (sym first)) c.in_ok-people.ensures.loads)
 
 pub returns-clause-first : goal.returns-clause-first
 returns-clause-first g c =
