@@ -73,7 +73,8 @@ crash: build
 	python3 docs/crash.py crates/tablebuilder/out/tablebuilder
 
 # The program beside a plain one over generated persons: medians, spreads, peak memory and ratios; set
-# pvalues and thresholds; a script with a journal, on the disk of bench/out; and a leader's messages.
+# pvalues and thresholds; a script with a journal, on the disk of bench/out; a leader's messages; and
+# tables of earlier releases.
 bench: bench-tools build
 	mkdir -p bench/out
 	rustc -O --edition 2021 -o bench/out/baseline bench/baseline.rs
@@ -83,6 +84,7 @@ bench: bench-tools build
 	python3 bench/rules.py crates/tablebuilder/out/tablebuilder bench/out/copy
 	python3 bench/keep.py crates/tablebuilder/out/tablebuilder bench/out/syncs.so bench/out
 	python3 bench/follow.py crates/tablebuilder/out/tablebuilder bench/out
+	python3 bench/past.py crates/tablebuilder/out/tablebuilder bench/out
 
 # Sessions over connections to this machine: rates beside a plain server and a script, and memory.
 bench-serve: bench-tools build
