@@ -10,7 +10,8 @@ ghost use Rattle.tb_front.specs.Holders.{holder, longer, IsLater};
 ghost use Rattle.tb_release.specs.Batches.{CanFollow, batch_refusal};
 ghost use Rattle.tb_release.specs.Laws.{EditFits};
 ghost use Rattle.tb_release.specs.Results.{IsWhy};
-ghost use Rattle.tb_board.specs.Custodians.{after_publishing, first_custodian, IsWhole};
+ghost use Rattle.tb_board.specs.Custodians.{after_publication, after_publishing};
+ghost use Rattle.tb_board.specs.Custodians.{first_custodian, CanPublish, IsWhole};
 ghost use Rattle.tb_board.specs.Holders.{release_seen, IsChainSeen};
 ghost use Rattle.tb_board.specs.Turns.{IsTakenAt, IsWholeChain};
 
@@ -19,6 +20,7 @@ use crate::custodian::Custodian;
 use crate::locked::Locked;
 use crate::named::Named;
 use crate::opening::Opening;
+use crate::publishing::Publication;
 use crate::step::Step;
 use std::alloc::Global;
 use std::sync::{Mutex, Wait};
@@ -136,8 +138,30 @@ impl<B: Named> Board<B> {
             (λ fault. IsWhy (batch_refusal custodian.old.release edits.now) fault) }
     {
         let publication = custodian.prepare(alloc, edits)?;
+        Ok(self.publish_prepared(rt, custodian, publication)?)
+    }
+
+    /// Publishes what the custodian prepared, and returns the number of the release to which it
+    /// leads. It takes memory for the desk's room for one batch more; where that is refused, the
+    /// custodian is as before.
+    pub fn publish_prepared(
+        &self,
+        rt: &impl Wait,
+        custodian: &mut Custodian,
+        publication: Publication,
+    ) -> Result<u32, Memory>
+        requires name { custodian.old.writer.name ≡ B.name }
+        requires whole { IsWhole custodian.old }
+        requires publication { CanPublish custodian.old.writer.start.shape
+            custodian.old.release publication }
+        ensures whole { IsWhole custodian.new }
+        ensures ok { OnOk result (custodian.new ≡ after_publication publication custodian.old) }
+        ensures number { IfOk result (λ n. n ≡ length custodian.new.pass.list) }
+        ensures release { IfOk result (λ n. n ≡ custodian.new.release.number) }
+        ensures err { OnErr result (custodian.new ≡ custodian.old) }
+    {
         let mut guard = self.locked.lock(rt);
-        Ok(guard.publish(&self.front, custodian, publication)?)
+        guard.publish(&self.front, custodian, publication)
     }
 
     /// The numbers of the desk in this turn. Its release is how many batches the custodian's pass

@@ -29,4 +29,5 @@ pub use custodian::Custodian;
 pub use locked::Locked;
 pub use named::Named;
 pub use opening::Opening;
+pub use publishing::Publication;
 pub use step::{Start, Step};

@@ -20,10 +20,10 @@ use tb_base::Memory;
 use tb_front::{Front, Keeper};
 use tb_release::{Batch, EditFault, Edits, Release, next};
 
-// The next release, for the desk and for the custodian, and the batch that leads to it, for the
-// desk and as the chain's entry.
+/// What a publication adds: the next release, for the desk and for the custodian, and the batch that
+/// leads to it, for the desk and as the chain's entry.
 #[derive(Drop)]
-pub(crate) struct Publication {
+pub struct Publication {
     release: Arc<Release>,
     kept: Arc<Release>,
     batch: Arc<Batch>,
@@ -46,9 +46,10 @@ impl Model for Publication {
 }
 
 impl Custodian {
-    // What the publication of some edits adds. It takes all memory of a publication but the desk's
-    // room for one batch more, and changes nothing that others can see.
-    pub(crate) fn prepare(&self, alloc: Global, edits: &Edits) -> Result<Publication, EditFault>
+    /// What the publication of some edits adds. The refusals are those of `tb_release::next` on the
+    /// custodian's release. It takes all memory of a publication but the desk's room for one batch
+    /// more, and changes nothing.
+    pub fn prepare(&self, alloc: Global, edits: &Edits) -> Result<Publication, EditFault>
         requires { All (EditFits self.now.writer.start.shape) edits.now }
         ensures next { IfOk result (λ made. made ≡ next_publication self.now.release edits.now) }
         ensures publication { IfOk result
