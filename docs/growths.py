@@ -169,6 +169,20 @@ custodian publish
 a table SEX
 custodian stats
 """),
+    "tables of earlier releases": ("script", """
+custodian drop 104
+custodian pvalue 3 64 5
+custodian publish
+a at 0 table SEX
+a at 1 table SEX
+custodian add 104 7 SEX=2 AGE=16-64 AREA=E2
+custodian publish
+a at 1 table AREA by SEX with totals
+a at 3 table SEX
+custodian at 0 table AREA by AGE by SEX
+custodian at 2 table SEX
+custodian stats
+"""),
     "a batch beside a table": ("lanes", """
 custodian drop 104
 custodian publish
@@ -187,6 +201,15 @@ b table SEX
 custodian add 104 7 SEX=2 AGE=16-64 AREA=E2
 custodian publish
 a table SEX
+"""),
+    "an earlier release beside a batch": ("lanes", """
+custodian drop 104
+custodian publish
+a at 0 table SEX
+b at 1 table SEX
+--
+a at 1 table SEX
+custodian at 0 table SEX
 """),
     "a journal": ("keep", """
 custodian drop 104
@@ -297,6 +320,16 @@ class Model:
             lines.append(",".join([*cell, self.shown(inside, release)]))
         return "".join(line + "\n" for line in [*lines, "."])
 
+    def reply(self, chain, line):
+        """The reply to a query, or to one behind `at N`, where these are the releases."""
+        last = len(chain) - 1
+        if not line.startswith("at "):
+            return self.table(last, chain[last], line)
+        _, number, query = line.split(" ", 2)
+        if int(number) > last:
+            return f"refused 10 NoSuchRelease {last}\n"
+        return self.table(int(number), chain[int(number)], query)
+
 
 def keys_of(people):
     """The record key of each person."""
@@ -357,8 +390,8 @@ class Custodian:
         if reply == MEMORY:
             return True
         release, keys = self.chain[-1], dict(self.keys)
-        if line.startswith("table "):
-            return reply == self.model.table(len(self.chain) - 1, release, line)
+        if line.startswith(("table ", "at ")):
+            return reply == self.model.reply(self.chain, line)
         if line.startswith("stats"):
             return reply.startswith(f"stats release {len(self.chain) - 1} looks ")
         if line.startswith("cache "):
@@ -500,10 +533,8 @@ def allows_script(custodian, lines, text):
         if lane == custodian.lane:
             if not custodian.allows(words, reply):
                 return False
-        elif reply != MEMORY:
-            number = len(custodian.chain) - 1
-            if reply != model.table(number, custodian.chain[-1], words):
-                return False
+        elif reply not in (MEMORY, model.reply(custodian.chain, words)):
+            return False
     return True
 
 
@@ -523,7 +554,7 @@ def allows_phase(model, lanes, custodian, last, texts):
             if reply == MEMORY:
                 continue
             seen = next((number for number in range(seen, len(custodian.chain))
-                         if reply == model.table(number, custodian.chain[number], line)), None)
+                         if reply == model.reply(custodian.chain[:number + 1], line)), None)
             if seen is None:
                 return False
         last[lane] = seen
