@@ -37,7 +37,11 @@ fn ptable(alloc: Global, keys: Keys) -> Result<PTable, Memory>
 pub fn setup(alloc: Global) -> Result<Setup, Memory> {
     let schema = schema(alloc)?;
     let ptable = ptable(alloc, schema.keys())?;
-    Ok(Setup { schema, ptable })
+    Ok(Setup {
+        schema,
+        ptable,
+        units: None,
+    })
 }
 
 /// The four persons.
