@@ -1,6 +1,6 @@
 -- Chains with one more link.
-use Rattle.std.proofs.Common.{◌≡◌, ◌≢◌, ◌∙◌, sym, ap, refl, ℕ, zero, suc, ◌+◌, ◌<◌, true, false, cond, List, [], ◌∷◌, ◌++◌, length, length-append, get_or, get_or-set_other, get_or-set_same, arith, inl, inr, add-one}
-use Rattle.std.specs.Prelude.{◌==◌, replicate, slice_index, slice_set}
+use Rattle.std.proofs.Common.{◌≡◌, ◌≢◌, ◌∙◌, sym, ap, refl, ℕ, ◌+◌, ◌<◌, List, [], ◌∷◌, ◌++◌, length, length-append, get_or, get_or-set_other, get_or-set_same, arith, inl, inr, add-one}
+use Rattle.std.specs.Prelude.{replicate, slice_index, slice_set}
 use Rattle.std.proofs.lemmas.Bool.{cases_lt, eq-eqb, ne_eqb}
 use Rattle.std.proofs.lemmas.Bool.Decides.{eqb_tells}
 use Rattle.std.proofs.lemmas.List.{get_or_append_left, get_or_push, length-set, length-replicate, get_or-replicate}
@@ -57,9 +57,3 @@ chains-more dwellings links heads nexts k d own there is chains = record {
         get_or_push nexts (slice_index heads d) 0 j (chains.all ∙ last) ∙ chains.begin d there ∙ ap (λ n. last_to links n k) is ∙ ap (λ i. last_to links (pair_at links i).1 i) last
   ];
 }
-
--- what stands at a place of a list, whatever stands past its end
-pub any-default : {X : Type 0} (xs : List X) (i : ℕ) (d e : X) → i < length xs → get_or xs i d ≡ get_or xs i e
-any-default [] i d e below = absurd (omega (arith, below))
-any-default (x ∷ xs) zero d e below = refl
-any-default (x ∷ xs) (suc i) d e below = any-default xs i d e (omega (arith, below))

@@ -1,5 +1,5 @@
 -- Pairs by their first numbers.
-use Rattle.std.proofs.Common.{◌≡◌, ◌∙◌, sym, refl, ℕ, ◌<◌, true, false, List, [], ◌∷◌, length, get_or, inl, inr, Option, None, Some, arith}
+use Rattle.std.proofs.Common.{◌≡◌, ◌∙◌, sym, refl, ℕ, ◌<◌, false, List, [], ◌∷◌, length, get_or, inl, inr, Option, None, Some, arith}
 use Rattle.std.specs.Prelude.{is_some, nat_eq, position, IfNone, IfSome}
 use Rattle.std.specs.Map.{keys_of, lookup}
 use Rattle.std.proofs.lemmas.Bool.Decides.{nat_tests}

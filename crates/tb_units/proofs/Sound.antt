@@ -1,8 +1,7 @@
 -- What is true of all dwellings and links that were read.
-use Rattle.std.proofs.Common.{◌≡◌, ◌≢◌, ◌∙◌, sym, ap, subst, refl, ℕ, zero, suc, ◌+◌, ◌<◌, ◌≤◌, Bool, true, false, List, [], ◌∷◌, ◌++◌, drop, take, length, map, get_or, Option, Some, None, Result, Ok, Err, arith, inl, inr}
-use Rattle.std.specs.Prelude.{nat_lt, option_and_then, slice_index, if◌then◌else◌, ◌==◌}
-use Rattle.std.specs.List.{list_any}
-use Rattle.std.proofs.lemmas.Bool.{cases_Bool, cases_lt}
+use Rattle.std.proofs.Common.{◌≡◌, ◌≢◌, ◌∙◌, sym, ap, subst, ℕ, zero, suc, ◌+◌, ◌<◌, ◌≤◌, Bool, true, false, List, [], ◌∷◌, ◌++◌, drop, take, length, map, get_or, Option, Some, None, Result, Ok, Err, arith, inl, inr}
+use Rattle.std.specs.Prelude.{nat_lt, option_and_then, if◌then◌else◌, ◌==◌}
+use Rattle.std.proofs.lemmas.Bool.{cases_Bool}
 use Rattle.std.proofs.lemmas.Bool.Decides.{nat_tests}
 use Rattle.std.proofs.lemmas.List.{drop_more, get_or-take, length-take-le, take-append-drop}
 use Rattle.tb_base.specs.Numbers.{number_of}
@@ -10,7 +9,7 @@ use Rattle.tb_base.specs.Keys.{key_range}
 use Rattle.tb_base.specs.declared.keys.Keys.{Keys}
 use Rattle.tb_base.specs.declared.keys.Keys.TheVariants.{K256, K4096}
 use Rattle.tb_base.specs.declared.keys.TheConstants.{MOST_KEYS}
-use Rattle.tb_model.specs.Units.{PairValue, UnitsValue}
+use Rattle.tb_model.specs.Units.{PairValue}
 use Rattle.tb_records.specs.People.{key_of, person_of}
 use Rattle.tb_rows.specs.Columns.{fields_at}
 use Rattle.tb_rows.specs.Formats.{line_under}
@@ -27,7 +26,7 @@ use Rattle.tb_units.specs.declared.formats.TheConstants.{MOST_DWELLINGS, MOST_LI
 use Rattle.tb_units.specs.Pairs.{has_first, pair_at}
 use Rattle.tb_units.specs.Dwellings.{dwelling_in, dwelling_of, dwellings_file, dwellings_of}
 use Rattle.tb_units.specs.Links.{links_file, links_of}
-use Rattle.tb_units.specs.Whole.{AreKnown, AreRead, HaveKeys, HaveOwn, IsSound}
+use Rattle.tb_units.specs.Whole.{AreKnown, AreWhole, HaveKeys, HaveOwn, IsSound}
 use Rattle.tb_units.specs.WholeFiles.{AreDwellings, AreLinks, DwellingGoes, LinkGoes}
 use Rattle.tb_units.proofs.WholeFiles.{are_dwellings, are_links}
 
@@ -130,6 +129,11 @@ good-links dwellings bytes links h =
 
 pub sound : (dwellings links : List PairValue) → GoodDwellings dwellings → GoodLinks dwellings links → IsSound (record { dwellings = dwellings; links = links })
 sound dwellings links ds ls = record { own_dwellings = ds.own; own_links = ls.own; keys = ds.keys; few_dwellings = ds.few; few_links = ls.few }
+
+-- the same dwellings and links, kept otherwise
+pub whole-as : (ds es ls ms : List PairValue) (heads nexts : List ℕ) → es ≡ ds → ms ≡ ls → AreWhole (record { dwellings = ds; links = ls }) heads nexts → AreWhole (record { dwellings = es; links = ms }) heads nexts
+whole-as ds es ls ms heads nexts d l whole =
+    subst (λ xs. AreWhole (record { dwellings = xs; links = ms }) heads nexts) (sym d) (subst (λ xs. AreWhole (record { dwellings = ds; links = xs }) heads nexts) (sym l) whole)
 
 -- what was read of a file is what the file says
 pub said : {A : Type 0} (file : UnitsFile) (r : Result A (Fault UnitsKind)) (x : A) → in_file file r ≡ Ok x → r ≡ Ok x

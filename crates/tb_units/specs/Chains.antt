@@ -1,5 +1,5 @@
 -- The links of each dwelling, as chains from one link to the one before it.
-use Rattle.std.specs.Prelude.{◌≡◌, ◌==◌, ◌&&◌, ◌||◌, ◌<◌, ◌+◌, ℕ, zero, suc, Bool, false, cond, List, length, slice_index}
+use Rattle.std.specs.Prelude.{◌≡◌, ◌==◌, ◌&&◌, ◌||◌, ◌<◌, ℕ, zero, suc, Bool, false, cond, List, length, slice_index}
 use Rattle.tb_model.specs.Units.{PairValue}
 use Rattle.tb_units.specs.Pairs.{pair_at}
 

@@ -1,5 +1,5 @@
 -- What both files say, or their first fault.
-use Rattle.std.specs.Prelude.{ℕ, List, Result, Ok, Err}
+use Rattle.std.specs.Prelude.{ℕ, List, Result, Ok}
 use Rattle.tb_base.specs.declared.keys.Keys.{Keys}
 use Rattle.tb_model.specs.Units.{PairValue, UnitsValue}
 use Rattle.tb_rows.specs.Formats.{and_then}

@@ -1,7 +1,7 @@
 // Pairs of numbers in their order, looked up by their first numbers.
 
 ghost use Rattle.std.specs.Prelude.{◌≡◌, ◌<◌, ◌++◌, ◌∷◌, [], true, false, length};
-ghost use Rattle.std.specs.Prelude.{IfSome, IfNone, OnOk, OnErr};
+ghost use Rattle.std.specs.Prelude.{IfOk, IfSome, IfNone, OnOk, OnErr};
 ghost use Rattle.tb_units.specs.Pairs.{has_first, pair_at, IsAt};
 
 use indexmap::IndexMap;
@@ -90,5 +90,23 @@ impl Pairs {
     {
         self.map.insert(first, second)?;
         Ok(())
+    }
+
+    /// Gives back the memory that isn't needed while no more pairs are added.
+    pub fn shrink(&mut self)
+        ensures { self.new ≡ self.old }
+    {
+        self.map.shrink_to_fit();
+    }
+
+    /// The pairs as a list, in which none can be looked up.
+    pub fn to_list(&self, alloc: Global) -> Result<Vec<(u32, u32)>, Memory>
+        ensures { IfOk result (λ list. list.items ≡ self.now) }
+    {
+        let mut list = Vec::with_capacity(alloc, self.len())?;
+        for i in 0..self.len() {
+            list.push(self.at(i))?;
+        }
+        Ok(list)
     }
 }
