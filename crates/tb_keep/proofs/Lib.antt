@@ -2,6 +2,7 @@ mod Chains
 mod JournalRunning
 mod KeptRunning
 mod Owning
+mod Preparing
 mod Recovering
 mod Refusing
 pub mod SomeKeptReplies
