@@ -54,6 +54,8 @@ fn input_named(word: &str) -> Option<Input> {
         Input::Recodes,
         Input::Ptable,
         Input::People,
+        Input::Dwellings,
+        Input::Links,
         Input::Script,
     ];
     for input in inputs {
@@ -75,6 +77,12 @@ fn inputs_of<'c, 'a>(command: &'c Command<'a>) -> Option<&'c Inputs<'a>> {
             script: _,
         } => Some(inputs),
         Command::Follow { inputs, script: _ } => Some(inputs),
+        Command::Units {
+            inputs,
+            dwellings: _,
+            links: _,
+            script: _,
+        } => Some(inputs),
         Command::Serve { inputs, service: _ } => Some(inputs),
         Command::Gen { .. } => None,
     }
@@ -88,6 +96,14 @@ fn name_of<'a>(command: &Command<'a>, file: Input) -> Option<&'a str> {
         Input::Recodes => Some(inputs.recodes.as_ref()?.as_str()),
         Input::Ptable => Some(inputs.ptable.as_str()),
         Input::People => Some(inputs.people.as_str()),
+        Input::Dwellings => match command {
+            Command::Units { dwellings, .. } => Some(dwellings.as_str()),
+            _ => None,
+        },
+        Input::Links => match command {
+            Command::Units { links, .. } => Some(links.as_str()),
+            _ => None,
+        },
         Input::Script => match command {
             Command::Script { inputs: _, script } => Some(script.as_str()),
             Command::Lanes { inputs: _, script } => Some(script.as_str()),
@@ -97,6 +113,12 @@ fn name_of<'a>(command: &Command<'a>, file: Input) -> Option<&'a str> {
                 script,
             } => Some(script.as_str()),
             Command::Follow { inputs: _, script } => Some(script.as_str()),
+            Command::Units {
+                inputs: _,
+                dwellings: _,
+                links: _,
+                script,
+            } => Some(script.as_str()),
             Command::Serve { .. } | Command::Gen { .. } => None,
         },
     }
@@ -184,6 +206,7 @@ impl<'a> Refusal<'a> {
                 | Command::Lanes { .. }
                 | Command::Keep { .. }
                 | Command::Follow { .. }
+                | Command::Units { .. }
                 | Command::Gen { .. } => None,
             },
             Status::Journal => of_journal(command?, line?),
@@ -195,6 +218,7 @@ impl<'a> Refusal<'a> {
             | Status::Perturbation
             | Status::Microdata
             | Status::Script
+            | Status::Units
             | Status::ReadFault => of_file(command?, line?),
         }
     }

@@ -54,6 +54,7 @@ IsOfEnd status.Memory = Unit {0}
 IsOfEnd status.NetFault = ⊥
 IsOfEnd status.Journal = ⊥
 IsOfEnd status.DiskFault = ⊥
+IsOfEnd status.Units = Unit {0}
 
 of_end : (e : End) → IsOfEnd (status_of e)
 of_end end.Usage = tt
@@ -61,12 +62,16 @@ of_end (end.TooLong input.Classes) = tt
 of_end (end.TooLong input.Recodes) = tt
 of_end (end.TooLong input.Ptable) = tt
 of_end (end.TooLong input.People) = tt
+of_end (end.TooLong input.Dwellings) = tt
+of_end (end.TooLong input.Links) = tt
 of_end (end.TooLong input.Script) = tt
 of_end (end.Unread file) = tt
 of_end (end.Refused input.Classes name at) = tt
 of_end (end.Refused input.Recodes name at) = tt
 of_end (end.Refused input.Ptable name at) = tt
 of_end (end.Refused input.People name at) = tt
+of_end (end.Refused input.Dwellings name at) = tt
+of_end (end.Refused input.Links name at) = tt
 of_end (end.Refused input.Script name at) = tt
 of_end (end.BadLine at) = tt
 of_end end.Memory = tt
@@ -86,6 +91,7 @@ module _ (call : Call) (at : List ℕ → Option (List ℕ)) (same : call.ports_
   whole_by_status status.NetFault text of m h = absurd of
   whole_by_status status.Journal text of m h = absurd of
   whole_by_status status.DiskFault text of m h = absurd of
+  whole_by_status status.Units text of m h = h
 
   -- an end is memory's, or has another status
   memory_or_not : (e : End) → (e ≡ end.Memory) ⊎ ((e ≢ end.Memory) × (status_of e ≢ status.Memory))
@@ -94,12 +100,16 @@ module _ (call : Call) (at : List ℕ → Option (List ℕ)) (same : call.ports_
   memory_or_not (end.TooLong input.Recodes) = inr (λ h. cc, λ h. cc)
   memory_or_not (end.TooLong input.Ptable) = inr (λ h. cc, λ h. cc)
   memory_or_not (end.TooLong input.People) = inr (λ h. cc, λ h. cc)
+  memory_or_not (end.TooLong input.Dwellings) = inr (λ h. cc, λ h. cc)
+  memory_or_not (end.TooLong input.Links) = inr (λ h. cc, λ h. cc)
   memory_or_not (end.TooLong input.Script) = inr (λ h. cc, λ h. cc)
   memory_or_not (end.Unread file) = inr (λ h. cc, λ h. cc)
   memory_or_not (end.Refused input.Classes name at) = inr (λ h. cc, λ h. cc)
   memory_or_not (end.Refused input.Recodes name at) = inr (λ h. cc, λ h. cc)
   memory_or_not (end.Refused input.Ptable name at) = inr (λ h. cc, λ h. cc)
   memory_or_not (end.Refused input.People name at) = inr (λ h. cc, λ h. cc)
+  memory_or_not (end.Refused input.Dwellings name at) = inr (λ h. cc, λ h. cc)
+  memory_or_not (end.Refused input.Links name at) = inr (λ h. cc, λ h. cc)
   memory_or_not (end.Refused input.Script name at) = inr (λ h. cc, λ h. cc)
   memory_or_not (end.BadLine at) = inr (λ h. cc, λ h. cc)
   memory_or_not end.Memory = inl refl
@@ -140,12 +150,16 @@ status-usage (end.TooLong input.Classes) h = cc
 status-usage (end.TooLong input.Recodes) h = cc
 status-usage (end.TooLong input.Ptable) h = cc
 status-usage (end.TooLong input.People) h = cc
+status-usage (end.TooLong input.Dwellings) h = cc
+status-usage (end.TooLong input.Links) h = cc
 status-usage (end.TooLong input.Script) h = cc
 status-usage (end.Unread file) h = cc
 status-usage (end.Refused input.Classes name at) h = cc
 status-usage (end.Refused input.Recodes name at) h = cc
 status-usage (end.Refused input.Ptable name at) h = cc
 status-usage (end.Refused input.People name at) h = cc
+status-usage (end.Refused input.Dwellings name at) h = cc
+status-usage (end.Refused input.Links name at) h = cc
 status-usage (end.Refused input.Script name at) h = cc
 status-usage (end.BadLine at) h = cc
 status-usage end.Memory h = cc
@@ -156,12 +170,16 @@ status-read (end.TooLong input.Classes) h = cc
 status-read (end.TooLong input.Recodes) h = cc
 status-read (end.TooLong input.Ptable) h = cc
 status-read (end.TooLong input.People) h = cc
+status-read (end.TooLong input.Dwellings) h = cc
+status-read (end.TooLong input.Links) h = cc
 status-read (end.TooLong input.Script) h = cc
 status-read (end.Unread file) h = (file, refl)
 status-read (end.Refused input.Classes name at) h = cc
 status-read (end.Refused input.Recodes name at) h = cc
 status-read (end.Refused input.Ptable name at) h = cc
 status-read (end.Refused input.People name at) h = cc
+status-read (end.Refused input.Dwellings name at) h = cc
+status-read (end.Refused input.Links name at) h = cc
 status-read (end.Refused input.Script name at) h = cc
 status-read (end.BadLine at) h = cc
 status-read end.Memory h = cc
@@ -367,11 +385,18 @@ holds-inputs : (at : List ℕ → Option (List ℕ)) (recodes : Option (List ℕ
 holds-inputs at None classes ptable people threshold = (refl, (refl, (refl, tt)))
 holds-inputs at (Some name) classes ptable people threshold = (refl, (refl, (refl, (refl, tt))))
 
+holds-counted : (at : List ℕ → Option (List ℕ)) (recodes : Option (List ℕ)) (classes ptable people dwellings links script : List ℕ) (threshold : ℕ)
+    → let inputs : Inputs = record { classes = classes; recodes = recodes; ptable = ptable; people = people; threshold = threshold } in
+    Hold at (command_files (command.Units inputs dwellings links script)) (contents_at at (command_files (command.Units inputs dwellings links script)))
+holds-counted at None classes ptable people dwellings links script threshold = (refl, (refl, (refl, (refl, (refl, (refl, tt))))))
+holds-counted at (Some name) classes ptable people dwellings links script threshold = (refl, (refl, (refl, (refl, (refl, (refl, (refl, tt)))))))
+
 holds : (at : List ℕ → Option (List ℕ)) (c : Command) → Hold at (command_files c) (contents_at at (command_files c))
 holds at (command.Script inputs script) = holds-files at inputs.recodes inputs.classes inputs.ptable inputs.people script inputs.threshold
 holds at (command.Lanes inputs script) = holds-files at inputs.recodes inputs.classes inputs.ptable inputs.people script inputs.threshold
 holds at (command.Keep inputs journal script) = holds-files at inputs.recodes inputs.classes inputs.ptable inputs.people script inputs.threshold
 holds at (command.Follow inputs script) = holds-files at inputs.recodes inputs.classes inputs.ptable inputs.people script inputs.threshold
+holds at (command.Units inputs dwellings links script) = holds-counted at inputs.recodes inputs.classes inputs.ptable inputs.people dwellings links script inputs.threshold
 holds at (command.Serve inputs service) = holds-inputs at inputs.recodes inputs.classes inputs.ptable inputs.people inputs.threshold
 holds at (command.Gen population) = tt
 

@@ -63,6 +63,8 @@ hold-all a b c d e f p one two three four five input.Ptable =
 hold-all a b c d e f p one two three four five input.People =
     five.others (input_name input.People) (differ (codes "people") (codes "script") refl)
     ∙ four.here
+hold-all a b c d e f p one two three four five input.Dwellings = tt
+hold-all a b c d e f p one two three four five input.Links = tt
 hold-all a b c d e f p one two three four five input.Script =
     five.here
 
@@ -71,9 +73,9 @@ pub holds-generated : (p : Population) (files : HeldFiles) → HoldGenerated p f
     → Hold (λ name. Some (bytes_or_none files name)) (scripted_files generated_inputs (input_name input.Script))
     (generated_contents p)
 holds-generated p files held =
-    let at : (file : Input) → Some (unwrap_or (generated_contents p file) []) ≡ Some (bytes_or_none files (input_name file)) =
-    λ file. ap (λ (o : Option (List ℕ)). Some (unwrap_or o [])) (sym (held file)) in
-    (at input.Classes, (at input.Recodes, (at input.Ptable, (at input.People, (at input.Script, tt)))))
+    let at : (file : Input) (bytes : List ℕ) → bytes_of files (input_name file) ≡ Some bytes → Some bytes ≡ Some (bytes_or_none files (input_name file)) =
+    λ file bytes is. ap (λ (o : Option (List ℕ)). Some (unwrap_or o [])) (sym is) in
+    (at input.Classes _ (held input.Classes), (at input.Recodes _ (held input.Recodes), (at input.Ptable _ (held input.Ptable), (at input.People _ (held input.People), (at input.Script _ (held input.Script), tt)))))
 
 -- what is true of told contents
 told : {A : Type 0} (P : A → Type 0) (o : Option A) (x : A) → o ≡ Some x → IfSome o P → P x

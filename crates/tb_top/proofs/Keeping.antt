@@ -32,6 +32,7 @@ keeps-alone (command.Script inputs script) keeps generates = cc
 keeps-alone (command.Lanes inputs script) keeps generates = cc
 keeps-alone (command.Keep inputs journal script) keeps generates = cc
 keeps-alone (command.Follow inputs script) keeps generates = cc
+keeps-alone (command.Units inputs dwellings links script) keeps generates = cc
 keeps-alone (command.Serve inputs service) keeps generates = cc
 keeps-alone (command.Gen population) keeps generates = cc
 

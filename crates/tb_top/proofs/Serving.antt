@@ -39,6 +39,7 @@ IsFinal status.Memory = Unit {0}
 IsFinal status.NetFault = Unit {0}
 IsFinal status.Journal = Unit {0}
 IsFinal status.DiskFault = Unit {0}
+IsFinal status.Units = ⊥
 
 -- a call that came to its task, and whose text is one of a final status
 module _ (call : Call) (command : Command) (task : AskedValue) (s final : Status) (text : List ℕ)
@@ -69,6 +70,7 @@ module _ (call : Call) (command : Command) (task : AskedValue) (s final : Status
   defined_told at asked status.NetFault final net written is = inr (inr (inr (inr (inl (is, net refl)))))
   defined_told at asked status.Journal final net written is = inr (inr (inr (inr (inr (text, subst (λ x. IsJournalText call at x text) (sym is) written)))))
   defined_told at asked status.DiskFault final net written is = inr (inr (inr (inr (inr (text, subst (λ x. IsJournalText call at x text) (sym is) written)))))
+  defined_told at asked status.Units final net written is = absurd final
 
   -- it has no other status than the final one and WriteFault
   never : (other : Status) → IsEnded text final (output_of call) s → other ≢ status.WriteFault → (IsFinal other → ⊥) → s ≢ other
@@ -178,6 +180,7 @@ serves-alone (command.Script inputs script) serves generates = cc
 serves-alone (command.Lanes inputs script) serves generates = cc
 serves-alone (command.Keep inputs journal script) serves generates = cc
 serves-alone (command.Follow inputs script) serves generates = cc
+serves-alone (command.Units inputs dwellings links script) serves generates = cc
 serves-alone (command.Serve inputs service) serves generates = cc
 serves-alone (command.Gen population) serves generates = cc
 

@@ -84,6 +84,7 @@ IsWhole call at status.Memory text =
 IsWhole call at status.NetFault text = IsAskedOutput call at status.NetFault text
 IsWhole call at status.Journal text = IsJournalText call at status.Journal text
 IsWhole call at status.DiskFault text = IsJournalText call at status.DiskFault text
+IsWhole call at status.Units text = IsLastLine call at status.Units text
 
 -- the same, or, where a write failed, a beginning of such a text
 abbrev pub IsTextOf : Call → (List ℕ → Option (List ℕ)) → Status → List ℕ → Type 0

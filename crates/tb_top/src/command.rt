@@ -6,7 +6,8 @@ ghost use Rattle.tb_top.specs.Commands.{inputs_named};
 ghost use Rattle.tb_top.specs.Commands.{is_file_name as names_a_file};
 ghost use Rattle.tb_top.specs.Commands.{keep_named, keep_words, lanes_words, may_name_recodes};
 ghost use Rattle.tb_top.specs.Commands.{recodes_name as name_of_recodes, script_words};
-ghost use Rattle.tb_top.specs.Commands.{serve_named, serve_words, with_script, words_with_script};
+ghost use Rattle.tb_top.specs.Commands.{serve_named, serve_words, units_named, units_words};
+ghost use Rattle.tb_top.specs.Commands.{with_script, words_with_script};
 ghost use Rattle.tb_top.specs.GeneratedFiles.{generated_inputs as inputs_of_generated};
 
 use crate::endings::Input;
@@ -46,8 +47,8 @@ pub struct Inputs<'a> {
 
 /// A command: one of several, each with its inputs and its task. `Script` answers the lines of the
 /// script of that name, `Lanes` its lanes at the same time, `Keep` as `Script`, with a journal
-/// under a name of its own, and `Follow` with a follower in place of a board; `Serve` serves
-/// sessions; `Gen` reads no files, and sums up what `Script` would write over those of a generated
+/// under a name of its own, `Follow` with a follower in place of a board, and `Units` with tables of
+/// dwellings too; `Serve` serves sessions; `Gen` reads no files, and sums up what `Script` would write over those of a generated
 /// population.
 #[derive(Drop)]
 pub enum Command<'a> {
@@ -66,6 +67,12 @@ pub enum Command<'a> {
     },
     Follow {
         inputs: Inputs<'a>,
+        script: FileName<'a>,
+    },
+    Units {
+        inputs: Inputs<'a>,
+        dwellings: FileName<'a>,
+        links: FileName<'a>,
         script: FileName<'a>,
     },
     Serve {
@@ -196,6 +203,35 @@ fn read_keep<'a>(
     }
 }
 
+// The command that the arguments `CLASSES RECODES PTABLE PEOPLE THRESHOLD DWELLINGS LINKS SCRIPT`
+// name.
+fn read_units<'a>(
+    classes: &'a str,
+    recodes: &'a str,
+    ptable: &'a str,
+    people: &'a str,
+    threshold: &str,
+    dwellings: &'a str,
+    links: &'a str,
+    script: &'a str,
+) -> Option<Command<'a>>
+    ensures { result ≡ units_named classes.now recodes.now ptable.now people.now threshold.now
+        dwellings.now links.now script.now }
+{
+    if !is_file_name(dwellings) || !is_file_name(links) {
+        return None;
+    }
+    match read_script_inputs(classes, recodes, ptable, people, threshold, script) {
+        Some((inputs, script)) => Some(Command::Units {
+            inputs,
+            dwellings: FileName::of(dwellings),
+            links: FileName::of(links),
+            script,
+        }),
+        None => None,
+    }
+}
+
 // The command that the arguments `CLASSES RECODES PTABLE PEOPLE THRESHOLD PORT WORKERS SESSIONS`
 // name.
 fn read_serve<'a>(
@@ -311,6 +347,39 @@ fn read_keep_words(words: &[String]) -> Option<Command<'_>>
     )
 }
 
+// What the arguments `units CLASSES RECODES PTABLE PEOPLE THRESHOLD DWELLINGS LINKS SCRIPT` ask for.
+fn read_units_words(words: &[String]) -> Option<Command<'_>>
+    ensures { result ≡ units_words (map string_bytes words.now) }
+{
+    let [
+        command,
+        classes,
+        recodes,
+        ptable,
+        people,
+        threshold,
+        dwellings,
+        links,
+        script,
+    ] = words
+    else {
+        return None;
+    };
+    if command.as_str() != "units" {
+        return None;
+    }
+    read_units(
+        classes.as_str(),
+        recodes.as_str(),
+        ptable.as_str(),
+        people.as_str(),
+        threshold.as_str(),
+        dwellings.as_str(),
+        links.as_str(),
+        script.as_str(),
+    )
+}
+
 // What the arguments `serve CLASSES RECODES PTABLE PEOPLE THRESHOLD PORT WORKERS SESSIONS` ask for.
 fn read_serve_words(words: &[String]) -> Option<Command<'_>>
     ensures { result ≡ serve_words (map string_bytes words.now) }
@@ -371,8 +440,8 @@ pub fn generated_inputs<'a>() -> Inputs<'a>
 }
 
 /// What the arguments ask for: `script CLASSES RECODES PTABLE PEOPLE THRESHOLD SCRIPT`, `lanes` or
-/// `follow` with the same after it, `keep` with JOURNAL before SCRIPT, or `serve CLASSES RECODES
-/// PTABLE PEOPLE THRESHOLD PORT WORKERS SESSIONS`, RECODES being a file's name or `-`; or `gen N
+/// `follow` with the same after it, `keep` with JOURNAL before SCRIPT, `units` with DWELLINGS and
+/// LINKS there, or `serve CLASSES RECODES PTABLE PEOPLE THRESHOLD PORT WORKERS SESSIONS`, RECODES being a file's name or `-`; or `gen N
 /// START`. None at all other arguments.
 pub fn read_command(words: &[String]) -> Option<Command<'_>>
     ensures { result ≡ command_of (map string_bytes words.now) }
@@ -387,6 +456,9 @@ pub fn read_command(words: &[String]) -> Option<Command<'_>>
         return Some(command);
     }
     if let Some(command) = read_follow_words(words) {
+        return Some(command);
+    }
+    if let Some(command) = read_units_words(words) {
         return Some(command);
     }
     if let Some(command) = read_serve_words(words) {

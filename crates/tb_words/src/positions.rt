@@ -10,7 +10,7 @@ ghost use Rattle.tb_words.specs.Words.{AreCommand};
 use clap::{Arg, ArgMatches, Command, Error};
 use std::alloc::{AllocError, Global};
 
-static COMMANDS: [&str; 6] = ["script", "lanes", "keep", "follow", "serve", "gen"];
+static COMMANDS: [&str; 7] = ["script", "lanes", "keep", "follow", "units", "serve", "gen"];
 
 static SCRIPT: [&str; 6] = [
     "CLASSES",
@@ -28,6 +28,17 @@ static KEEP: [&str; 7] = [
     "PEOPLE",
     "THRESHOLD",
     "JOURNAL",
+    "SCRIPT",
+];
+
+static UNITS: [&str; 8] = [
+    "CLASSES",
+    "RECODES",
+    "PTABLE",
+    "PEOPLE",
+    "THRESHOLD",
+    "DWELLINGS",
+    "LINKS",
     "SCRIPT",
 ];
 
@@ -56,6 +67,8 @@ pub(crate) fn positions_of(name: &str) -> &'static [&'static str]
         KEEP.as_slice()
     } else if name == "follow" {
         SCRIPT.as_slice()
+    } else if name == "units" {
+        UNITS.as_slice()
     } else if name == "serve" {
         SERVE.as_slice()
     } else {
