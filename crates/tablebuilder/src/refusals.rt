@@ -12,6 +12,7 @@ pub enum Refusal<'a> {
         tablebuilder lanes CLASSES RECODES PTABLE PEOPLE THRESHOLD SCRIPT\n       \
         tablebuilder keep CLASSES RECODES PTABLE PEOPLE THRESHOLD JOURNAL SCRIPT\n       \
         tablebuilder follow CLASSES RECODES PTABLE PEOPLE THRESHOLD SCRIPT\n       \
+        tablebuilder units CLASSES RECODES PTABLE PEOPLE THRESHOLD DWELLINGS LINKS SCRIPT\n       \
         tablebuilder serve CLASSES RECODES PTABLE PEOPLE THRESHOLD PORT WORKERS SESSIONS\n       \
         tablebuilder gen N START")]
     Usage,
