@@ -142,12 +142,12 @@ fn see_homes(seen: &mut [bool], size: &Size, i: usize) {
     }
 }
 
-// The cell of the dwellings that were seen.
-fn count_seen(seen: &[bool]) -> Cell {
+// The cell of those of the dwellings that were seen.
+fn count_seen(seen: &[bool], homes: u32) -> Cell {
     let mut cell = Cell::empty();
-    for d in 1..seen.len() {
-        if seen[d] {
-            cell.put(key_of(d as u32));
+    for d in 1..=homes {
+        if seen.get(d as usize) == Some(&true) {
+            cell.put(key_of(d));
         }
     }
     cell
@@ -156,7 +156,7 @@ fn count_seen(seen: &[bool]) -> Cell {
 fn plain_cell(alloc: Global, size: &Size, i: usize) -> Result<Cell, Memory> {
     let mut seen = vec![in alloc; false; size.homes as usize + 1]?;
     see_homes(&mut seen, size, i);
-    Ok(count_seen(&seen))
+    Ok(count_seen(&seen, size.homes))
 }
 
 // The first place whose cell isn't the plain one. There are as many places as are wanted.
