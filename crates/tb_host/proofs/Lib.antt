@@ -1,0 +1,3 @@
+mod Visits
+mod Served
+mod Durable
