@@ -18,7 +18,7 @@ use tb_small_values::setup;
 use tb_text::Setup;
 
 // Scripts, and their replies.
-static ROWS: [(&'static str, &'static str); 12] = [
+static ROWS: [(&'static str, &'static str); 13] = [
     // The message of release 2 comes first, and waits; that of release 1 leads to both.
     (
         "leader begin 2\nleader add 105 30 SEX=2 AGE=0-15 AREA=E2\nleader end\na table SEX\n\
@@ -44,6 +44,11 @@ static ROWS: [(&'static str, &'static str); 12] = [
         "begun 1\nheld 1\nat 1\n",
     ),
     ("", ""),
+    // A follower has one release alone: there is no table of another.
+    (
+        "a at 0 table SEX\nleader at 0 table SEX\n",
+        "refused 2 Syntax 1\nrefused leader\n",
+    ),
     // No message is open.
     (
         "leader end\nleader drop 104\nleader restart\nleader end\n",

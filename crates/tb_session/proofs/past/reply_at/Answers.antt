@@ -10,8 +10,8 @@ use Rattle.tb_session.proofs.PastReplies.{none_text, there_text}
 use Rattle.tb_tables.specs.Counting.{IsCounted}
 use Rattle.tb_session.proofs.past.reply_at.Goals as goal
 
-pub last-requires : goal.last-requires
-last-requires g c =
+pub last-last-requires : goal.last-last-requires
+last-last-requires g c =
     let t = c.in_ok-past.ensures.past.taken in
     few_batches c.in_ok-plan.plan.shape (base_in c.in_ok-past.past) (chain_in c.in_ok-past.past) t.revised
 

@@ -8,3 +8,9 @@ returns-in-BatchRefused g c = written_as c.write_batch_refusal.result _ _ _ _ _ 
 
 pub returns-in-Stats : goal.returns-in-Stats
 returns-in-Stats g c = written_as c.write_stats.result _ _ _ _ _ _ (ap reply_text (sym c.in-Stats.is)) c.write_stats.ensures.written
+
+pub returns-in-NoSuchRelease : goal.returns-in-NoSuchRelease
+returns-in-NoSuchRelease g c = written_as c.write_number.result _ _ _ _ _ _ (ap reply_text (sym c.in-NoSuchRelease.is)) c.write_number.ensures.written
+
+pub returns-in-EditRefused : goal.returns-in-EditRefused
+returns-in-EditRefused g c = written_as c.write_fault.result _ _ _ _ _ _ (ap reply_text (sym c.in-EditRefused.is)) c.write_fault.ensures.written
