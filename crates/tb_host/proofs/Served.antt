@@ -27,7 +27,7 @@ use Rattle.tb_release.specs.declared.edits.Edit.{Edit}
 use Rattle.tb_serve.specs.Each.{Each}
 use Rattle.tb_serve.specs.Ports.{PortValue}
 use Rattle.tb_serve.specs.Serves.{HasServed, IsVisited, Output, role_at}
-use Rattle.tb_serve.specs.Stages.{GetsReady, IsLeft, IsReady}
+use Rattle.tb_serve.specs.Stages.{GetsReady, IsLeft, IsUntouched}
 use Rattle.tb_serve.proofs.PortEnds.{visited_before}
 use Rattle.tb_serve.proofs.Wholes.{each_along, each_then}
 use Rattle.tb_session.specs.OwnerLaws.{has_written}
@@ -113,6 +113,10 @@ module _ {D : Type 0} (content : D → Option (List ℕ)) (may_leave : D → Lis
       }
 
 -- ---- from ports as they were made
+-- nothing was done with them
+pub untouched : (port : ℕ) (ports : List PortValue) → Each (IsUntouched port) ports ports
+untouched port ports = record { same_length = refl; at = λ i d lt. record { rest = refl; count = omega arith; port = inl refl; out = refl; to_come = refl; came_back = refl } }
+
 -- what was true of a port that got ready is true of it as it was made
 ready_hosted : (setup : SetupValue) (base : ReleaseValue) (port most : ℕ) (first last : KeptState) (i : ℕ) (o p t : PortValue) → GetsReady port i o p → IsHosted setup base most first last i p t → IsHosted setup base most first last i o t
 ready_hosted setup base port most first last zero o p t ready x = visited_before (Lead (IsOwnKeptStep setup base)) at_session port most 0 first last o p t ready x

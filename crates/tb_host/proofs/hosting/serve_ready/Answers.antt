@@ -1,9 +1,13 @@
-use Rattle.std.proofs.Common.{rules, sym, ap, subst, ℕ, refl, length}
+use Rattle.std.proofs.Common.{rules, subst, Bool, ℕ}
 use Rattle.tb_host.proofs.Served.{hosted_from}
 use Rattle.tb_host.specs.Endings.{IsReported}
 use Rattle.tb_serve.specs.Serves.{output}
-use Rattle.tb_session.specs.Parties.{seen_by, state_of}
 use Rattle.tb_host.proofs.hosting.serve_ready.Goals as goal
 
 pub returns-clause-served : goal.returns-clause-served
-returns-clause-served g c = ?
+returns-clause-served g c =
+    let (base, into, reaches) = c.serve_kept-owner.ensures.hosts in
+    hosted_from g.D.Disk.content g.D.Disk.may_leave g.D.Disk.faults c.args.disk.now _ _ (search rules) c.args.setting.now.setup.now c.args.custodian c.publisher_of-party.result.custody.party c.publisher_of-party.ensures _ _ c.requires.live _
+    c.args.sessions c.args.ports.now c.serve_kept-owner.new.ports c.requires.some reaches _ _
+    (subst (λ (x : Bool × ℕ). IsReported x.0 c.serve_kept-owner.new.ports x.1 (output (g.O.Sink.taken c.args.out.now) (g.O.Sink.taken c.end_hosting.new.out) (g.O.Sink.faults c.args.out.now) (g.O.Sink.faults c.end_hosting.new.out)) c.end_hosting.result)
+    (λ j. (c.is_live-live.ensures j, c.release-release.ensures j)) c.end_hosting.ensures.ended)
