@@ -14,7 +14,7 @@ ghost use Rattle.tb_release.specs.declared.edits.Edit.{Edit};
 ghost use Rattle.tb_serve.specs.Each.{Each};
 ghost use Rattle.tb_serve.specs.Serves.{output};
 ghost use Rattle.tb_serve.specs.Stages.{IsFresh, IsLeft, IsReady};
-ghost use Rattle.tb_session.specs.Parties.{IsCustodianOf};
+ghost use Rattle.tb_session.specs.Parties.{IsCustodianOf, seen_by};
 ghost use Rattle.tb_session.specs.declared.party.Party.TheVariants as party;
 
 use crate::ending::end_hosting;
@@ -70,6 +70,20 @@ fn serve_kept<
     serve_from(&*setting, setting, sessions, owner, ports)
 }
 
+// The number of the custodian's release, to which the batches of the journal's file lead and those
+// that were published since.
+fn release_of<B: Named, W: WriteAhead, R: Threads + Wait + Sync>(
+    setting: &Setting<'_, B, R>,
+    owner: &JournalOwner<W>,
+) -> u32
+    requires own { CanWriteAhead B.name (shape_of setting.now.setup.now.schema)
+        owner.now.keeper.party.custody.party }
+    requires puts { W.IsReady owner.now.keeper.ahead }
+    ensures { result ≡ length (seen_by owner.now.keeper.party.custody.party).list }
+{
+    Owner::<Setting<'_, B, R>, B>::release(owner, setting)
+}
+
 // Serves the sessions of ports that are ready, with a journal that was recovered.
 fn serve_ready<
     B: Named + Send + Sync,
@@ -121,7 +135,7 @@ fn serve_ready<
     };
     let owner = JournalOwner { keeper };
     let owner = serve_kept(setting, sessions, owner, ports);
-    let release = Owner::<Setting<'_, B, R>, B>::release(&owner, setting);
+    let release = release_of(setting, &owner);
     let live = owner.keeper.ahead.is_live();
     // What the disk is then is known of one that is taken apart.
     let JournalOwner { keeper } = owner;
