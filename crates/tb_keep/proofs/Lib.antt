@@ -2,6 +2,7 @@ pub mod Chains
 mod JournalRunning
 pub mod KeptRunning
 mod Owning
+mod Preparing
 mod Recovering
 mod Refusing
 pub mod SomeKeptReplies

@@ -21,6 +21,7 @@ pub struct JournalOwner<W> {
 
 impl<'a, B: Named, R: Threads + Wait + Sync, W: WriteAhead> Owner<Setting<'a, B, R>, B>
     for JournalOwner<W> {
+    ghost use Rattle.std.specs.Prelude.{IfSome};
     ghost use Rattle.std.specs.Thread.{IsSync};
     ghost use Rattle.tb_ahead.specs.Keepers.{KeeperValue, KeepsTo, at_start};
     ghost use Rattle.tb_keep.specs.JournalOwners.{keeper_of};
@@ -28,6 +29,7 @@ impl<'a, B: Named, R: Threads + Wait + Sync, W: WriteAhead> Owner<Setting<'a, B,
     ghost use Rattle.tb_model.specs.Schemas.{shape_of};
     ghost use Rattle.tb_session.specs.OwnerLaws.{has_written};
     ghost use Rattle.tb_session.specs.Parties.{seen_by};
+    ghost use Rattle.tb_session.specs.Prepared.{IsPreparedBy};
 
     ghost State = { KeeperValue W };
 
@@ -37,6 +39,7 @@ impl<'a, B: Named, R: Threads + Wait + Sync, W: WriteAhead> Owner<Setting<'a, B,
 
     ghost IsReady = { λ c o. IsSync R.row
         × CanWriteAhead B.name (shape_of c.setup.now.schema) o.keeper.party.custody.party
+        × IfSome o.keeper.party.prepared (IsPreparedBy o.keeper.party.custody.party)
         × W.IsReady o.keeper.ahead };
 
     ghost Step = { λ c. KeepsTo W.target W.live W.faults W.StandsFor (IsOwnStep c.setup.now)

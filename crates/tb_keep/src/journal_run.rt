@@ -76,7 +76,7 @@ fn run_played<B: Named, D: Disk, R: Threads + Wait + Sync, K: Sink, L: Ledger>(
         }) }
 {
     let custody = Custody::new(setting.alloc, custodian);
-    let party = BoardPublisher { custody };
+    let party = BoardPublisher::new(custody);
     let ahead = JournalFile {
         disk: &mut *disk,
         journal,

@@ -1,9 +1,10 @@
 // The custodian's party, whose batches are written ahead.
 
-ghost use Rattle.std.specs.Prelude.{◌≡◌, ◌≤◌, All, length};
+ghost use Rattle.std.specs.Prelude.{◌≡◌, ◌≤◌, All, IfSome, None, length};
 ghost use Rattle.tb_ahead.specs.Trials.{IsTried};
-ghost use Rattle.tb_base.specs.Records.{AllFit};
+ghost use Rattle.tb_keep.specs.Publishers.{asks_to_publish as is_to_publish};
 ghost use Rattle.tb_release.specs.Laws.{EditFits};
+ghost use Rattle.tb_session.specs.Prepared.{IsPreparedOf};
 ghost use Rattle.tb_spelling.specs.declared.limits.TheConstants.{MOST_PARTS};
 
 use std::alloc::Global;
@@ -11,30 +12,69 @@ use std::sync::Wait;
 use std::sync::ledger::Ledger;
 use std::thread::Threads;
 use tb_ahead::{Publisher, Trial};
-use tb_base::{Shape, Steps};
-use tb_board::Named;
+use tb_base::Steps;
+use tb_board::{Custodian, Named, Publication};
 use tb_build::Gate;
 use tb_io::{Sink, Wrote};
-use tb_release::{EditFault, Edits, Release, next};
-use tb_session::{Asks, Custody, Party, Role, Setting, answer, asks_of};
+use tb_release::{EditFault, Edits};
+use tb_session::{Asks, Custody, Party, Role, Setting, answer, answer_prepared, asks_of};
 use tb_text::Setup;
 
-/// The custodian of a board, with edits that can be written ahead.
+/// The custodian of a board, with edits that can be written ahead; and what the publication of the
+/// held edits adds, where that was tried just now. The next line takes it, whatever it asks for.
 #[derive(Drop)]
 pub struct BoardPublisher {
     pub custody: Custody,
+    prepared: Option<Publication>,
 }
 
-// Whether edits can follow a release.
-fn try_on(alloc: Global, shape: &Shape, release: &Release, edits: &Edits) -> Trial
-    requires fit { AllFit shape.now release.now.records }
-    requires edits { All (EditFits shape.now) edits.now }
-    ensures { IsTried release.now edits.now result }
+impl BoardPublisher {
+    /// This custodian, with nothing prepared.
+    pub fn new(custody: Custody) -> BoardPublisher
+        ensures custody { result.custody ≡ custody }
+        ensures none { result.prepared ≡ None }
+    {
+        BoardPublisher {
+            custody,
+            prepared: None,
+        }
+    }
+
+    /// Lets go of what was prepared.
+    pub(crate) fn forget_prepared(&mut self)
+        ensures custody { self.new.custody ≡ self.old.custody }
+        ensures none { self.new.prepared ≡ None }
+    {
+        self.prepared = None;
+    }
+}
+
+// Whether some edits can follow a custodian's release, and if so what their publication adds.
+fn try_on(alloc: Global, custodian: &Custodian, held: &Edits) -> (Trial, Option<Publication>)
+    requires { All (EditFits custodian.now.writer.start.shape) held.now }
+    ensures tried { IsTried custodian.now.release held.now result.0 }
+    ensures prepared { IfSome result.1 (IsPreparedOf custodian.now held.now) }
 {
-    match next(alloc, shape, release, edits) {
-        Ok(_) => Trial::Follows,
-        Err(EditFault::Refused { .. }) => Trial::Refused,
-        Err(EditFault::Memory) => Trial::Memory,
+    match custodian.prepare(alloc, held) {
+        Ok(publication) => (Trial::Follows, Some(publication)),
+        Err(EditFault::Refused { .. }) => (Trial::Refused, None),
+        Err(EditFault::Memory) => (Trial::Memory, None),
+    }
+}
+
+// Whether a line of the custodian asks to publish.
+fn is_to_publish(line: &[u8]) -> bool
+    ensures { result ≡ is_to_publish line.now }
+{
+    match asks_of(Role::Custodian, line) {
+        Asks::Publish => true,
+        Asks::Nothing
+        | Asks::Table
+        | Asks::At(_)
+        | Asks::Edit
+        | Asks::Stats
+        | Asks::Clear
+        | Asks::Cache(_) => false,
     }
 }
 
@@ -47,9 +87,11 @@ fn has_few_variables(setup: &Setup)
 
 impl<'a, B: Named, R: Threads + Wait + Sync, G: Gate> Publisher<Setting<'a, B, R>, G>
     for BoardPublisher {
+    ghost use Rattle.std.specs.Prelude.{IfSome};
     ghost use Rattle.std.specs.Thread.{IsSync};
     ghost use Rattle.tb_model.specs.Schemas.{shape_of};
     ghost use Rattle.tb_session.specs.Parties.{seen_by, state_of};
+    ghost use Rattle.tb_session.specs.Prepared.{IsPreparedBy};
     ghost use Rattle.tb_keep.specs.PublisherLaws.{own_publishing};
     ghost use Rattle.tb_keep.specs.Publishers.{CanWriteAhead, IsOwnStep, asks_to_publish};
 
@@ -60,7 +102,8 @@ impl<'a, B: Named, R: Threads + Wait + Sync, G: Gate> Publisher<Setting<'a, B, R
     ghost publishes = { asks_to_publish };
 
     ghost IsReady = { λ c o. IsSync R.row
-        × CanWriteAhead B.name (shape_of c.setup.now.schema) o.custody.party };
+        × CanWriteAhead B.name (shape_of c.setup.now.schema) o.custody.party
+        × IfSome o.prepared (IsPreparedBy o.custody.party) };
 
     ghost Step = { λ c base. IsOwnStep c.setup.now base };
 
@@ -68,32 +111,20 @@ impl<'a, B: Named, R: Threads + Wait + Sync, G: Gate> Publisher<Setting<'a, B, R
 
     fn begin(&mut self, _setting: &Setting<'a, B, R>) {
         self.custody.party.drop_held();
+        self.forget_prepared();
     }
 
     fn asks_to_publish(&self, line: &[u8]) -> bool {
-        match asks_of(Role::Custodian, line) {
-            Asks::Publish => true,
-            Asks::Nothing
-            | Asks::Table
-            | Asks::At(_)
-            | Asks::Edit
-            | Asks::Stats
-            | Asks::Clear
-            | Asks::Cache(_) => false,
-        }
+        is_to_publish(line)
     }
 
     fn try_next(&mut self, setting: &Setting<'a, B, R>) -> Trial {
         match &self.custody.party {
             Party::Analyst(_) => unreachable!(),
             Party::Custodian(custodian, held) => {
-                let setup = setting.setup;
-                try_on(
-                    setting.alloc,
-                    setup.schema.shape(),
-                    custodian.release(),
-                    held,
-                )
+                let (trial, prepared) = try_on(setting.alloc, custodian, held);
+                self.prepared = prepared;
+                trial
             }
         }
     }
@@ -114,6 +145,17 @@ impl<'a, B: Named, R: Threads + Wait + Sync, G: Gate> Publisher<Setting<'a, B, R
         steps: &mut Steps<L>,
     ) -> Wrote {
         has_few_variables(setting.setup);
+        if let Some(publication) = self.prepared.take() {
+            if is_to_publish(line) {
+                return answer_prepared(
+                    setting.board,
+                    setting.rt,
+                    &mut self.custody.party,
+                    publication,
+                    sink,
+                );
+            }
+        }
         answer(
             setting.setup,
             setting.board,

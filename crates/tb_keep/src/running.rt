@@ -27,7 +27,7 @@ use tb_session::Setting;
 pub fn run_kept<B: Named, W: WriteAhead, R: Threads + Wait + Sync, K: Sink, L: Ledger>(
     setting: &Setting<'_, B, R>,
     script: &Script,
-    owner: JournalOwner<W>,
+    mut owner: JournalOwner<W>,
     sink: &mut K,
     steps: &mut Steps<L>,
 ) -> (RunEnd, JournalOwner<W>)
@@ -50,6 +50,7 @@ pub fn run_kept<B: Named, W: WriteAhead, R: Threads + Wait + Sync, K: Sink, L: L
         (charged (keeper_of result.1.keeper.party.custody.party result.1.keeper.ahead) steps.new)
         (K.taken sink.old) (K.taken sink.new) }
 {
+    owner.keeper.party.forget_prepared();
     // The lifetimes in the two settings differ, so one is lent anew.
     run_owned(&*setting, setting, script, owner, sink, steps)
 }

@@ -4,6 +4,7 @@ pub mod LegalParties
 pub mod Owning
 mod Texts
 mod Revising
+mod Preparing
 mod Leading
 mod PastTexts
 mod PastTaking

@@ -9,6 +9,7 @@ pub mod Laws
 pub mod RunWorlds
 pub mod ReplyTexts
 pub mod Parties
+pub mod Prepared
 pub mod PartySessions
 pub mod Owners
 pub mod OwnerLaws

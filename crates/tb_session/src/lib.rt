@@ -10,9 +10,9 @@
 //! contracts cite `specs/Asks` (what a line asks for) with `PastLines` (a line `at N QUERY`),
 //! `Replies` (what the reply to it is) with `PastTables` (that to a line `at N QUERY`),
 //! `Transcripts` (which replies are legal), `Parties` (who asks, and what an answer says),
-//! `PartySessions` (whose session) and `Owners` (who answers the custodian's lines); `laws` cites
-//! `Laws`, and `RunWorlds` (what a reply of a run of `tb_core`'s events shows at a place of a
-//! table).
+//! `Prepared` (a publication that was prepared), `PartySessions` (whose session) and `Owners` (who
+//! answers the custodian's lines); `laws` cites `Laws`, and `RunWorlds` (what a reply of a run of
+//! `tb_core`'s events shows at a place of a table).
 //!
 //! Of the proofs, `Leading` leads from what a line asks for to where the party stands then, and
 //! `Revising` does so for `publish`; `Texts` says how lines are put together; of a line `at N
@@ -38,6 +38,7 @@ mod owner;
 mod party;
 mod past;
 mod past_line;
+mod prepared;
 mod query;
 mod reply;
 mod revise;
@@ -51,6 +52,7 @@ pub use custody::{Custody, informed_analyst};
 pub use limits::FIRST_CAPACITY;
 pub use owner::Owner;
 pub use party::{Party, Role};
+pub use prepared::answer_prepared;
 pub use seat::Seat;
 pub use sessions::{Setting, session};
 pub use tb_lines::SessionEnd;

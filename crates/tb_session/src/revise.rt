@@ -7,11 +7,13 @@ ghost use Rattle.tb_release.specs.Laws.{EditFits};
 ghost use Rattle.tb_session.specs.Replies.{IsEditReply};
 ghost use Rattle.tb_session.specs.ReplyTexts.{reply_text};
 ghost use Rattle.tb_session.specs.Parties.{IsCustodianOf, PublishLeads};
+ghost use Rattle.tb_session.specs.Prepared.{IsPreparedOf};
 
 use crate::reply::Reply;
 use std::alloc::Global;
 use std::sync::Wait;
-use tb_board::{Board, Custodian, Named};
+use tb_base::Memory;
+use tb_board::{Board, Custodian, Named, Publication};
 use tb_release::{EditFault, Edits, Pushed};
 use tb_revise::{read_edit, too_many};
 use tb_text::Setup;
@@ -41,6 +43,30 @@ pub(crate) fn hold<'a>(alloc: Global, setup: &Setup, held: &mut Edits, line: &[u
     }
 }
 
+/// Publishes what was prepared of the held edits, of which none is held any more then; where the
+/// memory is refused, all stays as it is.
+pub(crate) fn publish_prepared<'a, B: Named>(
+    rt: &impl Wait,
+    board: &Board<B>,
+    custodian: &mut Custodian,
+    held: &mut Edits,
+    publication: Publication,
+) -> Reply<'a>
+    requires own { IsCustodianOf B.name custodian.old.writer.start.shape custodian.old held.old }
+    requires prepared { IsPreparedOf custodian.old held.old publication }
+    ensures own { IsCustodianOf B.name custodian.old.writer.start.shape custodian.new held.new }
+    ensures leads { PublishLeads custodian.old held.old (reply_text result) custodian.new
+        held.new }
+{
+    match board.publish_prepared(rt, custodian, publication) {
+        Ok(number) => {
+            held.clear();
+            Reply::Published(number)
+        }
+        Err(Memory) => Reply::Memory,
+    }
+}
+
 /// Publishes the held edits. Where they are published, or refused, none is held any more; where the
 /// memory is refused, all stays as it is.
 pub(crate) fn publish<'a, B: Named>(
@@ -55,11 +81,8 @@ pub(crate) fn publish<'a, B: Named>(
     ensures leads { PublishLeads custodian.old held.old (reply_text result) custodian.new
         held.new }
 {
-    match board.publish(rt, alloc, custodian, held) {
-        Ok(number) => {
-            held.clear();
-            Reply::Published(number)
-        }
+    match custodian.prepare(alloc, held) {
+        Ok(publication) => publish_prepared(rt, board, custodian, held, publication),
         Err(EditFault::Refused { kind, edit }) => {
             held.clear();
             Reply::BatchRefused(edit, kind.name())
