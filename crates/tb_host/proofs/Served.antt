@@ -31,10 +31,9 @@ use Rattle.tb_serve.specs.Stages.{GetsReady, IsLeft, IsUntouched}
 use Rattle.tb_serve.proofs.PortEnds.{visited_before}
 use Rattle.tb_serve.proofs.Wholes.{each_along, each_then}
 use Rattle.tb_session.specs.OwnerLaws.{has_written}
-use Rattle.tb_session.specs.Parties.{IsPassOf, seen_by, state_of}
+use Rattle.tb_session.specs.Parties.{IsPassOf, seen_by, state_at}
 use Rattle.tb_session.specs.Transcripts.{IsLegal}
 use Rattle.tb_session.specs.declared.party.Party.{Party}
-use Rattle.tb_session.specs.declared.party.Party.TheVariants as party
 
 -- some port of a list that has one
 first_of : (ports : List PortValue) → 0 < length ports → PortValue
@@ -90,22 +89,21 @@ module _ (setup : SetupValue) (base : ReleaseValue) (most : ℕ) (first last : K
   pub counted_on : first.faults ≤ last.faults
   counted_on = visits_counted setup base first last own.visits own.lead
 
-module _ {D : Type 0} (content : D → Option (List ℕ)) (may_leave : D → List ℕ → Type 0) (faults : D → ℕ) (old now new : D) (same : new ≡ now) (setup : SetupValue) (custodian : CustodianValue) (one : Party) (is : one ≡ party.Custodian custodian [])
+module _ {D : Type 0} (content : D → Option (List ℕ)) (may_leave : D → List ℕ → Type 0) (faults : D → ℕ) (old now new : D) (same : new ≡ now) (setup : SetupValue) (custodian : CustodianValue)
     (live later : Bool) (lives : live ≡ true) (state : StateValue) (most : ℕ) (a e : List PortValue) (some : 0 < length a)
-    (reaches : Reaches (IsAt (EachStandsFor (may_leave old)) live (faults old) (state_of one)) (IsAt (EachStandsFor (may_leave now)) later (faults now) state)
-    (λ first last. Each (IsHosted setup (seen_by one).start.base most first last) a e)) (out : Output) (ended : Status) (reported : IsReported later e (length state.chain) out ended) where
+    (reaches : Reaches (IsAt (EachStandsFor (may_leave old)) live (faults old) (state_at custodian.writer [])) (IsAt (EachStandsFor (may_leave now)) later (faults now) state)
+    (λ first last. Each (IsHosted setup (base_of custodian) most first last) a e)) (out : Output) (ended : Status) (reported : IsReported later e (length state.chain) out ended) where
   pub hosted_from : (batches : List (List Edit)) → custodian.writer.list ≡ batches_of (base_of custodian) batches → EachStandsFor (may_leave old) batches None
       → AreHostedFrom (after_playing (base_of custodian) batches (faults old)) setup (base_of custodian) most a e
       (record { content = content old; could_leave = may_leave old; may_leave = may_leave new; faults = faults old; faults_after = faults new }) out ended
   hosted_from batches chain stands =
       let first = after_playing (base_of custodian) batches (faults old) in
-      let stood : first.state ≡ state_of one = ap after_seeing (sym chain) ∙ ap state_of (sym is) in
+      let stood : first.state ≡ state_at custodian.writer [] = ap after_seeing (sym chain) in
       let (last, at, sessions) = reaches first (record { same = stood; count = refl; lives = sym lives; stands = stands }) in
-      let all : Each (IsHosted setup (base_of custodian) most first last) a e = subst (λ (p : Party). Each (IsHosted setup (seen_by p).start.base most first last) a e) is sessions in
-      let lead = own setup (base_of custodian) most first last a e some all in
+      let lead = own setup (base_of custodian) most first last a e some sessions in
       record {
         last = last;
-        sessions = all;
+        sessions = sessions;
         chain = visits_theirs setup (base_of custodian) first last lead.visits lead.lead refl;
         left = subst (λ (d : D). EachStandsFor (may_leave d) last.batches last.further) (sym same) at.stands;
         counted = at.count ∙ ap faults (sym same);

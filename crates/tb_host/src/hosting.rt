@@ -14,11 +14,10 @@ ghost use Rattle.tb_release.specs.declared.edits.Edit.{Edit};
 ghost use Rattle.tb_serve.specs.Each.{Each};
 ghost use Rattle.tb_serve.specs.Serves.{output};
 ghost use Rattle.tb_serve.specs.Stages.{IsFresh, IsLeft, IsReady};
-ghost use Rattle.tb_session.specs.Parties.{IsCustodianOf, seen_by};
+ghost use Rattle.tb_session.specs.Parties.{IsCustodianOf, IsOwnerOf, seen_by};
 ghost use Rattle.tb_session.specs.declared.party.Party.TheVariants as party;
 
 use crate::ending::end_hosting;
-use std::alloc::Global;
 use std::sync::Wait;
 use std::thread::Threads;
 use tb_ahead::{Keeper, WriteAhead};
@@ -32,15 +31,8 @@ use tb_keep::{BoardPublisher, JournalFault, JournalOwner, Unrecovered, recover};
 use tb_serve::{Port, Readiness, prepare, serve_from, write_end};
 use tb_session::{Custody, Owner, Setting};
 
-// The custodian as a party whose batches are written ahead, who holds no edits.
-fn publisher_of(alloc: Global, custodian: Custodian) -> BoardPublisher
-    ensures { result.custody.party ≡ party.Custodian custodian [] }
-{
-    let custody = Custody::new(alloc, custodian);
-    BoardPublisher { custody }
-}
-
-// Serves the sessions of ports that are ready, at the first as a custodian who writes ahead.
+// Serves the sessions of ports that are ready, at the first as the custodian, who holds no edits and
+// writes its batches ahead.
 fn serve_kept<
     B: Named + Send + Sync,
     W: WriteAhead + Send,
@@ -48,13 +40,13 @@ fn serve_kept<
     R: Threads + Wait + Sync,
 >(
     setting: &Setting<'_, B, R>,
+    custodian: Custodian,
+    ahead: W,
     sessions: u32,
-    owner: JournalOwner<W>,
     ports: &mut [Port<N>],
 ) -> JournalOwner<W>
-    requires own { CanWriteAhead B.name (shape_of setting.now.setup.now.schema)
-        owner.keeper.party.custody.party }
-    requires puts { W.IsReady owner.keeper.ahead }
+    requires own { IsCustodianOf B.name (shape_of setting.now.setup.now.schema) custodian [] }
+    requires puts { W.IsReady ahead }
     requires some { 0 < length ports.old }
     requires can { All IsReady ports.old }
     ensures own { CanWriteAhead B.name (shape_of setting.now.setup.now.schema)
@@ -63,25 +55,30 @@ fn serve_kept<
     ensures left { Each (λ _. IsLeft) ports.old ports.new }
     // Wherever the custodian stood, the file stands for what the sessions lead to.
     ensures hosts { HostsFrom W.target W.live W.faults W.StandsFor setting.now.setup.now sessions
-        (keeper_of owner.keeper.party.custody.party owner.keeper.ahead)
+        (keeper_of (party.Custodian custodian []) ahead)
         (keeper_of result.keeper.party.custody.party result.keeper.ahead) ports.old ports.new }
 {
+    let custody = Custody::new(setting.alloc, custodian);
+    let party = BoardPublisher::new(custody);
+    let keeper = Keeper {
+        party,
+        ahead,
+        alloc: setting.alloc,
+    };
     // The lifetimes in the two settings differ, so one is lent anew.
-    serve_from(&*setting, setting, sessions, owner, ports)
+    serve_from(&*setting, setting, sessions, JournalOwner { keeper }, ports)
 }
 
 // The number of the custodian's release, to which the batches of the journal's file lead and those
 // that were published since.
-fn release_of<B: Named, W: WriteAhead, R: Threads + Wait + Sync>(
+fn release_of<B: Named, R: Threads + Wait + Sync>(
     setting: &Setting<'_, B, R>,
-    owner: &JournalOwner<W>,
+    custody: &Custody,
 ) -> u32
-    requires own { CanWriteAhead B.name (shape_of setting.now.setup.now.schema)
-        owner.now.keeper.party.custody.party }
-    requires puts { W.IsReady owner.now.keeper.ahead }
-    ensures { result ≡ length (seen_by owner.now.keeper.party.custody.party).list }
+    requires { IsOwnerOf B.name (shape_of setting.now.setup.now.schema) custody.now.party }
+    ensures { result ≡ length (seen_by custody.now.party).list }
 {
-    Owner::<Setting<'_, B, R>, B>::release(owner, setting)
+    Owner::<Setting<'_, B, R>, B>::release(custody, setting)
 }
 
 // Serves the sessions of ports that are ready, with a journal that was recovered.
@@ -123,19 +120,12 @@ fn serve_ready<
         }) (output (O.taken out.old) (O.taken out.new) (O.faults out.old) (O.faults out.new))
         result }
 {
-    let party = publisher_of(setting.alloc, custodian);
     let ahead = JournalFile {
         disk: &mut *disk,
         journal,
     };
-    let keeper = Keeper {
-        party,
-        ahead,
-        alloc: setting.alloc,
-    };
-    let owner = JournalOwner { keeper };
-    let owner = serve_kept(setting, sessions, owner, ports);
-    let release = release_of(setting, &owner);
+    let owner = serve_kept(setting, custodian, ahead, sessions, ports);
+    let release = release_of(setting, &owner.keeper.party.custody);
     let live = owner.keeper.ahead.is_live();
     // What the disk is then is known of one that is taken apart.
     let JournalOwner { keeper } = owner;
