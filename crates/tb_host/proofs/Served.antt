@@ -9,11 +9,10 @@ use Rattle.tb_base.specs.declared.status.Status.{Status}
 use Rattle.tb_base.specs.declared.status.Status.TheVariants as status
 use Rattle.tb_board.specs.Custodians.{CustodianValue}
 use Rattle.tb_front.specs.Holders.{Name}
-use Rattle.tb_host.specs.Endings.{IsReported}
+use Rattle.tb_host.specs.Endings.{IsHostReported}
 use Rattle.tb_host.specs.Hosting.{Hosts, HostsAll}
 use Rattle.tb_host.specs.Sessions.{AreHostedFrom, HostsFrom, IsHosted, IsLeftAt, at_session}
 use Rattle.tb_host.proofs.Visits.{visited, visits_counted, visits_theirs}
-use Rattle.tb_journal.specs.States.{JournalState}
 use Rattle.tb_journal_file.specs.Files.{EachStandsFor}
 use Rattle.tb_keep.specs.Chains.{IsOwnKeptStep, batches_of}
 use Rattle.tb_keep.specs.JournalRuns.{after_playing}
@@ -92,7 +91,7 @@ module _ (setup : SetupValue) (base : ReleaseValue) (most : ℕ) (first last : K
 module _ {D : Type 0} (content : D → Option (List ℕ)) (may_leave : D → List ℕ → Type 0) (faults : D → ℕ) (old now new : D) (same : new ≡ now) (setup : SetupValue) (custodian : CustodianValue)
     (live later : Bool) (lives : live ≡ true) (state : StateValue) (most : ℕ) (a e : List PortValue) (some : 0 < length a)
     (reaches : Reaches (IsAt (EachStandsFor (may_leave old)) live (faults old) (state_at custodian.writer [])) (IsAt (EachStandsFor (may_leave now)) later (faults now) state)
-    (λ first last. Each (IsHosted setup (base_of custodian) most first last) a e)) (out : Output) (ended : Status) (reported : IsReported later e (length state.chain) out ended) where
+    (λ first last. Each (IsHosted setup (base_of custodian) most first last) a e)) (out : Output) (ended : Status) (reported : IsHostReported later e (length state.chain) out ended) where
   pub hosted_from : (batches : List (List Edit)) → custodian.writer.list ≡ batches_of (base_of custodian) batches → EachStandsFor (may_leave old) batches None
       → AreHostedFrom (after_playing (base_of custodian) batches (faults old)) setup (base_of custodian) most a e
       (record { content = content old; could_leave = may_leave old; may_leave = may_leave new; faults = faults old; faults_after = faults new }) out ended
@@ -107,7 +106,7 @@ module _ {D : Type 0} (content : D → Option (List ℕ)) (may_leave : D → Lis
         chain = visits_theirs setup (base_of custodian) first last lead.visits lead.lead refl;
         left = subst (λ (d : D). EachStandsFor (may_leave d) last.batches last.further) (sym same) at.stands;
         counted = at.count ∙ ap faults (sym same);
-        reported = subst (λ (x : Bool × StateValue). IsReported x.0 e (length x.1.chain) out ended) (λ j. (sym at.lives j, sym at.same j)) reported;
+        reported = subst (λ (x : Bool × StateValue). IsHostReported x.0 e (length x.1.chain) out ended) (λ j. (sym at.lives j, sym at.same j)) reported;
       }
 
 -- ---- from ports as they were made
@@ -132,7 +131,7 @@ module _ {D : Type 0} (content : D → Option (List ℕ)) (may_leave : D → Lis
   abbrev pub seen : D → D → JournalSeen
   seen old after = record { content = content old; could_leave = may_leave old; may_leave = may_leave after; faults = faults old; faults_after = faults after }
 
-  module _ (setup : SetupValue) (base : ReleaseValue) (before now new : D) (custodian : CustodianValue) (journal : JournalState) (r : HasRecovered setup base (seen before now) custodian journal) (port most : ℕ) (o a e : List PortValue) (ready : Each (GetsReady port) o a) (out : Output) (ended : Status)
+  module _ (setup : SetupValue) (base : ReleaseValue) (before now new : D) (custodian : CustodianValue) (r : HasRecovered setup base (seen before now) custodian) (port most : ℕ) (o a e : List PortValue) (ready : Each (GetsReady port) o a) (out : Output) (ended : Status)
       (served : (batches : List (List Edit)) → custodian.writer.list ≡ batches_of (base_of custodian) batches → EachStandsFor (may_leave now) batches None
       → AreHostedFrom (after_playing (base_of custodian) batches (faults now)) setup (base_of custodian) most a e (seen now new) out ended) where
     hosted : AreHostedFrom (after_playing base r.batches (faults now)) setup base most a e (seen now new) out ended

@@ -21,8 +21,8 @@ disk_report ports release = concat (worker_lines 0 ports) ++ disk_closing releas
 
 -- the report of ports that were served up to a release was written, by whether the journal is live:
 -- while it is, that of `serve`
-abbrev pub IsReported : Bool → List PortValue → ℕ → Output → Status → Type 0
-IsReported true ports release out ended =
+abbrev pub IsHostReported : Bool → List PortValue → ℕ → Output → Status → Type 0
+IsHostReported true ports release out ended =
     IsEnded (report ports release) (final_status ports) out ended
-IsReported false ports release out ended =
+IsHostReported false ports release out ended =
     IsEnded (disk_report ports release) status.DiskFault out ended

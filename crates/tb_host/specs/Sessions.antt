@@ -1,5 +1,5 @@
 -- The sessions of a server that keeps a journal, and what a stop after them may leave of its file.
-use Rattle.std.specs.Prelude.{◌≡◌, ℕ, zero, suc, ◌+◌, List, Bool, false, None, Some, is_none, length}
+use Rattle.std.specs.Prelude.{◌≡◌, ℕ, zero, suc, ◌+◌, List, Bool, None, Some, is_none, length}
 use Rattle.tb_ahead.specs.Keepers.{KeeperValue, Reaches}
 use Rattle.tb_ahead.specs.Keeping.{KeptState}
 use Rattle.tb_ahead.specs.Publishing.{let_go}
@@ -12,7 +12,7 @@ use Rattle.tb_keep.specs.Recoveries.{JournalSeen}
 use Rattle.tb_lines.specs.Outputs.{Lead}
 use Rattle.tb_model.specs.Releases.{ReleaseValue}
 use Rattle.tb_model.specs.Setups.{SetupValue}
-use Rattle.tb_host.specs.Endings.{IsReported}
+use Rattle.tb_host.specs.Endings.{IsHostReported}
 use Rattle.tb_serve.specs.Each.{Each}
 use Rattle.tb_serve.specs.Ports.{PortValue}
 use Rattle.tb_serve.specs.Serves.{HasServed, IsVisited, Output}
@@ -54,7 +54,7 @@ pub record AreHostedFrom (first : KeptState) (setup : SetupValue) (base : Releas
   pub chain : IsTheirs base last
   pub left : EachStandsFor saw.may_leave last.batches last.further
   pub counted : last.faults ≡ saw.faults_after
-  pub reported : IsReported (is_none last.further) after (length last.state.chain) out ended
+  pub reported : IsHostReported (is_none last.further) after (length last.state.chain) out ended
 
 -- port i is left bound to the port of its number, without a party and a reader of lines
 pub record IsLeftAt (first i : ℕ) (after : PortValue) : Type 0 where

@@ -1,7 +1,7 @@
 // What is written once all workers of a server with a journal ended. It takes no memory.
 
 ghost use Rattle.std.specs.Prelude.{◌<◌, ◌^◌, length};
-ghost use Rattle.tb_host.specs.Endings.{IsReported, disk_closing, disk_line, disk_report};
+ghost use Rattle.tb_host.specs.Endings.{IsHostReported, disk_closing, disk_line, disk_report};
 ghost use Rattle.tb_io.specs.Taken.{IsWritten};
 ghost use Rattle.tb_serve.specs.Serves.{output};
 
@@ -49,7 +49,7 @@ pub(crate) fn end_hosting<O: Sink, N: Listen>(
     live: bool,
 ) -> Status
     requires few { length ports.now < 2 ^ 32 }
-    ensures ended { IsReported live ports.now release (output (O.taken out.old) (O.taken out.new)
+    ensures ended { IsHostReported live ports.now release (output (O.taken out.old) (O.taken out.new)
         (O.faults out.old) (O.faults out.new)) result }
 {
     if live {

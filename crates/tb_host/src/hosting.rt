@@ -27,7 +27,7 @@ use tb_disk::Disk;
 use tb_io::{Listen, Sink};
 use tb_journal::Journal;
 use tb_journal_file::JournalFile;
-use tb_keep::{BoardPublisher, JournalFault, JournalOwner, Unrecovered, recover};
+use tb_keep::{BoardPublisher, JournalFault, JournalOwner, Recovery, recover};
 use tb_serve::{Port, Readiness, prepare, serve_from, write_end};
 use tb_session::{Custody, Owner, Setting};
 
@@ -176,12 +176,10 @@ fn serve_ports<
         result }
 {
     let journal = match recover(setting, &mut custodian, disk) {
-        Ok(journal) => journal,
-        Err(Unrecovered::Refused(fault)) => return Err(fault),
-        Err(Unrecovered::DiskFault) => {
-            return Ok(write_end(out, b"fault disk\n", Status::DiskFault));
-        }
-        Err(Unrecovered::Memory) => return Ok(write_end(out, b"fault memory\n", Status::Memory)),
+        Recovery::Recovered(journal) => journal,
+        Recovery::Refused(fault) => return Err(fault),
+        Recovery::DiskFault => return Ok(write_end(out, b"fault disk\n", Status::DiskFault)),
+        Recovery::Memory => return Ok(write_end(out, b"fault memory\n", Status::Memory)),
     };
     match prepare(setting.alloc, first, ports) {
         Readiness::Ready => {

@@ -169,20 +169,19 @@ module _ {D : Type 0} (content : D → Option (List ℕ)) (may_leave : D → Lis
   -- a custodian that published all
   module _ (setup : SetupValue) (first last : CustodianValue) (none : first.writer.list ≡ []) (before opened played_by : D) (leads : Leads (content before) (content opened) IsOpened) (ours : WhereTold (content before) IsOurs)
       (h : HasPlayed setup (content opened) first last played.All) (journal : JournalState) (same : content played_by ≡ content opened) (told : (image : List ℕ) → may_leave played_by image → is_none (content played_by) ≡ false)
-      (on : WhereTold (content played_by) (λ file. IsOn file (may_leave played_by) journal)) (ended : journal.at_end ≡ true) (live : journal.live ≡ true) where
-    pub all-recovered : HasRecovered setup (base_of first) (seen before played_by) last journal
+      (on : WhereTold (content played_by) (λ file. IsOn file (may_leave played_by) journal)) (ended : journal.at_end ≡ true) where
+    pub all-recovered : HasRecovered setup (base_of first) (seen before played_by) last
     all-recovered = record {
       batches = h.batches;
       recovered = recovered setup (content before) (content opened) leads first last none h ours (content played_by) (may_leave played_by) journal same on ended;
       start = ap (λ (s : StartValue). s.base) h.published.start;
       chain = chain-is setup (content before) (content opened) leads first last none h;
-      live = live;
       left = stands-for-all setup (content before) (content opened) leads first last none h ours (content played_by) (may_leave played_by) journal same on ended told;
       same = left-opened (content before) (content opened) (content played_by) leads same (may_leave played_by) journal on;
     }
 
   -- and the lines that are answered from there
-  module _ (setup : SetupValue) (base : ReleaseValue) (custodian : CustodianValue) (journal : JournalState) (before played_by new : D) (r : HasRecovered setup base (seen before played_by) custodian journal)
+  module _ (setup : SetupValue) (base : ReleaseValue) (custodian : CustodianValue) (before played_by new : D) (r : HasRecovered setup base (seen before played_by) custodian)
       (lines : List ScriptLine) (end : RunEnd) (untouched : end ≡ run_end.Memory → new ≡ played_by) (steps steps_after : ℕ) (taken taken_after : Option (List ℕ))
       (runs : (batches : List (List Edit)) → custodian.writer.list ≡ batches_of (base_of custodian) batches → EachStandsFor (may_leave played_by) batches None
       → AreKeptFrom (after_playing (base_of custodian) batches (faults played_by)) setup (base_of custodian) lines end

@@ -1,15 +1,14 @@
 -- A journal that was to be recovered: whether it was, and what is left of its file.
-use Rattle.std.specs.Prelude.{◌≡◌, ℕ, List, Option, None, Result, Ok, Err, true}
+use Rattle.std.specs.Prelude.{◌≡◌, ℕ, List, Option, None}
 use Rattle.tb_board.specs.Custodians.{CustodianValue}
 use Rattle.tb_disk.specs.Images.{Only, WhereTold}
 use Rattle.tb_io.specs.Faults.{HasRisen}
 use Rattle.tb_journal.specs.Opening.{StandsAsOne, opened_file}
-use Rattle.tb_journal.specs.States.{JournalState}
 use Rattle.tb_journal_file.specs.Files.{EachStandsFor}
 use Rattle.tb_keep.specs.Chains.{batches_of}
 use Rattle.tb_keep.specs.JournalRuns.{AreRecovered, IsJournalFault}
-use Rattle.tb_keep.specs.declared.recovery.Unrecovered.{Unrecovered}
-use Rattle.tb_keep.specs.declared.recovery.Unrecovered.TheVariants as unrecovered
+use Rattle.tb_keep.specs.declared.recovery.Recovery.{Recovery}
+use Rattle.tb_keep.specs.declared.recovery.Recovery.TheVariants as recovery
 use Rattle.tb_model.specs.Releases.{ReleaseValue}
 use Rattle.tb_model.specs.Setups.{SetupValue}
 use Rattle.tb_release.specs.declared.edits.Edit.{Edit}
@@ -35,24 +34,23 @@ StandsAsBefore saw =
     → StandsAsOne saw.could_leave image)
 
 -- all batches of the file were published by a custodian, who stands at the chain to which they
--- lead, and the journal is live
+-- lead; each file that a stop now may leave stands for them
 pub record HasRecovered (setup : SetupValue) (base : ReleaseValue) (saw : JournalSeen)
-    (custodian : CustodianValue) (journal : JournalState) : Type 0 where
+    (custodian : CustodianValue) : Type 0 where
   pub batches : List (List Edit)
   pub recovered : AreRecovered setup base saw.content batches
   pub start : custodian.writer.start.base ≡ base
   pub chain : custodian.writer.list ≡ batches_of base batches
-  pub live : journal.live ≡ true
   pub left : EachStandsFor saw.may_leave batches None
   pub same : IsAsItWas saw
 
--- a journal was recovered; or its file is refused, or memory ran out, and the file is left as it
--- was; or the disk failed
-abbrev pub IsRecovery : SetupValue → ReleaseValue → JournalSeen → CustodianValue
-    → Result JournalState Unrecovered → Type 0
-IsRecovery setup base saw custodian (Ok journal) = HasRecovered setup base saw custodian journal
-IsRecovery setup base saw custodian (Err (unrecovered.Refused fault)) =
+-- what became of a journal: it was recovered; or its file is refused, or memory ran out, and the
+-- file is left as it was; or the disk failed
+abbrev pub IsRecovery : SetupValue → ReleaseValue → JournalSeen → CustodianValue → Recovery → Type 0
+IsRecovery setup base saw custodian (recovery.Recovered journal) =
+    HasRecovered setup base saw custodian
+IsRecovery setup base saw custodian (recovery.Refused fault) =
     IsAsItWas saw × WhereTold saw.content (λ file. IsJournalFault setup base file fault)
-IsRecovery setup base saw custodian (Err unrecovered.DiskFault) =
+IsRecovery setup base saw custodian recovery.DiskFault =
     HasRisen saw.faults saw.faults_after × StandsAsBefore saw
-IsRecovery setup base saw custodian (Err unrecovered.Memory) = IsAsItWas saw
+IsRecovery setup base saw custodian recovery.Memory = IsAsItWas saw

@@ -16,7 +16,7 @@ ghost use Rattle.tb_session.specs.Parties.{IsCustodianOf};
 
 use crate::journal_owner::JournalOwner;
 use crate::publisher::BoardPublisher;
-use crate::recovery::{JournalFault, Unrecovered, recover};
+use crate::recovery::{JournalFault, Recovery, recover};
 use crate::running::run_kept;
 use std::sync::Wait;
 use std::sync::ledger::Ledger;
@@ -142,11 +142,11 @@ pub fn run_with_journal<B: Named, D: Disk, R: Threads + Wait + Sync, K: Sink, L:
         }) }
 {
     match recover(setting, &mut custodian, disk) {
-        Ok(journal) => {
+        Recovery::Recovered(journal) => {
             KeepEnd::Ran(run_played(setting, script, custodian, disk, journal, sink, steps))
         }
-        Err(Unrecovered::Refused(fault)) => KeepEnd::Refused(fault),
-        Err(Unrecovered::DiskFault) => KeepEnd::DiskFault,
-        Err(Unrecovered::Memory) => KeepEnd::Ran(RunEnd::Memory),
+        Recovery::Refused(fault) => KeepEnd::Refused(fault),
+        Recovery::DiskFault => KeepEnd::DiskFault,
+        Recovery::Memory => KeepEnd::Ran(RunEnd::Memory),
     }
 }

@@ -30,5 +30,5 @@ pub use journal_owner::JournalOwner;
 pub use journal_run::{KeepEnd, run_with_journal};
 pub use playing::{Played, play};
 pub use publisher::BoardPublisher;
-pub use recovery::{JournalFault, Unrecovered, recover};
+pub use recovery::{JournalFault, Recovery, recover};
 pub use running::run_kept;

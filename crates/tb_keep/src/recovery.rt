@@ -1,8 +1,10 @@
 // A journal that is opened, and whose batches are published, before anything else is answered.
 
-ghost use Rattle.std.specs.Prelude.{◌≡◌, ◌≤◌, IfOk, [], true};
+ghost use Rattle.std.specs.Prelude.{◌≡◌, ◌≤◌, [], true};
+ghost use Rattle.tb_journal.specs.States.{JournalState};
 ghost use Rattle.tb_journal_file.specs.Files.{CanPut};
 ghost use Rattle.tb_keep.specs.Recoveries.{IsRecovery};
+ghost use Rattle.tb_keep.specs.declared.recovery.Recovery.TheVariants as recovery;
 ghost use Rattle.tb_model.specs.Schemas.{shape_of};
 ghost use Rattle.tb_session.specs.Parties.{IsCustodianOf};
 
@@ -23,9 +25,11 @@ pub enum JournalFault {
     DoesNotFollow(u32),
 }
 
-/// Why no journal was recovered: its file is refused, the disk failed, or memory ran out.
-#[derive(Clone, Copy, Debug, PartialEq, Eq)]
-pub enum Unrecovered {
+/// What became of a journal that was to be recovered: all of its batches were published, and more
+/// can be put; or its file is refused, the disk failed, or memory ran out.
+#[derive(Drop)]
+pub enum Recovery {
+    Recovered(Journal),
     Refused(JournalFault),
     DiskFault,
     Memory,
@@ -38,30 +42,31 @@ pub fn recover<B: Named, D: Disk, R: Threads + Wait + Sync>(
     setting: &Setting<'_, B, R>,
     custodian: &mut Custodian,
     disk: &mut D,
-) -> Result<Journal, Unrecovered>
+) -> Recovery
     requires own { IsCustodianOf B.name (shape_of setting.now.setup.now.schema) custodian.old [] }
     requires first { custodian.old.writer.list ≡ [] }
     requires attached { D.attached disk.old ≡ true }
     ensures own { IsCustodianOf B.name (shape_of setting.now.setup.now.schema) custodian.new [] }
     ensures attached { D.attached disk.new ≡ true }
     ensures count { D.faults disk.old ≤ D.faults disk.new }
-    ensures puts { IfOk result (λ journal. CanPut (D.attached disk.new) (D.content disk.new)
-        (D.may_leave disk.new) journal) }
+    // The journal is live, and on its file.
+    ensures live { (journal : JournalState) → result ≡ recovery.Recovered journal
+        → journal.live ≡ true }
+    ensures puts { (journal : JournalState) → result ≡ recovery.Recovered journal
+        → CanPut (D.attached disk.new) (D.content disk.new) (D.may_leave disk.new) journal }
     ensures recovered { IsRecovery setting.now.setup.now custodian.old.writer.start.base (record {
-          content = D.content disk.old;
-          could_leave = D.may_leave disk.old;
-          may_leave = D.may_leave disk.new;
-          faults = D.faults disk.old;
-          faults_after = D.faults disk.new;
-        }) custodian.new result }
+      content = D.content disk.old;
+      could_leave = D.may_leave disk.old;
+      may_leave = D.may_leave disk.new;
+      faults = D.faults disk.old;
+      faults_after = D.faults disk.new;
+    }) custodian.new result }
 {
     let mut journal = match Journal::open(setting.alloc, disk) {
         (JournalOpen::Open, Some(journal)) => journal,
-        (JournalOpen::NotJournal, _) => {
-            return Err(Unrecovered::Refused(JournalFault::NotJournal));
-        }
-        (JournalOpen::DiskFault, _) => return Err(Unrecovered::DiskFault),
-        (JournalOpen::Open, None) | (JournalOpen::Memory, _) => return Err(Unrecovered::Memory),
+        (JournalOpen::NotJournal, _) => return Recovery::Refused(JournalFault::NotJournal),
+        (JournalOpen::DiskFault, _) => return Recovery::DiskFault,
+        (JournalOpen::Open, None) | (JournalOpen::Memory, _) => return Recovery::Memory,
     };
     let played = play(
         setting.rt,
@@ -73,10 +78,10 @@ pub fn recover<B: Named, D: Disk, R: Threads + Wait + Sync>(
         &mut journal,
     );
     match played {
-        Played::All => Ok(journal),
-        Played::BadRecord(r) => Err(Unrecovered::Refused(JournalFault::BadRecord(r))),
-        Played::DoesNotFollow(r) => Err(Unrecovered::Refused(JournalFault::DoesNotFollow(r))),
-        Played::Memory => Err(Unrecovered::Memory),
-        Played::DiskFault => Err(Unrecovered::DiskFault),
+        Played::All => Recovery::Recovered(journal),
+        Played::BadRecord(r) => Recovery::Refused(JournalFault::BadRecord(r)),
+        Played::DoesNotFollow(r) => Recovery::Refused(JournalFault::DoesNotFollow(r)),
+        Played::Memory => Recovery::Memory,
+        Played::DiskFault => Recovery::DiskFault,
     }
 }

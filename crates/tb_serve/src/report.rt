@@ -102,11 +102,7 @@ fn write_report<O: Sink, N: Listen>(
 
 /// Ends a call that served its ports: writes `worker I sessions N` for each port, `release R`, and
 /// `fault net` last where an accept failed. It takes no memory.
-pub fn end_with_report<O: Sink, N: Listen>(
-    out: &mut O,
-    ports: &[Port<N>],
-    release: u32,
-) -> Status
+pub fn end_with_report<O: Sink, N: Listen>(out: &mut O, ports: &[Port<N>], release: u32) -> Status
     requires few { length ports.now < 2 ^ 32 }
     ensures ended { IsEnded (report ports.now release) (final_status ports.now)
         (output (O.taken out.old) (O.taken out.new) (O.faults out.old) (O.faults out.new))

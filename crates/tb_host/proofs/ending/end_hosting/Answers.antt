@@ -1,5 +1,5 @@
 use Rattle.std.proofs.Common.{sym, subst, Bool}
-use Rattle.tb_host.specs.Endings.{IsReported}
+use Rattle.tb_host.specs.Endings.{IsHostReported}
 use Rattle.tb_serve.specs.Serves.{output}
 use Rattle.tb_serve.proofs.Endings.{ended_badly, ended_well}
 use Rattle.tb_host.proofs.ending.end_hosting.Goals as goal

@@ -13,24 +13,24 @@ pub returns-in-Memory-clause-hosts : goal.returns-in-Memory-clause-hosts
 returns-in-Memory-clause-hosts g c = inl ((untouched c.args.first c.args.ports.now, c.write_end-in-Memory.ensures.ended), c.in-Memory.ensures.recovered)
 
 pub returns-in-NoMemory-clause-hosts : goal.returns-in-NoMemory-clause-hosts
-returns-in-NoMemory-clause-hosts g c = inl ((c.in-NoMemory.ensures, c.write_end-in-NoMemory.ensures.ended), c.in-Ok.ensures.recovered.same)
+returns-in-NoMemory-clause-hosts g c = inl ((c.in-NoMemory.ensures, c.write_end-in-NoMemory.ensures.ended), c.in-Recovered.ensures.recovered.same)
 
 pub returns-in-NotBound-clause-hosts : goal.returns-in-NotBound-clause-hosts
 returns-in-NotBound-clause-hosts g c =
-    let r = c.in-Ok.ensures.recovered in
+    let r = c.in-Recovered.ensures.recovered in
     inr (inr (inl ((c.in-NotBound.ensures.0, c.in-NotBound.ensures.1, c.write_end-in-NotBound.ensures.ended), record { batches = r.batches; all = r.recovered; left = r.left })))
 
 pub returns-in-Ready-clause-hosts : goal.returns-in-Ready-clause-hosts
 returns-in-Ready-clause-hosts g c =
     inr (inr (inr (hosts_all g.D.Disk.content g.D.Disk.may_leave g.D.Disk.faults c.args.setting.now.setup.now c.args.custodian.writer.start.base c.args.disk.now c.recover.new.disk c.serve_ready.new.disk
-    c.recover.new.custodian c.in-Ok.journal c.in-Ok.ensures.recovered c.args.first c.args.sessions c.args.ports.now c.prepare.new.ports c.serve_ready.new.ports c.in-Ready.ensures
+    c.recover.new.custodian c.in-Recovered.ensures.recovered c.args.first c.args.sessions c.args.ports.now c.prepare.new.ports c.serve_ready.new.ports c.in-Ready.ensures
     (output (g.O.Sink.taken c.args.out.now) (g.O.Sink.taken c.serve_ready.new.out) (g.O.Sink.faults c.args.out.now) (g.O.Sink.faults c.serve_ready.new.out)) c.serve_ready.result
-    c.serve_ready.ensures.served c.in-Ok.ensures.count c.serve_ready.ensures.left)))
+    c.serve_ready.ensures.served c.in-Recovered.ensures.count c.serve_ready.ensures.left)))
 
 pub returns-in-Ready-clause-count : goal.returns-in-Ready-clause-count
 returns-in-Ready-clause-count g c =
     let counts = hosts_counted g.D.Disk.content g.D.Disk.may_leave g.D.Disk.faults c.args.setting.now.setup.now c.args.custodian.writer.start.base c.args.disk.now c.recover.new.disk c.serve_ready.new.disk
-    c.recover.new.custodian c.in-Ok.journal c.in-Ok.ensures.recovered c.args.first c.args.sessions c.args.ports.now c.prepare.new.ports c.serve_ready.new.ports c.in-Ready.ensures
+    c.recover.new.custodian c.in-Recovered.ensures.recovered c.args.first c.args.sessions c.args.ports.now c.prepare.new.ports c.serve_ready.new.ports c.in-Ready.ensures
     (output (g.O.Sink.taken c.args.out.now) (g.O.Sink.taken c.serve_ready.new.out) (g.O.Sink.faults c.args.out.now) (g.O.Sink.faults c.serve_ready.new.out)) c.serve_ready.result
     c.serve_ready.ensures.served (omega (arith, c.requires.some, c.in-Ready.ensures.same_length)) in
-    omega (arith, c.in-Ok.ensures.count, counts)
+    omega (arith, c.in-Recovered.ensures.count, counts)

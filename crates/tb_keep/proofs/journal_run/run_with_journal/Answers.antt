@@ -2,15 +2,15 @@ use Rattle.std.proofs.Common.{arith, refl}
 use Rattle.tb_keep.proofs.JournalRunning.{all-counted, all-ran}
 use Rattle.tb_keep.proofs.journal_run.run_with_journal.Goals as goal
 
-pub returns-in-Ok-clause-run : goal.returns-in-Ok-clause-run
-returns-in-Ok-clause-run g c =
-    all-ran g.D.Disk.content g.D.Disk.may_leave g.D.Disk.faults c.args.setting.now.setup.now c.args.custodian.writer.start.base c.recover.new.custodian c.in-Ok.journal
-    c.args.disk.now c.recover.new.disk c.run_played.new.disk c.in-Ok.ensures.recovered
-    c.args.script.now.lines c.run_played.result c.run_played.ensures.unwritten _ _ _ _ c.run_played.ensures.run c.in-Ok.ensures.count
+pub returns-in-Recovered-clause-run : goal.returns-in-Recovered-clause-run
+returns-in-Recovered-clause-run g c =
+    all-ran g.D.Disk.content g.D.Disk.may_leave g.D.Disk.faults c.args.setting.now.setup.now c.args.custodian.writer.start.base c.recover.new.custodian
+    c.args.disk.now c.recover.new.disk c.run_played.new.disk c.in-Recovered.ensures.recovered
+    c.args.script.now.lines c.run_played.result c.run_played.ensures.unwritten _ _ _ _ c.run_played.ensures.run c.in-Recovered.ensures.count
 
-pub returns-in-Ok-clause-disk_count : goal.returns-in-Ok-clause-disk_count
-returns-in-Ok-clause-disk_count g c =
-    let counts = all-counted g.D.Disk.content g.D.Disk.may_leave g.D.Disk.faults c.args.setting.now.setup.now c.args.custodian.writer.start.base c.recover.new.custodian c.in-Ok.journal
-    c.args.disk.now c.recover.new.disk c.run_played.new.disk c.in-Ok.ensures.recovered
+pub returns-in-Recovered-clause-disk_count : goal.returns-in-Recovered-clause-disk_count
+returns-in-Recovered-clause-disk_count g c =
+    let counts = all-counted g.D.Disk.content g.D.Disk.may_leave g.D.Disk.faults c.args.setting.now.setup.now c.args.custodian.writer.start.base c.recover.new.custodian
+    c.args.disk.now c.recover.new.disk c.run_played.new.disk c.in-Recovered.ensures.recovered
     c.args.script.now.lines c.run_played.result c.run_played.ensures.unwritten _ _ _ _ c.run_played.ensures.run in
-    omega (arith, c.in-Ok.ensures.count, counts)
+    omega (arith, c.in-Recovered.ensures.count, counts)

@@ -1,4 +1,5 @@
 use Rattle.std.proofs.Common.{refl}
+use Rattle.tb_io.proofs.FaultLemmas.{HasRisen-earlier}
 use Rattle.tb_keep.proofs.JournalRunning.{all-recovered, bad-record, does-not-follow, failed-opening, failed-reading, left-foreign, left-opened}
 use Rattle.tb_keep.proofs.recovery.recover.Goals as goal
 
@@ -18,7 +19,7 @@ pub returns-in-All-clause-recovered : goal.returns-in-All-clause-recovered
 returns-in-All-clause-recovered g c =
     all-recovered g.D.Disk.content g.D.Disk.may_leave g.D.Disk.faults c.args.setting.now.setup.now c.args.custodian.now c.play-played.new.custodian c.requires.first
     c.args.disk.now c.open.new.disk c.play-played.new.disk (c.open.ensures.opened c.in-Open-Some.is-0) (c.open.ensures.ours c.in-Open-Some.is-0) c.in-All.ensures.played
-    c.play-played.new.journal c.in-All.ensures.quiet.same (g.met.D.Disk.told_beside c.play-played.new.disk) c.in-All.ensures.on (c.in-All.ensures.at_end refl) (c.in-All.ensures.live refl)
+    c.play-played.new.journal c.in-All.ensures.quiet.same (g.met.D.Disk.told_beside c.play-played.new.disk) c.in-All.ensures.on (c.in-All.ensures.at_end refl)
 
 pub returns-in-BadRecord-clause-recovered : goal.returns-in-BadRecord-clause-recovered
 returns-in-BadRecord-clause-recovered g c = (
@@ -38,7 +39,7 @@ returns-in-Memory-clause-recovered g c =
 
 pub returns-in-DiskFault-clause-recovered : goal.returns-in-DiskFault-clause-recovered
 returns-in-DiskFault-clause-recovered g c = (
-  ?,
+  HasRisen-earlier (g.D.Disk.faults c.args.disk.now) (g.D.Disk.faults c.open.new.disk) (g.D.Disk.faults c.play-played.new.disk) c.open.ensures.count (c.in-DiskFault.ensures.failed refl) c.in-DiskFault.ensures.count,
   failed-reading g.D.Disk.content g.D.Disk.may_leave c.args.disk.now (g.met.D.Disk.as_it_reads c.args.disk.now) c.open.new.disk c.play-played.new.disk (c.open.ensures.opened c.in-Open-Some.is-0)
-  c.in-DiskFault.ensures.quiet.same c.play-played.new.journal c.in-DiskFault.ensures.on,
+      c.in-DiskFault.ensures.quiet.same c.play-played.new.journal c.in-DiskFault.ensures.on,
 )
