@@ -4,6 +4,7 @@ use Rattle.tb_board.specs.Custodians.{CustodianValue}
 use Rattle.tb_disk.specs.Images.{Only, WhereTold}
 use Rattle.tb_io.specs.Faults.{HasRisen}
 use Rattle.tb_journal.specs.Opening.{StandsAsOne, opened_file}
+use Rattle.tb_journal.specs.States.{JournalState}
 use Rattle.tb_journal_file.specs.Files.{EachStandsFor}
 use Rattle.tb_keep.specs.Chains.{batches_of}
 use Rattle.tb_keep.specs.JournalRuns.{AreRecovered, IsJournalFault}
@@ -43,6 +44,13 @@ pub record HasRecovered (setup : SetupValue) (base : ReleaseValue) (saw : Journa
   pub chain : custodian.writer.list ≡ batches_of base batches
   pub left : EachStandsFor saw.may_leave batches None
   pub same : IsAsItWas saw
+
+-- this is true of the journal, if it was recovered
+abbrev pub IfRecovered : Recovery → (JournalState → Type 0) → Type 0
+IfRecovered (recovery.Recovered journal) P = P journal
+IfRecovered (recovery.Refused fault) P = Unit {0}
+IfRecovered recovery.DiskFault P = Unit {0}
+IfRecovered recovery.Memory P = Unit {0}
 
 -- what became of a journal: it was recovered; or its file is refused, or memory ran out, and the
 -- file is left as it was; or the disk failed

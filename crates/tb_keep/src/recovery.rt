@@ -1,10 +1,8 @@
 // A journal that is opened, and whose batches are published, before anything else is answered.
 
 ghost use Rattle.std.specs.Prelude.{◌≡◌, ◌≤◌, [], true};
-ghost use Rattle.tb_journal.specs.States.{JournalState};
 ghost use Rattle.tb_journal_file.specs.Files.{CanPut};
-ghost use Rattle.tb_keep.specs.Recoveries.{IsRecovery};
-ghost use Rattle.tb_keep.specs.declared.recovery.Recovery.TheVariants as recovery;
+ghost use Rattle.tb_keep.specs.Recoveries.{IfRecovered, IsRecovery};
 ghost use Rattle.tb_model.specs.Schemas.{shape_of};
 ghost use Rattle.tb_session.specs.Parties.{IsCustodianOf};
 
@@ -50,10 +48,9 @@ pub fn recover<B: Named, D: Disk, R: Threads + Wait + Sync>(
     ensures attached { D.attached disk.new ≡ true }
     ensures count { D.faults disk.old ≤ D.faults disk.new }
     // The journal is live, and on its file.
-    ensures live { (journal : JournalState) → result ≡ recovery.Recovered journal
-        → journal.live ≡ true }
-    ensures puts { (journal : JournalState) → result ≡ recovery.Recovered journal
-        → CanPut (D.attached disk.new) (D.content disk.new) (D.may_leave disk.new) journal }
+    ensures live { IfRecovered result (λ journal. journal.live ≡ true) }
+    ensures puts { IfRecovered result (λ journal. CanPut (D.attached disk.new) (D.content disk.new)
+        (D.may_leave disk.new) journal) }
     ensures recovered { IsRecovery setting.now.setup.now custodian.old.writer.start.base (record {
       content = D.content disk.old;
       could_leave = D.may_leave disk.old;
