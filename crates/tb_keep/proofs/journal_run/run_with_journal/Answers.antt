@@ -14,3 +14,15 @@ returns-in-Recovered-clause-disk_count g c =
     c.args.disk.now c.recover.new.disk c.run_played.new.disk c.in-Recovered.ensures.recovered
     c.args.script.now.lines c.run_played.result c.run_played.ensures.unwritten _ _ _ _ c.run_played.ensures.run in
     omega (arith, c.in-Recovered.ensures.count, counts)
+
+pub returns-in-Refused-clause-run : goal.returns-in-Refused-clause-run
+returns-in-Refused-clause-run g c = ((refl, refl), c.in-Refused.ensures.recovered.0, c.in-Refused.ensures.recovered.1)
+
+pub returns-in-DiskFault-clause-disk_failed : goal.returns-in-DiskFault-clause-disk_failed
+returns-in-DiskFault-clause-disk_failed g c = λ _. c.in-DiskFault.ensures.recovered.0
+
+pub returns-in-DiskFault-clause-left : goal.returns-in-DiskFault-clause-left
+returns-in-DiskFault-clause-left g c = λ _. c.in-DiskFault.ensures.recovered.1
+
+pub returns-in-Memory-clause-run : goal.returns-in-Memory-clause-run
+returns-in-Memory-clause-run g c = ((refl, refl), c.in-Memory.ensures.recovered)
