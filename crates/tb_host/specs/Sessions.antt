@@ -1,5 +1,6 @@
 -- The sessions of a server that keeps a journal, and what a stop after them may leave of its file.
-use Rattle.std.specs.Prelude.{◌≡◌, ℕ, zero, suc, ◌+◌, List, Bool, false, None, Some, is_none, length}
+use Rattle.std.specs.Prelude.{◌≡◌, ℕ, zero, suc, ◌+◌, List, Bool, false, None, Some, is_none}
+use Rattle.std.specs.Prelude.{length}
 use Rattle.tb_ahead.specs.Keepers.{KeeperValue, Reaches}
 use Rattle.tb_ahead.specs.Keeping.{KeptState}
 use Rattle.tb_ahead.specs.Publishing.{let_go}
