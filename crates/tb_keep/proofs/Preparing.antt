@@ -1,5 +1,5 @@
 -- The custodian's party, once a line asks for the publication that was prepared.
-use Rattle.std.proofs.Common.{◌≡◌, cc, refl, sym, subst, ℕ, true, List}
+use Rattle.std.proofs.Common.{◌≡◌, refl, sym, subst, ℕ, true, List}
 use Rattle.tb_front.specs.Holders.{Name}
 use Rattle.tb_session.specs.Parties.{IsCustodianOf, IsOwnerOf, IsPartyOf, seen_by}
 use Rattle.tb_session.specs.declared.asks.Asks.{Asks}

@@ -12,10 +12,10 @@
 //! `JournalOwners` have what the traits of such a party ask for.
 //!
 //! Of the proofs, `Writable` says that an edit which a line reads as can be written, `Owning` what
-//! that makes of a line, `Chains` that a chain stays that of the batches, `Recovering` what one
-//! batch more makes of the batches so far, `KeptRunning` what the lines make of where the custodian
-//! stood, `JournalRunning` what a run makes of a journal's file, and `SomeKeptReplies` that each
-//! line has some reply.
+//! that makes of a line, `Preparing` when a line asks for what was prepared, `Chains` that a chain
+//! stays that of the batches, `Recovering` what one batch more makes of the batches so far,
+//! `KeptRunning` what the lines make of where the custodian stood, `JournalRunning` what a run
+//! makes of a journal's file, and `SomeKeptReplies` that each line has some reply.
 #![tactic(auto)]
 
 mod journal_owner;

@@ -25,7 +25,7 @@ use tb_text::Setup;
 #[derive(Drop)]
 pub struct BoardPublisher {
     pub custody: Custody,
-    prepared: Option<Publication>,
+    pub(crate) prepared: Option<Publication>,
 }
 
 impl BoardPublisher {
@@ -38,14 +38,6 @@ impl BoardPublisher {
             custody,
             prepared: None,
         }
-    }
-
-    /// Lets go of what was prepared.
-    pub(crate) fn forget_prepared(&mut self)
-        ensures custody { self.new.custody ≡ self.old.custody }
-        ensures none { self.new.prepared ≡ None }
-    {
-        self.prepared = None;
     }
 }
 
@@ -111,7 +103,7 @@ impl<'a, B: Named, R: Threads + Wait + Sync, G: Gate> Publisher<Setting<'a, B, R
 
     fn begin(&mut self, _setting: &Setting<'a, B, R>) {
         self.custody.party.drop_held();
-        self.forget_prepared();
+        self.prepared = None;
     }
 
     fn asks_to_publish(&self, line: &[u8]) -> bool {

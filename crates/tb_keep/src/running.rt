@@ -50,7 +50,8 @@ pub fn run_kept<B: Named, W: WriteAhead, R: Threads + Wait + Sync, K: Sink, L: L
         (charged (keeper_of result.1.keeper.party.custody.party result.1.keeper.ahead) steps.new)
         (K.taken sink.old) (K.taken sink.new) }
 {
-    owner.keeper.party.forget_prepared();
+    // What was prepared before is for no line of these.
+    owner.keeper.party.prepared = None;
     // The lifetimes in the two settings differ, so one is lent anew.
     run_owned(&*setting, setting, script, owner, sink, steps)
 }

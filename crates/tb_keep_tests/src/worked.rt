@@ -32,11 +32,18 @@ type Row = (
     &'static [u8],
 );
 
-static ROWS: [Row; 17] = [
+static ROWS: [Row; 18] = [
     ("no_batch", b"", SEX, 0, BEFORE),
     ("no_batch", b"012345678", SEX, 0, BEFORE),
     ("no_batch", b"TBJOURN1\x00\x01\x02\x03", SEX, 0, BEFORE),
     ("no_lines", ONE_BATCH, b"", 0, b""),
+    (
+        "an_earlier_release",
+        ONE_BATCH,
+        b"a at 0 table SEX\ncustodian at 2 table SEX\n",
+        0,
+        b"release 0\nSEX,count\n1,1\n2,2\n.\nrefused 10 NoSuchRelease 1\n",
+    ),
     (
         "analysts_beside_the_custodian",
         b"",

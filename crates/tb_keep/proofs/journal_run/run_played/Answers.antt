@@ -1,4 +1,5 @@
-use Rattle.std.proofs.Common.{rules}
+use Rattle.std.proofs.Common.{rules, ◌∙◌, ap}
+use Rattle.tb_session.specs.declared.custody.Custody.{Custody}
 use Rattle.tb_keep.proofs.JournalRunning.{lines-kept}
 use Rattle.tb_keep.proofs.journal_run.run_played.Goals as goal
 
@@ -6,7 +7,7 @@ pub returns-clause-run : goal.returns-clause-run
 returns-clause-run g c =
     let (base, into, reaches) = c.run_kept-end.ensures.run in
     lines-kept g.D.Disk.may_leave g.D.Disk.faults c.args.disk.now _ _ (search rules) _ c.args.setting.now.setup.now c.args.script.now.lines c.run_kept-end.result.0 c.args.custodian
-    c.new-custody.result.party c.new-custody.ensures _ _ c.requires.live _ _ _ _ _ reaches
+    c.new-party.result.custody.party (ap (λ (o : Custody). o.party) c.new-party.ensures.custody ∙ c.new-custody.ensures) _ _ c.requires.live _ _ _ _ _ reaches
 
 pub returns-clause-unwritten : goal.returns-clause-unwritten
 returns-clause-unwritten g c = λ is.

@@ -11,6 +11,7 @@ returns-clause-ready g c = (
   c.requires.0,
   subst (λ (p : Party). CanWriteAhead g.B.Named.name (shape_of c.args._setting.now.setup.now.schema) p) (sym c.drop_held.ensures)
       (fresh_owner g.B.Named.name (shape_of c.args._setting.now.setup.now.schema) c.args.self.now.custody.party c.requires.1),
+  tt,
 )
 
 pub returns-clause-base : goal.returns-clause-base
