@@ -7,6 +7,7 @@ use tb_records::PeopleKind;
 use tb_rows::FaultKind;
 use tb_schema::{ClassFile, SchemaKind};
 use tb_top::Input;
+use tb_units::{UnitsFile, UnitsKind};
 
 static SCHEMA_KINDS: [SchemaKind; 13] = [
     SchemaKind::BadHeader,
@@ -44,12 +45,25 @@ static PEOPLE_KINDS: [PeopleKind; 7] = [
     PeopleKind::TooMany,
 ];
 
+static UNITS_KINDS: [UnitsKind; 9] = [
+    UnitsKind::BadHeader,
+    UnitsKind::BadDwelling,
+    UnitsKind::BadKey,
+    UnitsKind::DwellingTwice,
+    UnitsKind::UnknownDwelling,
+    UnitsKind::PersonTwice,
+    UnitsKind::BadPerson,
+    UnitsKind::BadCsv,
+    UnitsKind::TooMany,
+];
+
 /// A kind of fault, with its file where the same kinds are those of two.
 #[derive(Clone, Copy, Debug, PartialEq, Eq)]
 pub enum Kind {
     Schema(ClassFile, SchemaKind),
     Ptable(PTableKind),
     People(PeopleKind),
+    Units(UnitsFile, UnitsKind),
 }
 
 // The kind that is printed with this word.
@@ -70,6 +84,10 @@ impl Kind {
             Input::Recodes => Some(Kind::Schema(ClassFile::Recodes, kind_of(&SCHEMA_KINDS, word)?)),
             Input::Ptable => Some(Kind::Ptable(kind_of(&PTABLE_KINDS, word)?)),
             Input::People => Some(Kind::People(kind_of(&PEOPLE_KINDS, word)?)),
+            Input::Dwellings => {
+                Some(Kind::Units(UnitsFile::Dwellings, kind_of(&UNITS_KINDS, word)?))
+            }
+            Input::Links => Some(Kind::Units(UnitsFile::Links, kind_of(&UNITS_KINDS, word)?)),
             Input::Script => None,
         }
     }
@@ -118,12 +136,34 @@ fn write_kind<W: Write>(f: &mut Formatter<W>, file: ClassFile, kind: SchemaKind)
     }
 }
 
+// The columns of a file of dwellings or of links.
+fn columns_of_units(file: UnitsFile) -> &'static str {
+    match file {
+        UnitsFile::Dwellings => "`dwelling` and `dwelling_key`",
+        UnitsFile::Links => "`person` and `dwelling`",
+    }
+}
+
+// The kind's own text, where that says of this file what must be changed.
+fn write_units_kind<W: Write>(
+    f: &mut Formatter<W>,
+    file: UnitsFile,
+    kind: UnitsKind,
+) -> fmt::Result {
+    let columns = columns_of_units(file);
+    match kind {
+        UnitsKind::BadHeader => write!(f, "the header must have each of {columns} once"),
+        kind => write!(f, "{kind}"),
+    }
+}
+
 impl Display for Kind {
     fn fmt<W: Write>(&self, f: &mut Formatter<W>) -> fmt::Result {
         match self {
             Kind::Schema(file, kind) => write_kind(f, *file, *kind),
             Kind::Ptable(kind) => write!(f, "{kind}"),
             Kind::People(kind) => write!(f, "{kind}"),
+            Kind::Units(file, kind) => write_units_kind(f, *file, *kind),
         }
     }
 }

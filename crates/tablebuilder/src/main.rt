@@ -55,8 +55,10 @@ fn end_of(fault: &io::Error) -> End {
 
 // Runs the command of these arguments over the system's files, listeners and disk, writing into
 // `out`, with a counter of its own.
+// The type of a folder is named, since the disk goes to the custodian's thread: what a bound alone
+// says of a type holds of this thread.
 fn run_words<
-    R: FileSystem<File = File>
+    R: FileSystem<File = File, Dir = <HostRuntime as FileSystem>::Dir>
         + Print
         + Eprint
         + AllocGlobal
@@ -119,7 +121,7 @@ fn finish<R: Print + Eprint>(
 // Runs the command of the arguments.
 fn run<
     R: Env
-        + FileSystem<File = File>
+        + FileSystem<File = File, Dir = <HostRuntime as FileSystem>::Dir>
         + Print
         + Eprint
         + AllocGlobal

@@ -2,7 +2,7 @@
 
 use crate::kinds::Kind;
 use tb_base::{Status, read_number};
-use tb_top::{Command, Input, Inputs, most_bytes_of};
+use tb_top::{Command, Input, Inputs, Service, most_bytes_of};
 use thiserror::Error;
 
 /// Why a run was refused, or couldn't be finished. A file has the name that the arguments gave it.
@@ -12,6 +12,9 @@ pub enum Refusal<'a> {
         tablebuilder lanes CLASSES RECODES PTABLE PEOPLE THRESHOLD SCRIPT\n       \
         tablebuilder keep CLASSES RECODES PTABLE PEOPLE THRESHOLD JOURNAL SCRIPT\n       \
         tablebuilder follow CLASSES RECODES PTABLE PEOPLE THRESHOLD SCRIPT\n       \
+        tablebuilder units CLASSES RECODES PTABLE PEOPLE THRESHOLD DWELLINGS LINKS SCRIPT\n       \
+        tablebuilder host CLASSES RECODES PTABLE PEOPLE THRESHOLD JOURNAL PORT WORKERS \
+        SESSIONS\n       \
         tablebuilder serve CLASSES RECODES PTABLE PEOPLE THRESHOLD PORT WORKERS SESSIONS\n       \
         tablebuilder gen N START")]
     Usage,
@@ -27,10 +30,11 @@ pub enum Refusal<'a> {
         letters and digits), a blank and the lane's line, or begin with #; it may have 4096 \
         bytes, and a script 64 lanes")]
     BadLine { file: &'a str, at: u32 },
-    #[error("{file}: the file must be a journal that `keep` has written, or not be there yet")]
+    #[error("{file}: the file must be a journal that `keep` or `host` has written, or not be there \
+        yet")]
     NotJournal { file: &'a str },
-    #[error("{file}, record {at}: the record must be as `keep` wrote it; the file was changed since \
-        then, so put a copy of the journal in its place")]
+    #[error("{file}, record {at}: the record must be as `keep` or `host` wrote it; the file was \
+        changed since then, so put a copy of the journal in its place")]
     BadRecord { file: &'a str, at: u32 },
     #[error("{file}, record {at}: the batch must fit the classification and follow the microdata \
         and the batches before it, so name the files that this journal was begun with")]
@@ -38,6 +42,11 @@ pub enum Refusal<'a> {
     #[error("{file}: the file must be there or its folder, this user must be allowed to read and \
         write it, no other process may have it, and the disk must take what is written")]
     Disk { file: &'a str },
+    #[error("{file}: the file must be there or its folder, this user must be allowed to read and \
+        write it, no other process may have it, and the disk must take what is written, and memory \
+        suffice behind it; each `publish` after such a fault was answered `unkept`, so start anew \
+        from the file")]
+    HostDisk { file: &'a str },
     #[error("the standard output must take what is written")]
     Unwritten,
     #[error("out of memory")]
@@ -54,6 +63,8 @@ fn input_named(word: &str) -> Option<Input> {
         Input::Recodes,
         Input::Ptable,
         Input::People,
+        Input::Dwellings,
+        Input::Links,
         Input::Script,
     ];
     for input in inputs {
@@ -75,6 +86,17 @@ fn inputs_of<'c, 'a>(command: &'c Command<'a>) -> Option<&'c Inputs<'a>> {
             script: _,
         } => Some(inputs),
         Command::Follow { inputs, script: _ } => Some(inputs),
+        Command::Units {
+            inputs,
+            dwellings: _,
+            links: _,
+            script: _,
+        } => Some(inputs),
+        Command::Host {
+            inputs,
+            journal: _,
+            service: _,
+        } => Some(inputs),
         Command::Serve { inputs, service: _ } => Some(inputs),
         Command::Gen { .. } => None,
     }
@@ -88,6 +110,14 @@ fn name_of<'a>(command: &Command<'a>, file: Input) -> Option<&'a str> {
         Input::Recodes => Some(inputs.recodes.as_ref()?.as_str()),
         Input::Ptable => Some(inputs.ptable.as_str()),
         Input::People => Some(inputs.people.as_str()),
+        Input::Dwellings => match command {
+            Command::Units { dwellings, .. } => Some(dwellings.as_str()),
+            _ => None,
+        },
+        Input::Links => match command {
+            Command::Units { links, .. } => Some(links.as_str()),
+            _ => None,
+        },
         Input::Script => match command {
             Command::Script { inputs: _, script } => Some(script.as_str()),
             Command::Lanes { inputs: _, script } => Some(script.as_str()),
@@ -97,7 +127,13 @@ fn name_of<'a>(command: &Command<'a>, file: Input) -> Option<&'a str> {
                 script,
             } => Some(script.as_str()),
             Command::Follow { inputs: _, script } => Some(script.as_str()),
-            Command::Serve { .. } | Command::Gen { .. } => None,
+            Command::Units {
+                inputs: _,
+                dwellings: _,
+                links: _,
+                script,
+            } => Some(script.as_str()),
+            Command::Host { .. } | Command::Serve { .. } | Command::Gen { .. } => None,
         },
     }
 }
@@ -110,9 +146,15 @@ fn journal_of<'a>(command: &Command<'a>) -> Option<&'a str> {
             journal,
             script: _,
         } => Some(journal.as_str()),
+        Command::Host {
+            inputs: _,
+            journal,
+            service: _,
+        } => Some(journal.as_str()),
         Command::Script { .. }
         | Command::Lanes { .. }
         | Command::Follow { .. }
+        | Command::Units { .. }
         | Command::Serve { .. }
         | Command::Gen { .. } => None,
     }
@@ -162,6 +204,23 @@ fn of_journal<'a>(command: &Command<'a>, line: &str) -> Option<Refusal<'a>> {
     }
 }
 
+// Which ports a service must have.
+fn of_net<'a>(service: &Service) -> Refusal<'a> {
+    Refusal::Net {
+        port: service.port(),
+        workers: service.workers(),
+    }
+}
+
+// What a fault of the journal's disk says.
+fn of_disk<'a>(command: &Command<'a>) -> Option<Refusal<'a>> {
+    let file = journal_of(command)?;
+    match command {
+        Command::Host { .. } => Some(Refusal::HostDisk { file }),
+        _ => Some(Refusal::Disk { file }),
+    }
+}
+
 impl<'a> Refusal<'a> {
     /// Why a run of a command, of which there is none where the arguments are refused, ended with
     /// this status and this last line. None where it was done.
@@ -176,25 +235,26 @@ impl<'a> Refusal<'a> {
             Status::WriteFault => Some(Refusal::Unwritten),
             Status::Memory => Some(Refusal::Memory),
             Status::NetFault => match command? {
-                Command::Serve { inputs: _, service } => Some(Refusal::Net {
-                    port: service.port(),
-                    workers: service.workers(),
-                }),
+                Command::Serve { inputs: _, service } => Some(of_net(service)),
+                Command::Host {
+                    inputs: _,
+                    journal: _,
+                    service,
+                } => Some(of_net(service)),
                 Command::Script { .. }
                 | Command::Lanes { .. }
                 | Command::Keep { .. }
                 | Command::Follow { .. }
+                | Command::Units { .. }
                 | Command::Gen { .. } => None,
             },
             Status::Journal => of_journal(command?, line?),
-            Status::DiskFault => {
-                let file = journal_of(command?)?;
-                Some(Refusal::Disk { file })
-            }
+            Status::DiskFault => of_disk(command?),
             Status::Schema
             | Status::Perturbation
             | Status::Microdata
             | Status::Script
+            | Status::Units
             | Status::ReadFault => of_file(command?, line?),
         }
     }

@@ -1,12 +1,14 @@
 //! Tests of lines that are answered over a board: the worked scripts, a cube that is built while
-//! another caller is answered, a cube of more variables, a table at each of 50 releases, and a sink
-//! that fails.
+//! another caller is answered, a cube of more variables, a table at each of 50 releases, lines that
+//! ask for tables of dwellings, and a sink that fails.
 #![tactic(auto)]
 
 #[cfg(test)]
 mod asking;
 #[cfg(test)]
 mod gates;
+#[cfg(test)]
+mod homes;
 #[cfg(test)]
 mod making;
 #[cfg(test)]

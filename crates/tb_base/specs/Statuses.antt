@@ -4,7 +4,7 @@ use Rattle.tb_base.specs.declared.status.Status.{Status}
 use Rattle.tb_base.specs.declared.status.Status.TheVariants.{Done, Usage, Schema, Perturbation}
 use Rattle.tb_base.specs.declared.status.Status.TheVariants.{Microdata, Script, ReadFault}
 use Rattle.tb_base.specs.declared.status.Status.TheVariants.{WriteFault, Memory, NetFault}
-use Rattle.tb_base.specs.declared.status.Status.TheVariants.{Journal, DiskFault}
+use Rattle.tb_base.specs.declared.status.Status.TheVariants.{Journal, DiskFault, Units}
 
 -- the number with which the program ends; 1 is left to the runtime
 abbrev pub number_of : Status → ℕ
@@ -20,3 +20,4 @@ number_of Memory = 9
 number_of NetFault = 10
 number_of Journal = 11
 number_of DiskFault = 12
+number_of Units = 13

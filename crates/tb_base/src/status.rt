@@ -16,6 +16,7 @@ pub enum Status {
     NetFault,
     Journal,
     DiskFault,
+    Units,
 }
 
 impl Status {
@@ -36,6 +37,7 @@ impl Status {
             Status::NetFault => 10,
             Status::Journal => 11,
             Status::DiskFault => 12,
+            Status::Units => 13,
         }
     }
 }

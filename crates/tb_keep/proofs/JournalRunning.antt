@@ -33,9 +33,10 @@ use Rattle.tb_session.specs.declared.party.Party.TheVariants as party
 use Rattle.tb_keep.specs.Chains.{batches_of}
 use Rattle.tb_keep.specs.JournalRuns.{AreKeptFrom, AreRecovered, ComesAfter, IsJournalFault, IsJournalRun, IsLeftAsItWas, JournalRun, after_playing}
 use Rattle.tb_keep.specs.KeptRuns.{IsKeptRun}
+use Rattle.tb_keep.specs.Recoveries.{HasRecovered, JournalSeen}
 use Rattle.tb_keep.specs.Playing.{ArePublished, CanAllFollow, DoesNotFollow, HasPlayed, IsNextRecord, LiesBehind}
 use Rattle.tb_keep.proofs.KeptRunning.{run_counts}
-use Rattle.tb_keep.specs.declared.journal_run.JournalFault.TheVariants as journal_fault
+use Rattle.tb_keep.specs.declared.recovery.JournalFault.TheVariants as journal_fault
 use Rattle.tb_keep.specs.declared.journal_run.KeepEnd.TheVariants as keep_end
 use Rattle.tb_keep.specs.declared.playing.Played.TheVariants as played
 
@@ -160,34 +161,49 @@ by-end setup base lines batches first_faults saw run_end.Done left are since kep
 by-end setup base lines batches first_faults saw run_end.WriteFault left are since kept = record { batches = batches; recovered = are; first_faults = first_faults; since = since; kept = kept }
 by-end setup base lines batches first_faults saw run_end.Memory left are since kept = ((kept.run.0, ap (λ (c : Charged KeptState). c.steps) kept.run.1), left refl)
 
-module _ {D : Type 0} (content : D → Option (List ℕ)) (may_leave : D → List ℕ → Type 0) (faults : D → ℕ) (setup : SetupValue) (first last : CustodianValue) (none : first.writer.list ≡ []) (before opened played_by new : D)
-    (leads : Leads (content before) (content opened) IsOpened) (ours : WhereTold (content before) IsOurs) (h : HasPlayed setup (content opened) first last played.All)
-    (journal : JournalState) (same : content played_by ≡ content opened) (told : (image : List ℕ) → may_leave played_by image → is_none (content played_by) ≡ false)
-    (on : WhereTold (content played_by) (λ file. IsOn file (may_leave played_by) journal)) (ended : journal.at_end ≡ true)
-    (lines : List ScriptLine) (end : RunEnd) (untouched : end ≡ run_end.Memory → new ≡ played_by) (steps steps_after : ℕ) (taken taken_after : Option (List ℕ))
-    (runs : (batches : List (List Edit)) → last.writer.list ≡ batches_of (base_of last) batches → EachStandsFor (may_leave played_by) batches None
-    → AreKeptFrom (after_playing (base_of last) batches (faults played_by)) setup (base_of last) lines end
-    (record { content = content played_by; may_leave = may_leave new; faults = faults played_by; faults_after = faults new; steps = steps; steps_after = steps_after; taken = taken; taken_after = taken_after })) where
-  abbrev seen_since : D → JournalRun
-  seen_since old = record { content = content old; may_leave = may_leave new; faults = faults old; faults_after = faults new; steps = steps; steps_after = steps_after; taken = taken; taken_after = taken_after }
+-- what is seen of a disk from one moment to another
+module _ {D : Type 0} (content : D → Option (List ℕ)) (may_leave : D → List ℕ → Type 0) (faults : D → ℕ) where
+  abbrev pub seen : D → D → JournalSeen
+  seen old new = record { content = content old; could_leave = may_leave old; may_leave = may_leave new; faults = faults old; faults_after = faults new }
 
-  -- from where it stands that published them
-  kept : AreKeptFrom (after_playing (base_of first) h.batches (faults played_by)) setup (base_of first) lines end (seen_since played_by)
-  kept =
-      let start : base_of last ≡ base_of first = ap (λ (s : StartValue). s.base) h.published.start in
-      let chain = chain-is setup (content before) (content opened) leads first last none h ∙ sym (ap (λ (b : ReleaseValue). batches_of b h.batches) start) in
-      let stands = stands-for-all setup (content before) (content opened) leads first last none h ours (content played_by) (may_leave played_by) journal same on ended told in
-      subst (λ (b : ReleaseValue). AreKeptFrom (after_playing b h.batches (faults played_by)) setup b lines end (seen_since played_by)) start (runs h.batches chain stands)
+  -- a custodian that published all
+  module _ (setup : SetupValue) (first last : CustodianValue) (none : first.writer.list ≡ []) (before opened played_by : D) (leads : Leads (content before) (content opened) IsOpened) (ours : WhereTold (content before) IsOurs)
+      (h : HasPlayed setup (content opened) first last played.All) (journal : JournalState) (same : content played_by ≡ content opened) (told : (image : List ℕ) → may_leave played_by image → is_none (content played_by) ≡ false)
+      (on : WhereTold (content played_by) (λ file. IsOn file (may_leave played_by) journal)) (ended : journal.at_end ≡ true) where
+    pub all-recovered : HasRecovered setup (base_of first) (seen before played_by) last
+    all-recovered = record {
+      batches = h.batches;
+      recovered = recovered setup (content before) (content opened) leads first last none h ours (content played_by) (may_leave played_by) journal same on ended;
+      start = ap (λ (s : StartValue). s.base) h.published.start;
+      chain = chain-is setup (content before) (content opened) leads first last none h;
+      left = stands-for-all setup (content before) (content opened) leads first last none h ours (content played_by) (may_leave played_by) journal same on ended told;
+      same = left-opened (content before) (content opened) (content played_by) leads same (may_leave played_by) journal on;
+    }
 
-  pub all-ran : faults before ≤ faults played_by → IsJournalRun setup (base_of first) lines (keep_end.Ran end) (seen_since before)
-  all-ran since =
-      by-end setup (base_of first) lines h.batches (faults played_by) (seen_since before) end
-      (λ is. subst (λ (d : D). WhereTold (content before) (λ file. Only (opened_file file) (may_leave d))) (sym (untouched is)) (left-opened (content before) (content opened) (content played_by) leads same (may_leave played_by) journal on))
-      (recovered setup (content before) (content opened) leads first last none h ours (content played_by) (may_leave played_by) journal same on ended) since
-      (record { last = kept.last; run = kept.run; left = kept.left; counted = kept.counted })
+  -- and the lines that are answered from there
+  module _ (setup : SetupValue) (base : ReleaseValue) (custodian : CustodianValue) (before played_by new : D) (r : HasRecovered setup base (seen before played_by) custodian)
+      (lines : List ScriptLine) (end : RunEnd) (untouched : end ≡ run_end.Memory → new ≡ played_by) (steps steps_after : ℕ) (taken taken_after : Option (List ℕ))
+      (runs : (batches : List (List Edit)) → custodian.writer.list ≡ batches_of (base_of custodian) batches → EachStandsFor (may_leave played_by) batches None
+      → AreKeptFrom (after_playing (base_of custodian) batches (faults played_by)) setup (base_of custodian) lines end
+      (record { content = content played_by; may_leave = may_leave new; faults = faults played_by; faults_after = faults new; steps = steps; steps_after = steps_after; taken = taken; taken_after = taken_after })) where
+    abbrev seen_since : D → JournalRun
+    seen_since old = record { content = content old; may_leave = may_leave new; faults = faults old; faults_after = faults new; steps = steps; steps_after = steps_after; taken = taken; taken_after = taken_after }
 
-  -- the disk's count didn't fall
-  pub all-counted : faults played_by ≤ faults new
-  all-counted =
-      let counts = run_counts setup (base_of first) (charged (after_playing (base_of first) h.batches (faults played_by)) steps) (charged kept.last steps_after) lines end taken taken_after kept.run in
-      omega (arith, counts, kept.counted)
+    -- from where it stands that published them
+    kept : AreKeptFrom (after_playing base r.batches (faults played_by)) setup base lines end (seen_since played_by)
+    kept =
+        let chain = r.chain ∙ sym (ap (λ (b : ReleaseValue). batches_of b r.batches) r.start) in
+        subst (λ (b : ReleaseValue). AreKeptFrom (after_playing b r.batches (faults played_by)) setup b lines end (seen_since played_by)) r.start (runs r.batches chain r.left)
+
+    pub all-ran : faults before ≤ faults played_by → IsJournalRun setup base lines (keep_end.Ran end) (seen_since before)
+    all-ran since =
+        by-end setup base lines r.batches (faults played_by) (seen_since before) end
+        (λ is. subst (λ (d : D). WhereTold (content before) (λ file. Only (opened_file file) (may_leave d))) (sym (untouched is)) r.same)
+        r.recovered since
+        (record { last = kept.last; run = kept.run; left = kept.left; counted = kept.counted })
+
+    -- the disk's count didn't fall
+    pub all-counted : faults played_by ≤ faults new
+    all-counted =
+        let counts = run_counts setup base (charged (after_playing base r.batches (faults played_by)) steps) (charged kept.last steps_after) lines end taken taken_after kept.run in
+        omega (arith, counts, kept.counted)

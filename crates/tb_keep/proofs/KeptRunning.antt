@@ -125,7 +125,7 @@ module _ {W : Type 0} (target : W → ℕ) (live : W → Bool) (faults : W → �
 
 -- ---- the disk's count doesn't fall
 module _ (setup : SetupValue) (base : ReleaseValue) where
-  own_counts : (asks : Bool) (old next : KeptState) (line : List ℕ) (reply : ReplyValue) → IsKeptStep asks (IsOwnStep setup base) base old line reply next → old.faults ≤ next.faults
+  pub own_counts : (asks : Bool) (old next : KeptState) (line : List ℕ) (reply : ReplyValue) → IsKeptStep asks (IsOwnStep setup base) base old line reply next → old.faults ≤ next.faults
   own_counts true old next line reply (price, (counts, is)) = counts
   own_counts false old next line reply (is, same) = omega (arith, ap (λ (s : KeptState). s.faults) same)
 

@@ -1,6 +1,6 @@
-mod Chains
+pub mod Chains
 mod JournalRunning
-mod KeptRunning
+pub mod KeptRunning
 mod Owning
 mod Preparing
 mod Recovering

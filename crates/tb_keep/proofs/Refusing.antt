@@ -22,8 +22,8 @@ use Rattle.tb_keep.specs.Chains.{batches_of}
 use Rattle.tb_keep.specs.JournalLaws.{IsRecoveredOrRefused}
 use Rattle.tb_keep.specs.JournalRuns.{AreRecovered, ComesAfter, IsJournalFault}
 use Rattle.tb_keep.specs.Playing.{CanAllFollow, DoesNotFollow, Fit, HasRecord, IsNextRecord}
-use Rattle.tb_keep.specs.declared.journal_run.JournalFault.{JournalFault}
-use Rattle.tb_keep.specs.declared.journal_run.JournalFault.TheVariants as journal_fault
+use Rattle.tb_keep.specs.declared.recovery.JournalFault.{JournalFault}
+use Rattle.tb_keep.specs.declared.recovery.JournalFault.TheVariants as journal_fault
 use Rattle.tb_keep.proofs.Recovering.{has-record}
 
 -- ---- lists of batches by their payloads

@@ -1,7 +1,7 @@
 -- A journal's file is recovered or refused, and in one way.
 use Rattle.std.specs.Prelude.{◌≡◌, ℕ, List, Some}
 use Rattle.tb_keep.specs.JournalRuns.{AreRecovered, IsJournalFault}
-use Rattle.tb_keep.specs.declared.journal_run.JournalFault.{JournalFault}
+use Rattle.tb_keep.specs.declared.recovery.JournalFault.{JournalFault}
 use Rattle.tb_model.specs.Releases.{ReleaseValue}
 use Rattle.tb_model.specs.Setups.{SetupValue}
 use Rattle.tb_release.specs.declared.edits.Edit.{Edit}

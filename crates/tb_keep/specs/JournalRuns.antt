@@ -12,8 +12,8 @@ use Rattle.tb_keep.specs.Chains.{batches_of}
 use Rattle.tb_keep.specs.KeptRuns.{IsKeptRun}
 use Rattle.tb_keep.specs.Playing.{CanAllFollow, DoesNotFollow, HasRecord, IsNextRecord}
 use Rattle.tb_keep.specs.Playing.{LiesBehind}
-use Rattle.tb_keep.specs.declared.journal_run.JournalFault.{JournalFault}
-use Rattle.tb_keep.specs.declared.journal_run.JournalFault.TheVariants as journal_fault
+use Rattle.tb_keep.specs.declared.recovery.JournalFault.{JournalFault}
+use Rattle.tb_keep.specs.declared.recovery.JournalFault.TheVariants as journal_fault
 use Rattle.tb_keep.specs.declared.journal_run.KeepEnd.{KeepEnd}
 use Rattle.tb_keep.specs.declared.journal_run.KeepEnd.TheVariants as keep_end
 use Rattle.tb_lines.specs.Outputs.{charged}

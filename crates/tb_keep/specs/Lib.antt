@@ -6,3 +6,4 @@ pub mod JournalOwners
 pub mod KeptRuns
 pub mod JournalRuns
 pub mod JournalLaws
+pub mod Recoveries

@@ -15,8 +15,8 @@ ghost use Rattle.tb_script.specs.declared.run.RunEnd.TheVariants as run_end;
 ghost use Rattle.tb_session.specs.Parties.{IsCustodianOf};
 
 use crate::journal_owner::JournalOwner;
-use crate::playing::{Played, play};
 use crate::publisher::BoardPublisher;
+use crate::recovery::{JournalFault, Recovery, recover};
 use crate::running::run_kept;
 use std::sync::Wait;
 use std::sync::ledger::Ledger;
@@ -26,19 +26,10 @@ use tb_base::Steps;
 use tb_board::{Custodian, Named};
 use tb_disk::Disk;
 use tb_io::Sink;
-use tb_journal::{Journal, JournalOpen};
+use tb_journal::Journal;
 use tb_journal_file::JournalFile;
 use tb_script::{RunEnd, Script};
 use tb_session::{Custody, Setting};
-
-/// The first fault of a journal's file: it has more than nine bytes and isn't a journal; or the
-/// record of a number, from 1, is none, or its batch doesn't fit the setup or can't follow.
-#[derive(Clone, Copy, Debug, PartialEq, Eq)]
-pub enum JournalFault {
-    NotJournal,
-    BadRecord(u32),
-    DoesNotFollow(u32),
-}
 
 /// How a script with a journal was run: its lines were answered as far as `RunEnd` says; or the
 /// journal's file is refused, or the disk failed, before the first line.
@@ -114,7 +105,7 @@ fn run_played<B: Named, D: Disk, R: Threads + Wait + Sync, K: Sink, L: Ledger>(
 /// batches, and then answers each line of the script, one after another, with each further batch
 /// written ahead of its publication. The custodian is at release 0, and holds no edits.
 ///
-/// It takes memory as `play` does, and as `run_kept`, and is out of memory only before the first
+/// It takes memory as `recover` does, and as `run_kept`, and is out of memory only before the first
 /// line.
 pub fn run_with_journal<B: Named, D: Disk, R: Threads + Wait + Sync, K: Sink, L: Ledger>(
     setting: &Setting<'_, B, R>,
@@ -150,30 +141,12 @@ pub fn run_with_journal<B: Named, D: Disk, R: Threads + Wait + Sync, K: Sink, L:
           taken_after = K.taken sink.new;
         }) }
 {
-    let mut journal = match Journal::open(setting.alloc, disk) {
-        (JournalOpen::Open, Some(journal)) => journal,
-        (JournalOpen::NotJournal, _) => return KeepEnd::Refused(JournalFault::NotJournal),
-        (JournalOpen::DiskFault, _) => return KeepEnd::DiskFault,
-        (JournalOpen::Open, None) | (JournalOpen::Memory, _) => {
-            return KeepEnd::Ran(RunEnd::Memory);
-        }
-    };
-    let played = play(
-        setting.rt,
-        setting.alloc,
-        setting.setup,
-        setting.board,
-        &mut custodian,
-        disk,
-        &mut journal,
-    );
-    match played {
-        Played::All => {
+    match recover(setting, &mut custodian, disk) {
+        Recovery::Recovered(journal) => {
             KeepEnd::Ran(run_played(setting, script, custodian, disk, journal, sink, steps))
         }
-        Played::BadRecord(r) => KeepEnd::Refused(JournalFault::BadRecord(r)),
-        Played::DoesNotFollow(r) => KeepEnd::Refused(JournalFault::DoesNotFollow(r)),
-        Played::Memory => KeepEnd::Ran(RunEnd::Memory),
-        Played::DiskFault => KeepEnd::DiskFault,
+        Recovery::Refused(fault) => KeepEnd::Refused(fault),
+        Recovery::DiskFault => KeepEnd::DiskFault,
+        Recovery::Memory => KeepEnd::Ran(RunEnd::Memory),
     }
 }

@@ -45,7 +45,11 @@ fn large_schema(alloc: Global) -> Result<Schema, Memory> {
 fn large_setup(alloc: Global) -> Result<Setup, Memory> {
     let schema = large_schema(alloc)?;
     let ptable = ptable(alloc, schema.keys())?;
-    Ok(Setup { schema, ptable })
+    Ok(Setup {
+        schema,
+        ptable,
+        units: None,
+    })
 }
 
 // The cells of 10,000 places.

@@ -154,7 +154,11 @@ fn rows() -> &'static [Row] {
 fn setup_of(alloc: Global, row: &Row) -> Result<Setup, Memory> {
     let schema = schema_of(alloc, row.classes, Some(RECODES))?;
     let ptable = ptable(alloc, schema.keys())?;
-    Ok(Setup { schema, ptable })
+    Ok(Setup {
+        schema,
+        ptable,
+        units: None,
+    })
 }
 
 // The rules of a row. A pvalue that may not be set fails the test: it is told as want of memory.

@@ -28,5 +28,5 @@ pub use over_board::serve_from;
 pub use port::Port;
 pub use preparing::prepare;
 pub use readiness::Readiness;
-pub use report::write_end;
+pub use report::{end_with_report, write_end, write_release, write_workers};
 pub use serving::serve;

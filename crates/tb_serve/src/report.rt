@@ -26,8 +26,8 @@ fn write_worker<O: Sink>(out: &mut O, i: u32, served: u32) -> Wrote
     write_all(out, &[b"worker ", number, b" sessions ", sessions, b"\n"])
 }
 
-// Writes the lines of all workers.
-fn write_workers<O: Sink, N: Listen>(out: &mut O, ports: &[Port<N>]) -> Wrote
+/// Writes the lines of all workers, `worker I sessions N` for each port. It takes no memory.
+pub fn write_workers<O: Sink, N: Listen>(out: &mut O, ports: &[Port<N>]) -> Wrote
     requires { length ports.now < 2 ^ 32 }
     ensures written { IsWritten result (O.faults out.old) (O.faults out.new) (O.taken out.old)
         (O.taken out.new) (concat (worker_lines 0 ports.now)) }
@@ -42,8 +42,8 @@ fn write_workers<O: Sink, N: Listen>(out: &mut O, ports: &[Port<N>]) -> Wrote
     Wrote::All
 }
 
-// Writes the line of the release.
-fn write_release<O: Sink>(out: &mut O, release: u32) -> Wrote
+/// Writes the line `release R`. It takes no memory.
+pub fn write_release<O: Sink>(out: &mut O, release: u32) -> Wrote
     ensures written { IsWritten result (O.faults out.old) (O.faults out.new) (O.taken out.old)
         (O.taken out.new) (release_line release) }
 {
@@ -100,12 +100,9 @@ fn write_report<O: Sink, N: Listen>(
     }
 }
 
-// Ends a call that served its ports: writes the report.
-pub(crate) fn end_with_report<O: Sink, N: Listen>(
-    out: &mut O,
-    ports: &[Port<N>],
-    release: u32,
-) -> Status
+/// Ends a call that served its ports: writes `worker I sessions N` for each port, `release R`, and
+/// `fault net` last where an accept failed. It takes no memory.
+pub fn end_with_report<O: Sink, N: Listen>(out: &mut O, ports: &[Port<N>], release: u32) -> Status
     requires few { length ports.now < 2 ^ 32 }
     ensures ended { IsEnded (report ports.now release) (final_status ports.now)
         (output (O.taken out.old) (O.taken out.new) (O.faults out.old) (O.faults out.new))

@@ -15,7 +15,7 @@ use crate::over_board::serve_from;
 use crate::port::Port;
 use crate::preparing::prepare;
 use crate::readiness::Readiness;
-use crate::report::write_end;
+use crate::report::{end_with_report, write_end};
 use std::alloc::Global;
 use std::marker::Brand;
 use std::sync::Wait;
@@ -24,7 +24,7 @@ use tb_base::{Memory, Status};
 use tb_board::{Board, Named, Opening};
 use tb_io::{Listen, Sink};
 use tb_release::Release;
-use tb_session::{Custody, FIRST_CAPACITY, Setting};
+use tb_session::{Custody, FIRST_CAPACITY, Owner, Setting};
 use tb_text::Setup;
 
 // What the board is made of.
@@ -67,8 +67,9 @@ fn serve_opened<B: Named + Send + Sync, O: Sink, N: Listen + Send, R: Threads + 
         alloc,
     };
     let owner = Custody::new(alloc, custodian);
-    let (status, _) = serve_from(&setting, &setting, sessions, owner, out, ports);
-    status
+    let owner = serve_from(&setting, &setting, sessions, owner, ports);
+    let release = Owner::<Setting<'_, B, R>, B>::release(&owner, &setting);
+    end_with_report(out, ports, release)
 }
 
 // The whole command, over just the ports that are served.

@@ -1,6 +1,7 @@
 // A command over the small setup, with files in memory.
 
-ghost use Rattle.std.specs.Prelude.{◌≡◌, ◌<◌, ◌+◌, All, vec_len};
+ghost use Rattle.std.specs.Prelude.{◌≡◌, ◌<◌, ◌+◌, All, false, vec_len};
+ghost use Rattle.tb_mem_disk.specs.HeldDisk.{HeldDisk};
 ghost use Rattle.tb_serve.specs.Stages.{IsFresh};
 ghost use Rattle.tb_top.specs.declared.service.TheConstants.{MOST_WORKERS};
 
@@ -53,24 +54,21 @@ fn files_end_so<N: Listen + Send, R: Threads + Wait + Sync, L: Ledger>(
     words: &[String],
     files: &mut SureFiles,
     net: &mut Vec<Port<N>>,
+    disk: &mut MemDisk,
     end: Status,
     text: &[u8],
     blank: Blank,
 ) -> bool
     requires ports { vec_len net.old ≡ MOST_WORKERS + 1 }
     requires fresh { All IsFresh net.old.items }
+    requires attached { disk.old.attached ≡ false }
     requires name { blank.name ≡ L.name }
     requires parts { blank.parts ≡ L.parts }
     requires some { 0 < L.parts }
 {
-    let Ok(mut disk) = MemDisk::new(alloc, &[], &[]) else {
-        return false;
-    };
     let mut steps = Steps::<L>::new(blank);
     let mut out = Compared::with(text);
-    let status = tablebuilder(
-        rt, alloc, words, files, &mut out, net, &mut disk, &mut steps,
-    );
+    let status = tablebuilder(rt, alloc, words, files, &mut out, net, disk, &mut steps);
     status == end && out.is_whole()
 }
 
@@ -80,23 +78,45 @@ fn words_end_so<N: Listen + Send, R: Threads + Wait + Sync>(
     alloc: Global,
     words: &[String],
     net: &mut Vec<Port<N>>,
+    disk: &mut MemDisk,
     end: Status,
     text: &[u8],
 ) -> bool
     requires ports { vec_len net.old ≡ MOST_WORKERS + 1 }
     requires fresh { All IsFresh net.old.items }
+    requires attached { disk.old.attached ≡ false }
 {
     match small_files(alloc) {
         Ok(mut files) => {
             let blank = Blank::new(1);
-            files_end_so::<N, R, Brand>(rt, alloc, words, &mut files, net, end, text, blank)
+            files_end_so::<N, R, Brand>(rt, alloc, words, &mut files, net, disk, end, text, blank)
         }
         Err(_) => false,
     }
 }
 
-/// Runs a command, whose arguments one blank parts, and returns whether it ends so and writes just
-/// this text.
+/// Runs a command over a disk with its journal, and returns whether it ends so and writes just this
+/// text. One blank parts the arguments.
+pub fn ends_over<N: Listen + Send, R: Threads + Wait + Sync>(
+    rt: &R,
+    alloc: Global,
+    command: &str,
+    net: &mut Vec<Port<N>>,
+    disk: &mut MemDisk,
+    end: Status,
+    text: &[u8],
+) -> bool
+    requires ports { vec_len net.old ≡ MOST_WORKERS + 1 }
+    requires fresh { All IsFresh net.old.items }
+    requires attached { disk.old.attached ≡ false }
+{
+    match words_of(alloc, command) {
+        Ok(words) => words_end_so(rt, alloc, &words, net, disk, end, text),
+        Err(_) => false,
+    }
+}
+
+/// The same over a disk of its own, whose file is empty.
 pub fn ends_so<N: Listen + Send, R: Threads + Wait + Sync>(
     rt: &R,
     alloc: Global,
@@ -108,8 +128,8 @@ pub fn ends_so<N: Listen + Send, R: Threads + Wait + Sync>(
     requires ports { vec_len net.old ≡ MOST_WORKERS + 1 }
     requires fresh { All IsFresh net.old.items }
 {
-    match words_of(alloc, command) {
-        Ok(words) => words_end_so(rt, alloc, &words, net, end, text),
+    match MemDisk::new(alloc, &[], &[]) {
+        Ok(mut disk) => ends_over(rt, alloc, command, net, &mut disk, end, text),
         Err(_) => false,
     }
 }

@@ -3,7 +3,7 @@
 //! By `tb_io` alone: sessions over loopback, with clients that stay and clients that go away, what
 //! waits between the two ends of a session, and sessions in memory. By `tb_serve`: many sessions
 //! beside publications, and sessions over loopback whose clients go away. By the top call: clients
-//! that wait for each other's replies, and listeners that fail.
+//! that wait for each other's replies, listeners that fail, and servers with a journal.
 #![tactic(auto)]
 
 #[cfg(test)]
@@ -18,6 +18,8 @@ mod compared;
 mod failing;
 #[cfg(test)]
 mod held;
+#[cfg(test)]
+mod hosting;
 #[cfg(test)]
 mod loopback;
 #[cfg(test)]

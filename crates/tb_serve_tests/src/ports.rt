@@ -8,10 +8,10 @@ use tb_base::Memory;
 use tb_io::{MemListen, MemSink, MemSource};
 use tb_serve::Port;
 
-// A session of these lines.
-fn session(alloc: Global, lines: &[u8]) -> Result<(MemSource, MemSink), Memory> {
+// A session of these lines, whose sink takes so many bytes.
+fn session(alloc: Global, lines: &[u8], bound: usize) -> Result<(MemSource, MemSink), Memory> {
     let source = MemSource::new(alloc, lines, 100, &[])?;
-    match MemSink::new(alloc, 1_200) {
+    match MemSink::new(alloc, bound) {
         Ok(sink) => Ok((source, sink)),
         Err(_) => Err(Memory),
     }
@@ -21,7 +21,7 @@ fn session(alloc: Global, lines: &[u8]) -> Result<(MemSource, MemSink), Memory> 
 fn sessions(alloc: Global, lines: &[u8], count: u32) -> Result<Vec<(MemSource, MemSink)>, Memory> {
     let mut sessions = Vec::new(alloc);
     for _ in 0..count {
-        sessions.push(session(alloc, lines)?)?;
+        sessions.push(session(alloc, lines, 1_200)?)?;
     }
     Ok(sessions)
 }
@@ -57,6 +57,46 @@ pub fn add_port(
     ensures fresh { IfOk result (λ _. All IsFresh net.new.items) }
 {
     let port = port(alloc, lines, count, bind_fails, fails)?;
+    net.push(port)?;
+    Ok(())
+}
+
+// A session for each part of a text, whose sink takes so many bytes.
+fn sessions_of(
+    alloc: Global,
+    lines: &str,
+    bound: usize,
+) -> Result<Vec<(MemSource, MemSink)>, Memory> {
+    let mut sessions = Vec::new(alloc);
+    for part in lines.split('|') {
+        sessions.push(session(alloc, part.as_bytes(), bound)?)?;
+    }
+    Ok(sessions)
+}
+
+// A port with these sessions to come, of which the accept with the number `fails` fails.
+fn port_of(alloc: Global, lines: &str, bound: usize, fails: u32) -> Result<Port<MemListen>, Memory>
+    ensures { IfOk result IsFresh }
+{
+    let sessions = sessions_of(alloc, lines, bound)?;
+    Ok(Port::of(MemListen::new(alloc, false, sessions, &[fails])?))
+}
+
+/// Adds a port with a session to come for each part of a text, parted by `|`, whose sink takes so
+/// many bytes; the accept with the number `fails`, from 1, fails.
+pub fn add_sessions(
+    alloc: Global,
+    net: &mut Vec<Port<MemListen>>,
+    lines: &str,
+    bound: usize,
+    fails: u32,
+) -> Result<(), Memory>
+    requires few { vec_len net.old < 100 }
+    requires fresh { All IsFresh net.old.items }
+    ensures ports { IfOk result (λ _. vec_len net.new ≡ vec_len net.old + 1) }
+    ensures fresh { IfOk result (λ _. All IsFresh net.new.items) }
+{
+    let port = port_of(alloc, lines, bound, fails)?;
     net.push(port)?;
     Ok(())
 }

@@ -1,4 +1,4 @@
-// Sessions of the command `serve` whose clients wait for each other.
+// Sessions of the commands `serve` and `host` whose clients wait for each other.
 
 ghost use Rattle.std.specs.Prelude.{◌≡◌, ◌<◌, ◌+◌, All, IfOk, vec_len};
 ghost use Rattle.tb_serve.specs.Stages.{IsFresh};
@@ -92,17 +92,33 @@ fn both_get_theirs<R: Threads + Wait + Sync>(
     serves(rt, alloc, run, &replies, command, text) && replies.right.load(Ordering::SeqCst) == 2
 }
 
-// The custodian publishes between the analyst's tables, and both get their replies.
+// What is written of a run in which the custodian publishes between the analyst's tables.
+const LATE: &[u8] = b"worker 0 sessions 1\nworker 1 sessions 1\nrelease 1\n";
+
+// What is written of one in which two analysts wait for each other.
+const CROSSED: &[u8] =
+    b"worker 0 sessions 0\nworker 1 sessions 1\nworker 2 sessions 1\nrelease 0\n";
+
 #[test]
 fn sessions_share_cubes(rt: HostRuntime) {
     let command = "serve classes recodes ptable people 0 5000 1 1";
-    let text = b"worker 0 sessions 1\nworker 1 sessions 1\nrelease 1\n";
-    assert!(&rt; both_get_theirs(&rt, rt.alloc(), Run::Late, command, text));
+    assert!(&rt; both_get_theirs(&rt, rt.alloc(), Run::Late, command, LATE));
 }
 
 #[test]
 fn sessions_run_at_the_same_time(rt: HostRuntime) {
     let command = "serve classes recodes ptable people 0 5000 2 1";
-    let text = b"worker 0 sessions 0\nworker 1 sessions 1\nworker 2 sessions 1\nrelease 0\n";
-    assert!(&rt; both_get_theirs(&rt, rt.alloc(), Run::Crossed, command, text));
+    assert!(&rt; both_get_theirs(&rt, rt.alloc(), Run::Crossed, command, CROSSED));
+}
+
+#[test]
+fn sessions_share_cubes_beside_a_journal(rt: HostRuntime) {
+    let command = "host classes recodes ptable people 0 journal 5000 1 1";
+    assert!(&rt; both_get_theirs(&rt, rt.alloc(), Run::Late, command, LATE));
+}
+
+#[test]
+fn sessions_run_at_the_same_time_beside_a_journal(rt: HostRuntime) {
+    let command = "host classes recodes ptable people 0 journal 5000 2 1";
+    assert!(&rt; both_get_theirs(&rt, rt.alloc(), Run::Crossed, command, CROSSED));
 }

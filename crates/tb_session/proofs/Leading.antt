@@ -23,10 +23,10 @@ use Rattle.tb_session.specs.Parties.{Leads, PublishLeads, state_at}
 use Rattle.tb_ahead.specs.Publishing.{StateValue}
 use Rattle.tb_session.specs.PastLines.{past_number, past_query}
 use Rattle.tb_session.specs.PastTables.{IsPastAnswer, past_reply}
-use Rattle.tb_session.specs.Replies.{IsCapacityReply, IsEditReply, IsReplyTo, IsStatsReply, IsTableReply, table_price}
+use Rattle.tb_session.specs.Replies.{AnswersLine, IsCapacityReply, IsEditReply, IsReplyTo, IsStatsReply, IsTableReply}
 use Rattle.tb_session.specs.ReplyLines.{cleared_line}
 use Rattle.tb_session.specs.Transcripts.{Sees}
-use Rattle.tb_tables.specs.Answers.{Answers, AnswersBy, free_reply}
+use Rattle.tb_tables.specs.Answers.{AnswersBy, free_reply}
 
 by_asks : (who : Role) (setup : SetupValue) (base : ReleaseValue) (old at new : StateValue) (line text : List ℕ) (p q : ℕ) → Sees who old at → (what : Asks) (price : ℕ) → asks_of who line ≡ what
     → IsReplyTo what setup base at line (record { text = text; price = price }) new → q ≤ p + price → Leads who setup base old line text p q new
@@ -54,7 +54,7 @@ module _ (setup : SetupValue) (old new : CustodianValue) (held after : List Edit
   same_state is same =
       let chain : new.writer.list ≡ old.writer.list = ap (λ (c : CustodianValue). c.writer.list) is in λ i. record { chain = chain i; held = same i }
 
-  pub leads_to_table : asks_of role.Custodian line ≡ asks.Table → new ≡ old → after ≡ held → Answers setup (release_seen old.writer) (table_price setup (release_seen old.writer)) line text p q → Own
+  pub leads_to_table : asks_of role.Custodian line ≡ asks.Table → new ≡ old → after ≡ held → AnswersLine setup (release_seen old.writer) line text p q → Own
   leads_to_table is same also (price, answer, cost) = by_own asks.Table price is (answer, same_state same also) cost
 
   pub leads_to_past : (n : ℕ) → asks_of role.Custodian line ≡ asks.At n → new ≡ old → after ≡ held → AnswersBy setup (past_reply setup old.writer.start.base old.writer.list n) (past_query line) text p q → Own
@@ -96,7 +96,7 @@ module _ (setup : SetupValue) (old new : HolderValue) (line text : List ℕ) (p 
       by_asks role.Analyst setup old.start.base (state_at old []) (state_at old []) (state_at new []) line text p q (prefix_self old.list, refl) asks.Nothing 0 is (ap (λ (t : List ℕ). free_reply t) is_text, stays) (omega (arith, free))
 
   -- a query
-  pub analyst_query : is_passed_over line ≡ false → past_number (words_of line) ≡ None → IsLater old new → Answers setup (release_seen new) (table_price setup (release_seen new)) line text p q → Other
+  pub analyst_query : is_passed_over line ≡ false → past_number (words_of line) ≡ None → IsLater old new → AnswersLine setup (release_seen new) line text p q → Other
   analyst_query over names later (price, answer, cost) =
       let is : asks_of role.Analyst line ≡ asks.Table = by_role false None over names in
       let own : IsTableReply setup (release_after old.start.base new.list) line (record { text = text; price = price }) =

@@ -7,6 +7,7 @@ mod Revising
 mod Preparing
 mod Leading
 mod PastTexts
+mod HomeTexts
 mod PastTaking
 mod PastPrices
 mod PastCubes

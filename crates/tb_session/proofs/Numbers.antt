@@ -1,6 +1,6 @@
 -- What a party has seen, and the numbers of its releases.
 use Rattle.std.proofs.Common.{◌≡◌, ◌∙◌, sym, ap, subst, refl, ℕ, ◌+◌, List, [], ◌∷◌, ◌++◌, length, take, inl, inr, arith}
-use Rattle.std.specs.Prelude.{ℤ, codes, decimal, flat_map, if◌then◌else◌, zip}
+use Rattle.std.specs.Prelude.{ℤ, None, Some, codes, decimal, flat_map, if◌then◌else◌, zip}
 use Rattle.std.proofs.lemmas.Bool.{le-leb}
 use Rattle.std.proofs.lemmas.List.{length-take-le}
 use mathlib.Core.List.{IsPrefix}
@@ -12,6 +12,7 @@ use Rattle.tb_model.specs.Releases.{ReleaseValue}
 use Rattle.tb_model.specs.Rules.{pvalues_of, threshold_of}
 use Rattle.tb_model.specs.Schemas.{SchemaValue}
 use Rattle.tb_model.specs.Setups.{SetupValue}
+use Rattle.tb_model.specs.Units.{homes_cells}
 use Rattle.tb_model.specs.Texts.{heading, line_text, place_text, table_text, text_of_cells}
 use Rattle.tb_release.specs.Batches.{BatchValue, batch_of}
 use Rattle.tb_release.specs.Chains.{after_batch, release_after}
@@ -83,12 +84,20 @@ text_begins : (schema : SchemaValue) (pvalues : ℕ → ℕ → ℤ) (threshold 
 text_begins schema pvalues threshold query n cells =
     first_of (line_text (codes "release " ++ decimal n)) (heading schema query) (flat_map (λ p. place_text schema pvalues threshold query p.0 p.1) (zip (places_of schema query) cells)) (line_text (codes "."))
 
-pub tables_name_their_list : TablesNameTheirList
-tables_name_their_list setup base chain query none =
+-- whatever its cells are
+cells_name_their_list : (setup : SetupValue) (base : ReleaseValue) (chain : List BatchValue) (query : QueryValue) (cells : List Cell) → base.number ≡ 0
+    → IsPrefix (line_text (codes "release " ++ decimal (length chain)))
+    (text_of_cells setup.schema (pvalues_of setup (release_after base chain)) (threshold_of (release_after base chain)) query (release_after base chain).number cells)
+cells_name_their_list setup base chain query cells none =
     let release : ReleaseValue = release_after base chain in
     let number : release.number ≡ length chain = number_after base chain ∙ omega (arith, none) in
-    subst (λ n. IsPrefix (line_text (codes "release " ++ decimal n)) (table_text setup release query)) number
-    (text_begins setup.schema (pvalues_of setup release) (threshold_of release) query release.number (cells_of setup.schema query release.records))
+    let text : List ℕ = text_of_cells setup.schema (pvalues_of setup release) (threshold_of release) query release.number cells in
+    subst (λ n. IsPrefix (line_text (codes "release " ++ decimal n)) text) number
+    (text_begins setup.schema (pvalues_of setup release) (threshold_of release) query release.number cells)
+
+pub tables_name_their_list : TablesNameTheirList
+tables_name_their_list setup base chain None query none = cells_name_their_list setup base chain query (cells_of setup.schema query (release_after base chain).records) none
+tables_name_their_list setup base chain (Some units) query none = cells_name_their_list setup base chain query (homes_cells units setup.schema query (release_after base chain).records) none
 
 -- a table of release n of a chain names n
 pub past_tables_name_their_release : PastTablesNameTheirRelease
@@ -96,5 +105,5 @@ past_tables_name_their_release setup base chain n query none low =
     let first : List ℕ = line_text (codes "release " ++ decimal n) in
     let long : length (take n chain) ≡ n = length-take-le n chain low in
     let table : IsPrefix first (table_text setup (release_after base (take n chain)) query) =
-    subst (λ k. IsPrefix (line_text (codes "release " ++ decimal k)) (table_text setup (release_after base (take n chain)) query)) long (tables_name_their_list setup base (take n chain) query none) in
+    subst (λ k. IsPrefix (line_text (codes "release " ++ decimal k)) (table_text setup (release_after base (take n chain)) query)) long (tables_name_their_list setup base (take n chain) None query none) in
     rw (le-leb n (length chain) low) table

@@ -1,16 +1,18 @@
 -- Laws of legal transcripts.
 use Rattle.std.specs.Prelude.{◌≡◌, ◌≢◌, ◌<◌, ◌≤◌, ◌^◌, ◌++◌, ◌∷◌, ℕ, List, [], All, codes, decimal}
-use Rattle.std.specs.Prelude.{length}
+use Rattle.std.specs.Prelude.{Option, length}
 use mathlib.Core.List.{IsPrefix}
 use Rattle.tb_model.specs.Queries.{QueryValue}
 use Rattle.tb_model.specs.Releases.{ReleaseValue}
 use Rattle.tb_model.specs.Setups.{SetupValue}
-use Rattle.tb_model.specs.Texts.{line_text, table_text}
+use Rattle.tb_model.specs.Texts.{line_text}
+use Rattle.tb_model.specs.Units.{UnitsValue}
 use Rattle.tb_release.specs.Batches.{BatchValue}
 use Rattle.tb_release.specs.Chains.{release_after}
 use Rattle.tb_session.specs.Asks.{asks_of}
 use Rattle.tb_lines.specs.Outputs.{ReplyValue}
 use Rattle.tb_session.specs.PastTables.{past_text}
+use Rattle.tb_session.specs.Replies.{whole_of}
 use Rattle.tb_ahead.specs.Publishing.{StateValue, published_line}
 use Rattle.tb_session.specs.Transcripts.{IsLegal, IsStep}
 use Rattle.tb_session.specs.declared.asks.Asks.TheVariants as asks
@@ -44,13 +46,15 @@ NumbersNeverFall =
     → IsPrefix first.chain last.chain
     × ((release_after base first.chain).number ≤ (release_after base last.chain).number)
 
--- the first line of a table names how many batches lead from release 0 to its release
+-- the first line of a table, of dwellings or of persons, names how many batches lead from release
+-- 0 to its release
 abbrev pub TablesNameTheirList : Type 0
 TablesNameTheirList =
-    (setup : SetupValue) (base : ReleaseValue) (chain : List BatchValue) (query : QueryValue)
+    (setup : SetupValue) (base : ReleaseValue) (chain : List BatchValue)
+    (units : Option UnitsValue) (query : QueryValue)
     → base.number ≡ 0
     → IsPrefix (line_text (codes "release " ++ decimal (length chain)))
-    (table_text setup (release_after base chain) query)
+    (whole_of setup (release_after base chain) units query).text
 
 -- the first line of a table of release n of a chain names n
 abbrev pub PastTablesNameTheirRelease : Type 0

@@ -1,4 +1,5 @@
 pub mod PastLines
+pub mod Dwellings
 pub mod Asks
 pub mod ReplyLines
 pub mod PastTables

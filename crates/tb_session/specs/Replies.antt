@@ -1,9 +1,10 @@
 -- The replies to a party's lines. Nothing here speaks of the program.
 use Rattle.std.specs.Prelude.{◌≡◌, ◌⊎◌, ◌<◌, ◌+◌, ◌++◌, ◌∷◌, ℕ, List, [], length}
-use Rattle.std.specs.Prelude.{Some, if◌then◌else◌, is_none}
+use Rattle.std.specs.Prelude.{Option, None, Some, if◌then◌else◌, is_none}
 use Rattle.tb_model.specs.Releases.{ReleaseValue}
 use Rattle.tb_model.specs.Setups.{SetupValue}
 use Rattle.tb_model.specs.Queries.{QueryValue}
+use Rattle.tb_model.specs.Units.{UnitsValue}
 use Rattle.tb_core.specs.Turns.{AreStats}
 use Rattle.tb_core.specs.Takes.{cube_price}
 use Rattle.tb_core.specs.declared.desk.Stats.{Stats}
@@ -17,6 +18,7 @@ use Rattle.tb_release.specs.Chains.{release_after}
 use Rattle.tb_release.specs.declared.edits.Edit.{Edit}
 use Rattle.tb_release.specs.declared.limits.TheConstants.{MOST_EDITS}
 use Rattle.tb_session.specs.Asks.{asks_of}
+use Rattle.tb_session.specs.Dwellings.{homes_asked, read_as}
 use Rattle.tb_lines.specs.Outputs.{ReplyValue}
 use Rattle.tb_session.specs.PastLines.{past_query}
 use Rattle.tb_session.specs.PastTables.{IsPastAnswer}
@@ -27,7 +29,8 @@ use Rattle.tb_session.specs.ReplyLines.{stats_line, cleared_line, capacity_line}
 use Rattle.tb_session.specs.declared.asks.Asks.{Asks}
 use Rattle.tb_session.specs.declared.asks.Asks.TheVariants as asks
 use Rattle.tb_session.specs.declared.party.Role.{Role}
-use Rattle.tb_tables.specs.Answers.{IsAnswer, free_reply}
+use Rattle.tb_tables.specs.Answers.{AnswersBy, IsAnswerBy, free_reply, table_reply}
+use Rattle.tb_tables.specs.Homes.{homes_reply}
 use Rattle.tb_tables.specs.ReplyLines.{memory_line}
 
 -- how many records the table of a plan may cost: the release's; or, where it can be counted by a
@@ -40,11 +43,24 @@ plan_price plan release =
 abbrev pub table_price : SetupValue → ReleaseValue → QueryValue → ℕ
 table_price setup release query = plan_price (plan_of setup.schema query) release
 
--- a reply to a query's line over a release: its table at that price, the line of its first fault,
--- or that memory was refused
+-- the whole reply to a query over a release: its table of these dwellings, or of persons at that
+-- price
+abbrev pub whole_of : SetupValue → ReleaseValue → Option UnitsValue → QueryValue → ReplyValue
+whole_of setup release None = table_reply setup release (table_price setup release)
+whole_of setup release (Some units) = homes_reply setup units release
+
+-- a reply over a release to a line that asks for a table: that of its query, the line of the
+-- query's first fault, or that memory was refused
 abbrev pub IsTableReply : SetupValue → ReleaseValue → List ℕ → ReplyValue → Type 0
 IsTableReply setup release line reply =
-    IsAnswer setup release (table_price setup release) line reply
+    IsAnswerBy setup (whole_of setup release (homes_asked setup line))
+    (read_as (homes_asked setup line) line) reply
+
+-- such a line gets this text, at no more than its price
+abbrev pub AnswersLine : SetupValue → ReleaseValue → List ℕ → List ℕ → ℕ → ℕ → Type 0
+AnswersLine setup release line text before after =
+    AnswersBy setup (whole_of setup release (homes_asked setup line))
+    (read_as (homes_asked setup line) line) text before after
 
 -- an edit is held, as the last
 abbrev pub IsHeld : SetupValue → List ℕ → List Edit → List ℕ → List Edit → Type 0

@@ -10,11 +10,11 @@ ghost use Rattle.tb_session.specs.Parties.{GoesOn, HasSeen, IsPassOf, Leads, Saw
 ghost use Rattle.tb_session.specs.Parties.{seen_by, state_at, state_of};
 ghost use Rattle.tb_session.specs.PastLines.{past_query};
 ghost use Rattle.tb_session.specs.PastTables.{past_reply};
-ghost use Rattle.tb_session.specs.Replies.{IsCapacityReply, table_price};
+ghost use Rattle.tb_session.specs.Replies.{AnswersLine, IsCapacityReply};
 ghost use Rattle.tb_session.specs.ReplyLines.{cleared_line};
 ghost use Rattle.tb_session.specs.ReplyTexts.{reply_text};
 ghost use Rattle.tb_session.specs.declared.party.Role.TheVariants as roles;
-ghost use Rattle.tb_tables.specs.Answers.{Answers, AnswersBy};
+ghost use Rattle.tb_tables.specs.Answers.{AnswersBy};
 ghost use Rattle.tb_tables.specs.ReplyTexts.{table_reply_text};
 
 use crate::asks::{Asks, asks_of};
@@ -102,8 +102,7 @@ fn answer_own<'a, B: Named, R: Threads + Wait + Sync, G: Gate, L: Ledger>(
     requires fits { custodian.old.writer.start.shape ≡ shape_of setup.now.schema }
     requires whole { IsWhole custodian.old }
     ensures same { custodian.new ≡ custodian.old }
-    ensures answer { Answers setup.now (release_seen custodian.old.writer)
-        (table_price setup.now (release_seen custodian.old.writer)) line.now
+    ensures answer { AnswersLine setup.now (release_seen custodian.old.writer) line.now
         (table_reply_text result) steps.old steps.new }
 {
     let reply = answer_query(rt, alloc, setup, board, custodian.pass(), line, gate, steps);

@@ -32,6 +32,7 @@ mod confirming;
 mod count;
 mod count_past;
 mod custody;
+mod homes;
 pub mod laws;
 mod limits;
 mod owner;

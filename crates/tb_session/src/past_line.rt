@@ -22,8 +22,8 @@ pub(crate) fn past_number(line: &[u8]) -> Option<u32>
     read_number(next)
 }
 
-// What follows the first word of a text.
-fn after_word(text: &[u8]) -> &[u8]
+/// What follows the first word of a text.
+pub(crate) fn after_word(text: &[u8]) -> &[u8]
     ensures after { result.now ≡ lines.after_word text.now }
     ensures shorter { length result.now ≤ length text.now }
 {

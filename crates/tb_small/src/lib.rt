@@ -21,3 +21,9 @@ pub const PTABLE: &[u8] = b"pcv,ckey,pvalue\n3,64,-2\n1,7,1\n4,71,2\n3,127,3\n2,
 /// Four persons.
 pub const PEOPLE: &[u8] = b"person,record_key,SEX,AGE,AREA\n101,200,1,0-15,E1\n\
     102,100,1,16-64,E1\n103,20,1,65+,E2\n104,7,2,16-64,E2\n";
+
+/// Two dwellings.
+pub const DWELLINGS: &[u8] = b"dwelling,dwelling_key\n1,50\n2,60\n";
+
+/// Two persons in each of them.
+pub const LINKS: &[u8] = b"person,dwelling\n101,1\n102,1\n103,2\n104,2\n";

@@ -1,5 +1,5 @@
-//! The small setup as values, for the tests: its schema and the setup itself, its persons, release
-//! 0, and batches of edits by their lines.
+//! The small setup as values, for the tests: its schema and the setup itself, without dwellings and
+//! with them, its persons, release 0, and batches of edits by their lines.
 //!
 //! What is made so fits the schema, so a test calls what has that as its condition. A text that
 //! isn't read fails the test: it is told as want of memory.
@@ -7,4 +7,4 @@
 
 mod values;
 
-pub use values::{edits_of, people, release, schema, setup};
+pub use values::{edits_of, people, release, schema, setup, setup_with_units};

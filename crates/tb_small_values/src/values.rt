@@ -13,8 +13,9 @@ use tb_records::read_people;
 use tb_release::{Edit, Edits, Release};
 use tb_revise::read_edit;
 use tb_schema::Schema;
-use tb_small::{CLASSES, PEOPLE, PTABLE, RECODES};
+use tb_small::{CLASSES, DWELLINGS, LINKS, PEOPLE, PTABLE, RECODES};
 use tb_text::Setup;
+use tb_units::Units;
 
 /// SEX, AGE and AREA, with the recode AGE2.
 pub fn schema(alloc: Global) -> Result<Schema, Memory> {
@@ -37,7 +38,31 @@ fn ptable(alloc: Global, keys: Keys) -> Result<PTable, Memory>
 pub fn setup(alloc: Global) -> Result<Setup, Memory> {
     let schema = schema(alloc)?;
     let ptable = ptable(alloc, schema.keys())?;
-    Ok(Setup { schema, ptable })
+    Ok(Setup {
+        schema,
+        ptable,
+        units: None,
+    })
+}
+
+// The two dwellings and their links.
+fn units(alloc: Global, keys: Keys) -> Result<Units, Memory> {
+    match Units::read(alloc, keys, DWELLINGS, LINKS) {
+        Ok(units) => Ok(units),
+        Err(_) => Err(Memory),
+    }
+}
+
+/// The setup with the two dwellings.
+pub fn setup_with_units(alloc: Global) -> Result<Setup, Memory> {
+    let schema = schema(alloc)?;
+    let ptable = ptable(alloc, schema.keys())?;
+    let units = units(alloc, schema.keys())?;
+    Ok(Setup {
+        schema,
+        ptable,
+        units: Some(units),
+    })
 }
 
 /// The four persons.

@@ -2,3 +2,4 @@ pub mod Answers
 pub mod ReplyLines
 pub mod ReplyTexts
 pub mod Counting
+pub mod Homes

@@ -16,12 +16,14 @@
 
 mod answer;
 mod count;
+mod homes;
 mod query;
 mod reply;
 mod writing;
 
 pub use answer::{answer_at, table_anew};
 pub use count::{Counted, count_anew, count_records, roll_up, roll_up_at};
+pub use homes::homes_table;
 pub use query::{plan_for, read, shape_in};
 pub use reply::TableReply;
 pub use writing::{write_fault, write_number};

@@ -15,7 +15,7 @@ use Rattle.tb_script.specs.declared.run.RunEnd.TheVariants as run_end
 use Rattle.tb_serve.specs.Serves.{Output, output}
 use Rattle.tb_serve.specs.Serves as serves
 use Rattle.tb_keep.specs.JournalRuns.{AreLinesKept, IsJournalFault, IsJournalRun, JournalRun}
-use Rattle.tb_keep.specs.declared.journal_run.JournalFault.{JournalFault}
+use Rattle.tb_keep.specs.declared.recovery.JournalFault.{JournalFault}
 use Rattle.tb_keep.specs.declared.journal_run.KeepEnd.TheVariants as keep_end
 use Rattle.tb_lines.specs.Outputs.{AreReplies, ReplyValue}
 use Rattle.tb_session.specs.Parties.{state_at}
@@ -73,7 +73,7 @@ line-later text final s f between f' t mid t' le up same h =
 -- a run with a journal over the new board of a census
 module _ (setup : SetupValue) (opening : OpeningValue) (custodian : CustodianValue) (made : custodian ≡ first_custodian opening)
     (first : IsBase opening.start.base) where
-  same-base : custodian.writer.start.base ≡ base_of (census_over setup opening.start.base)
+  pub same-base : custodian.writer.start.base ≡ base_of (census_over setup opening.start.base)
   same-base = ap (λ (c : CustodianValue). c.writer.start.base) made ∙ first
 
   -- what became of its lines

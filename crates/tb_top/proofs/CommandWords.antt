@@ -2,7 +2,7 @@
 use Rattle.std.proofs.Common.{◌≡◌, ◌∙◌, ap, sym, refl, ℕ, ◌<◌, List, [], length, map, Bool, true, false, not}
 use Rattle.std.specs.Prelude.{bytes_eq, codes, get_or}
 use Rattle.std.proofs.lemmas.List.{get_or-map}
-use Rattle.tb_top.specs.Commands.{gen_named, gen_words, keep_named, keep_words, serve_named, serve_words, with_script, word_at, words_with_script}
+use Rattle.tb_top.specs.Commands.{gen_named, gen_words, host_named, host_words, keep_named, keep_words, serve_named, serve_words, units_named, units_words, with_script, word_at, words_with_script}
 
 pub word-read : {S : Type 0} (words : List S) (f : S → List ℕ) (i : ℕ) (s : S) (text : List ℕ) → i < length words → s ≡ get_or words i s
     → text ≡ f s → word_at (map f words) i ≡ text
@@ -29,6 +29,19 @@ pub serve-named : (words : List (List ℕ)) (a b c d e f g h i : List ℕ) → l
     → word_at words 1 ≡ b → word_at words 2 ≡ c → word_at words 3 ≡ d → word_at words 4 ≡ e → word_at words 5 ≡ f → word_at words 6 ≡ g
     → word_at words 7 ≡ h → word_at words 8 ≡ i → serve_named b c d e f g h i ≡ serve_words words
 serve-named words a b c d e f g h i len first is h1 h2 h3 h4 h5 h6 h7 h8 = rw (len, first, is, h1, h2, h3, h4, h5, h6, h7, h8) refl
+
+pub units-named : (words : List (List ℕ)) (a b c d e f g h i : List ℕ) → length words ≡ 9 → word_at words 0 ≡ a → bytes_eq a
+    (codes "units") ≡ true
+    → word_at words 1 ≡ b → word_at words 2 ≡ c → word_at words 3 ≡ d → word_at words 4 ≡ e → word_at words 5 ≡ f → word_at words 6 ≡ g
+    → word_at words 7 ≡ h → word_at words 8 ≡ i → units_named b c d e f g h i ≡ units_words words
+units-named words a b c d e f g h i len first is h1 h2 h3 h4 h5 h6 h7 h8 = rw (len, first, is, h1, h2, h3, h4, h5, h6, h7, h8) refl
+
+pub host-named : (words : List (List ℕ)) (a b c d e f g h i j : List ℕ) → length words ≡ 10 → word_at words 0 ≡ a → bytes_eq a
+    (codes "host") ≡ true
+    → word_at words 1 ≡ b → word_at words 2 ≡ c → word_at words 3 ≡ d → word_at words 4 ≡ e → word_at words 5 ≡ f → word_at words 6 ≡ g
+    → word_at words 7 ≡ h → word_at words 8 ≡ i → word_at words 9 ≡ j → host_named b c d e f g h i j ≡ host_words words
+host-named words a b c d e f g h i j len first is h1 h2 h3 h4 h5 h6 h7 h8 h9 =
+    rw (len, first, is, h1, h2, h3, h4, h5, h6, h7, h8, h9) refl
 
 pub gen-named : (words : List (List ℕ)) (a b c : List ℕ) → length words ≡ 3 → word_at words 0 ≡ a → bytes_eq a (codes "gen") ≡ true
     → word_at words 1 ≡ b → word_at words 2 ≡ c → gen_named b c ≡ gen_words words

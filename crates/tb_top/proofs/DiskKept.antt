@@ -1,36 +1,73 @@
 -- What a call keeps of its disk.
-use Rattle.std.proofs.Common.{◌≡◌, ◌∙◌, sym, ap, subst, ℕ, List, Ok, inl, inr, true, false, true≢false}
+use Rattle.std.proofs.Common.{◌≡◌, ◌⊎◌, ◌∙◌, sym, ap, subst, ℕ, List, Ok, inl, inr, true, false, true≢false}
 use Rattle.std.specs.Prelude.{IfSome}
 use Rattle.tb_base.specs.declared.status.Status.{Status}
-use Rattle.tb_top.specs.Asking.{AskedValue, Follow, Gen, Keep, Lanes, Script, Serve, asked_of, is_keep}
+use Rattle.tb_top.specs.Asking.{AskedValue, Follow, Gen, Host, Keep, Lanes, Script, Serve, asked_of, is_keep, is_service}
 use Rattle.tb_top.specs.Calls.{Call, journal_seen, output_of}
 use Rattle.tb_top.specs.Commands.{asks_to_keep, command_of}
+use Rattle.tb_top.specs.HostOutputs.{IsHostAnswered}
 use Rattle.tb_top.specs.KeepOutputs.{AreKeepLinesAnswered, IsStill}
-use Rattle.tb_top.specs.Promises.{IsJournalKept, IsSomeLastLine}
+use Rattle.tb_top.specs.Promises.{IsHostKept, IsJournalKept, IsSomeLastLine}
 use Rattle.tb_top.proofs.Telling.{always_told, where_told}
 use Rattle.tb_serve.specs.Serves.{IsEnded}
 
 -- where a journal is asked for its batches are kept, and else the disk was left alone
 pub record KeepsDisk (call : Call) (s : Status) : Type 0 where
   pub kept : IfSome call.content (λ at. IsJournalKept call at s)
+  pub hosted : IfSome call.content (λ at. IsHostKept call at s)
   pub still : asks_to_keep (command_of call.words) ≡ false → IsStill call.disk
+
+-- no script with a journal was asked for, or no sessions with one
+module _ (call : Call) (asked : AskedValue) (s : Status) (told : IfSome call.content (λ at. asked_of at call.words ≡ Ok asked)) where
+  no_keep : (is_keep asked ≡ false) ⊎ (is_service asked ≡ true) → IfSome call.content (λ at. IsJournalKept call at s)
+  no_keep other = where_told _ _ call.content (λ at h census journal script k.
+      let same : asked ≡ Keep census journal script = cc in
+      elim other [
+        | inl none ↦ absurd (true≢false (sym (ap is_keep same) ∙ none))
+        | inr service ↦ absurd (true≢false (sym service ∙ ap is_service same))
+      ]) told
+
+  no_host : (is_keep asked ≡ false) ⊎ (is_service asked ≡ false) → IfSome call.content (λ at. IsHostKept call at s)
+  no_host other = where_told _ _ call.content (λ at h census journal service k.
+      let same : asked ≡ Host census journal service = cc in
+      elim other [
+        | inl none ↦ absurd (true≢false (sym (ap is_keep same) ∙ none))
+        | inr none ↦ absurd (true≢false (sym (ap is_service same) ∙ none))
+      ]) told
 
 -- something else was asked for
 pub left-alone : (call : Call) (asked : AskedValue) (s : Status) → is_keep asked ≡ false
     → IfSome call.content (λ at. asked_of at call.words ≡ Ok asked) → IsStill call.disk → KeepsDisk call s
 left-alone call asked s other told alone = record {
-  kept = where_told _ _ call.content (λ at h census journal script k.
-      let same : asked ≡ Keep census journal script = cc in
-      absurd (true≢false (sym (ap is_keep same) ∙ other))) told;
+  kept = no_keep call asked s told (inl other);
+  hosted = no_host call asked s told (inl other);
   still = λ h. alone;
 }
 
 -- no line was answered, and some last line was written
-pub ended-on-disk : (call : Call) (s final : Status) (text : List ℕ) → call.steps_after ≡ call.steps → IsSomeLastLine final text
-    → IsEnded text final (output_of call) s → (asks_to_keep (command_of call.words) ≡ false → IsStill call.disk) → KeepsDisk call s
-ended-on-disk call s final text free line ended still = record {
-  kept = always_told _ call.content (λ at census journal script asked. inr (free, (final, text, line, ended)));
-  still = still;
+no_line : (call : Call) (s final : Status) (text : List ℕ) → call.steps_after ≡ call.steps → IsSomeLastLine final text
+    → IsEnded text final (output_of call) s → IfSome call.content (λ at. IsJournalKept call at s)
+no_line call s final text free line ended =
+    always_told _ call.content (λ at census journal script asked. inr (free, (final, text, line, ended)))
+
+-- so it was before the task
+pub ended-before : (call : Call) (s final : Status) (text : List ℕ) → call.steps_after ≡ call.steps → call.ports_after ≡ call.ports
+    → IsStill call.disk → IsSomeLastLine final text → IsEnded text final (output_of call) s → KeepsDisk call s
+ended-before call s final text free same still line ended = record {
+  kept = no_line call s final text free line ended;
+  hosted = always_told _ call.content (λ at census journal service asked. inr (same, still, (final, text, line, ended)));
+  still = λ h. still;
+}
+
+-- or in a script with a journal
+pub ended-in-script : (call : Call) (asked : AskedValue) (s final : Status) (text : List ℕ)
+    → IfSome call.content (λ at. asked_of at call.words ≡ Ok asked) → is_service asked ≡ false
+    → asks_to_keep (command_of call.words) ≡ true → call.steps_after ≡ call.steps → IsSomeLastLine final text
+    → IsEnded text final (output_of call) s → KeepsDisk call s
+ended-in-script call asked s final text told other keeps free line ended = record {
+  kept = no_line call s final text free line ended;
+  hosted = no_host call asked s told (inr other);
+  still = λ h. absurd (true≢false (sym keeps ∙ h));
 }
 
 -- the lines of a script with a journal were answered, where that was asked for
@@ -40,14 +77,37 @@ AreAnsweredFor call s (Keep census journal script) =
 AreAnsweredFor call s (Script census script) = ⊥
 AreAnsweredFor call s (Lanes census script) = ⊥
 AreAnsweredFor call s (Follow census script) = ⊥
+AreAnsweredFor call s (Host census journal service) = ⊥
 AreAnsweredFor call s (Serve census service) = ⊥
 AreAnsweredFor call s (Gen population census script) = ⊥
 
 pub answered-on-disk : (call : Call) (asked : AskedValue) (s : Status) → IfSome call.content (λ at. asked_of at call.words ≡ Ok asked)
-    → asks_to_keep (command_of call.words) ≡ true → AreAnsweredFor call s asked → KeepsDisk call s
-answered-on-disk call asked s told keeps answered = record {
+    → is_service asked ≡ false → asks_to_keep (command_of call.words) ≡ true → AreAnsweredFor call s asked → KeepsDisk call s
+answered-on-disk call asked s told other keeps answered = record {
   kept = where_told _ _ call.content (λ at h census journal script k.
       let same : asked ≡ Keep census journal script = cc in
       inl (subst (AreAnsweredFor call s) same answered)) told;
+  hosted = no_host call asked s told (inr other);
+  still = λ h. absurd (true≢false (sym keeps ∙ h));
+}
+
+-- sessions with a journal were served, where that was asked for
+abbrev pub AreServedFor : Call → Status → AskedValue → Type 0
+AreServedFor call s (Host census journal service) =
+    IsHostAnswered census service journal call.ports call.ports_after s (output_of call) call.disk
+AreServedFor call s (Keep census journal script) = ⊥
+AreServedFor call s (Script census script) = ⊥
+AreServedFor call s (Lanes census script) = ⊥
+AreServedFor call s (Follow census script) = ⊥
+AreServedFor call s (Serve census service) = ⊥
+AreServedFor call s (Gen population census script) = ⊥
+
+pub served-on-disk : (call : Call) (asked : AskedValue) (s : Status) → IfSome call.content (λ at. asked_of at call.words ≡ Ok asked)
+    → is_service asked ≡ true → asks_to_keep (command_of call.words) ≡ true → AreServedFor call s asked → KeepsDisk call s
+served-on-disk call asked s told service keeps served = record {
+  kept = no_keep call asked s told (inr service);
+  hosted = where_told _ _ call.content (λ at h census journal service k.
+      let same : asked ≡ Host census journal service = cc in
+      inl (subst (AreServedFor call s) same served)) told;
   still = λ h. absurd (true≢false (sym keeps ∙ h));
 }

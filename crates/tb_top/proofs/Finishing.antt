@@ -11,7 +11,7 @@ use Rattle.tb_top.specs.declared.endings.End.TheVariants as end
 use Rattle.tb_top.specs.declared.command.Command.{Command}
 use Rattle.tb_top.specs.declared.command.Command.TheVariants as command
 use Rattle.tb_top.specs.declared.command.Inputs.{Inputs}
-use Rattle.tb_top.specs.Asking.{AskedValue, CensusValue, Follow, Gen, Keep, Lanes, Script, Serve, asked_of, asked_over, contents_at, is_keep, is_service}
+use Rattle.tb_top.specs.Asking.{AskedValue, CensusValue, Follow, Gen, Host, Keep, Lanes, Script, Serve, asked_of, asked_over, contents_at, is_keep, is_service}
 use Rattle.tb_top.specs.Calls.{Call, HasTaken, IsReadTo, NetFailed, ReadFailed, WriteFailed}
 use Rattle.tb_top.specs.Commands.{asks_to_generate, asks_to_keep, asks_to_serve, command_of, command_files, input_files, named}
 use Rattle.tb_top.specs.Endings.{IsEnded, IsLineWritten, last_line, status_of}
@@ -23,7 +23,8 @@ use Rattle.tb_top.specs.Outputs.{AreAnswers, AreScriptReplies, IsAnswered, IsBeg
 use Rattle.tb_top.specs.Summaries.{summary_line}
 use Rattle.tb_top.specs.Summing.{most_counted}
 use Rattle.tb_top.proofs.Boards.{ended-so}
-use Rattle.tb_top.proofs.DiskKept.{KeepsDisk, ended-on-disk, left-alone}
+use Rattle.tb_top.proofs.DiskKept.{KeepsDisk, ended-before, left-alone}
+use Rattle.tb_top.proofs.Hosting.{keeps_by_host}
 use Rattle.tb_top.proofs.Keeping.{keeps_by_keep}
 use Rattle.tb_top.proofs.PortLemmas.{all-unserved, same-idle}
 use Rattle.tb_top.proofs.LanesRun.{keeps_by_lanes}
@@ -54,6 +55,7 @@ IsOfEnd status.Memory = Unit {0}
 IsOfEnd status.NetFault = ⊥
 IsOfEnd status.Journal = ⊥
 IsOfEnd status.DiskFault = ⊥
+IsOfEnd status.Units = Unit {0}
 
 of_end : (e : End) → IsOfEnd (status_of e)
 of_end end.Usage = tt
@@ -61,12 +63,16 @@ of_end (end.TooLong input.Classes) = tt
 of_end (end.TooLong input.Recodes) = tt
 of_end (end.TooLong input.Ptable) = tt
 of_end (end.TooLong input.People) = tt
+of_end (end.TooLong input.Dwellings) = tt
+of_end (end.TooLong input.Links) = tt
 of_end (end.TooLong input.Script) = tt
 of_end (end.Unread file) = tt
 of_end (end.Refused input.Classes name at) = tt
 of_end (end.Refused input.Recodes name at) = tt
 of_end (end.Refused input.Ptable name at) = tt
 of_end (end.Refused input.People name at) = tt
+of_end (end.Refused input.Dwellings name at) = tt
+of_end (end.Refused input.Links name at) = tt
 of_end (end.Refused input.Script name at) = tt
 of_end (end.BadLine at) = tt
 of_end end.Memory = tt
@@ -86,6 +92,7 @@ module _ (call : Call) (at : List ℕ → Option (List ℕ)) (same : call.ports_
   whole_by_status status.NetFault text of m h = absurd of
   whole_by_status status.Journal text of m h = absurd of
   whole_by_status status.DiskFault text of m h = absurd of
+  whole_by_status status.Units text of m h = h
 
   -- an end is memory's, or has another status
   memory_or_not : (e : End) → (e ≡ end.Memory) ⊎ ((e ≢ end.Memory) × (status_of e ≢ status.Memory))
@@ -94,12 +101,16 @@ module _ (call : Call) (at : List ℕ → Option (List ℕ)) (same : call.ports_
   memory_or_not (end.TooLong input.Recodes) = inr (λ h. cc, λ h. cc)
   memory_or_not (end.TooLong input.Ptable) = inr (λ h. cc, λ h. cc)
   memory_or_not (end.TooLong input.People) = inr (λ h. cc, λ h. cc)
+  memory_or_not (end.TooLong input.Dwellings) = inr (λ h. cc, λ h. cc)
+  memory_or_not (end.TooLong input.Links) = inr (λ h. cc, λ h. cc)
   memory_or_not (end.TooLong input.Script) = inr (λ h. cc, λ h. cc)
   memory_or_not (end.Unread file) = inr (λ h. cc, λ h. cc)
   memory_or_not (end.Refused input.Classes name at) = inr (λ h. cc, λ h. cc)
   memory_or_not (end.Refused input.Recodes name at) = inr (λ h. cc, λ h. cc)
   memory_or_not (end.Refused input.Ptable name at) = inr (λ h. cc, λ h. cc)
   memory_or_not (end.Refused input.People name at) = inr (λ h. cc, λ h. cc)
+  memory_or_not (end.Refused input.Dwellings name at) = inr (λ h. cc, λ h. cc)
+  memory_or_not (end.Refused input.Links name at) = inr (λ h. cc, λ h. cc)
   memory_or_not (end.Refused input.Script name at) = inr (λ h. cc, λ h. cc)
   memory_or_not (end.BadLine at) = inr (λ h. cc, λ h. cc)
   memory_or_not end.Memory = inl refl
@@ -140,12 +151,16 @@ status-usage (end.TooLong input.Classes) h = cc
 status-usage (end.TooLong input.Recodes) h = cc
 status-usage (end.TooLong input.Ptable) h = cc
 status-usage (end.TooLong input.People) h = cc
+status-usage (end.TooLong input.Dwellings) h = cc
+status-usage (end.TooLong input.Links) h = cc
 status-usage (end.TooLong input.Script) h = cc
 status-usage (end.Unread file) h = cc
 status-usage (end.Refused input.Classes name at) h = cc
 status-usage (end.Refused input.Recodes name at) h = cc
 status-usage (end.Refused input.Ptable name at) h = cc
 status-usage (end.Refused input.People name at) h = cc
+status-usage (end.Refused input.Dwellings name at) h = cc
+status-usage (end.Refused input.Links name at) h = cc
 status-usage (end.Refused input.Script name at) h = cc
 status-usage (end.BadLine at) h = cc
 status-usage end.Memory h = cc
@@ -156,12 +171,16 @@ status-read (end.TooLong input.Classes) h = cc
 status-read (end.TooLong input.Recodes) h = cc
 status-read (end.TooLong input.Ptable) h = cc
 status-read (end.TooLong input.People) h = cc
+status-read (end.TooLong input.Dwellings) h = cc
+status-read (end.TooLong input.Links) h = cc
 status-read (end.TooLong input.Script) h = cc
 status-read (end.Unread file) h = (file, refl)
 status-read (end.Refused input.Classes name at) h = cc
 status-read (end.Refused input.Recodes name at) h = cc
 status-read (end.Refused input.Ptable name at) h = cc
 status-read (end.Refused input.People name at) h = cc
+status-read (end.Refused input.Dwellings name at) h = cc
+status-read (end.Refused input.Links name at) h = cc
 status-read (end.Refused input.Script name at) h = cc
 status-read (end.BadLine at) h = cc
 status-read end.Memory h = cc
@@ -192,7 +211,7 @@ module _ (call : Call) (e : End) (s : Status) (usage : e ≡ end.Usage → comma
   net_told (inl (is, took)) h = absurd (subst IsOfEnd (sym is ∙ h) (of_end e))
   net_told (inr (is, failed, part)) h = cc
 
-  disk_told : IsToldBy call e s → s ≡ status.DiskFault → HasFailed call.disk
+  disk_told : IsToldBy call e s → s ≡ status.DiskFault → HasFailed call.disk ⊎ ((asks_to_serve (command_of call.words) ≡ true) × (asks_to_keep (command_of call.words) ≡ true))
   disk_told (inl (is, took)) h = absurd (subst IsOfEnd (sym is ∙ h) (of_end e))
   disk_told (inr (is, failed, part)) h = cc
 
@@ -216,6 +235,7 @@ module _ (call : Call) (e : End) (s : Status) (usage : e ≡ end.Usage → comma
     idle = same-idle call.ports call.ports_after same fresh;
     others = λ h. same;
     kept = disk.kept;
+    hosted = disk.hosted;
     still = disk.still;
   }
 
@@ -224,9 +244,10 @@ unpriced : (call : Call) (s : Status) → call.steps_after ≡ call.steps → If
 unpriced call s free = always_told _ call.content (λ at. inl free)
 
 -- no line was answered, nor anything done with the disk
-undone : (call : Call) (e : End) (s : Status) → call.steps_after ≡ call.steps → IsToldBy call e s → IsStill call.disk → KeepsDisk call s
-undone call e s free told still =
-    ended-on-disk call s (status_of e) (last_line e) free (inl (e, refl, refl)) (ended-so e s _ _ _ _ told) (λ h. still)
+undone : (call : Call) (e : End) (s : Status) → call.steps_after ≡ call.steps → call.ports_after ≡ call.ports → IsToldBy call e s
+    → IsStill call.disk → KeepsDisk call s
+undone call e s free same told still =
+    ended-before call s (status_of e) (last_line e) free same still (inl (e, refl, refl)) (ended-so e s _ _ _ _ told)
 
 -- how a script was answered, and the status
 abbrev pub IsScriptAnsweredBy : Call → AskedValue → Status → Type 0
@@ -299,7 +320,7 @@ module _ (call : Call) (command : Command) (population : Population) (census : C
       (left-alone call (Gen population census script) s refl told still) ended
   keeps_by_gen (inr (free, ended)) =
       keeps_by_end call end.Memory s (λ h. cc) (λ h. cc) (λ file h. cc) (always_told _ call.content (λ at ne. absurd (ne refl)))
-      (λ h. refl) (unpriced call s free) fresh same (undone call end.Memory s free ended still) ended
+      (λ h. refl) (unpriced call s free) fresh same (undone call end.Memory s free same ended still) ended
 
 -- how what is asked for was answered, and the status
 abbrev pub IsAnsweredBy : Call → AskedValue → Status → Type 0
@@ -320,6 +341,8 @@ keeps_by_answer call command (Keep census journal script) s named serves keeps t
 keeps_by_answer call command (Follow census script) s named serves keeps told fresh (same, still, answered) =
     keeps_by_script call command (Follow census script) s named told fresh same (left-alone call (Follow census script) s refl told still)
     (λ replies are. (refl, (replies, are, refl))) (λ replies some part. (some, part)) answered
+keeps_by_answer call command (Host census journal service) s named serves keeps told fresh (free, answered) =
+    keeps_by_host call command census journal service s named (sym serves) (sym keeps) told free fresh answered
 keeps_by_answer call command (Serve census service) s named serves keeps told fresh (still, free, answered) =
     keeps_by_service call command census service s named (sym serves) told free fresh still answered
 keeps_by_answer call command (Gen population census script) s named serves keeps told fresh (same, still, answered) =
@@ -367,11 +390,19 @@ holds-inputs : (at : List ℕ → Option (List ℕ)) (recodes : Option (List ℕ
 holds-inputs at None classes ptable people threshold = (refl, (refl, (refl, tt)))
 holds-inputs at (Some name) classes ptable people threshold = (refl, (refl, (refl, (refl, tt))))
 
+holds-counted : (at : List ℕ → Option (List ℕ)) (recodes : Option (List ℕ)) (classes ptable people dwellings links script : List ℕ) (threshold : ℕ)
+    → let inputs : Inputs = record { classes = classes; recodes = recodes; ptable = ptable; people = people; threshold = threshold } in
+    Hold at (command_files (command.Units inputs dwellings links script)) (contents_at at (command_files (command.Units inputs dwellings links script)))
+holds-counted at None classes ptable people dwellings links script threshold = (refl, (refl, (refl, (refl, (refl, (refl, tt))))))
+holds-counted at (Some name) classes ptable people dwellings links script threshold = (refl, (refl, (refl, (refl, (refl, (refl, (refl, tt)))))))
+
 holds : (at : List ℕ → Option (List ℕ)) (c : Command) → Hold at (command_files c) (contents_at at (command_files c))
 holds at (command.Script inputs script) = holds-files at inputs.recodes inputs.classes inputs.ptable inputs.people script inputs.threshold
 holds at (command.Lanes inputs script) = holds-files at inputs.recodes inputs.classes inputs.ptable inputs.people script inputs.threshold
 holds at (command.Keep inputs journal script) = holds-files at inputs.recodes inputs.classes inputs.ptable inputs.people script inputs.threshold
 holds at (command.Follow inputs script) = holds-files at inputs.recodes inputs.classes inputs.ptable inputs.people script inputs.threshold
+holds at (command.Units inputs dwellings links script) = holds-counted at inputs.recodes inputs.classes inputs.ptable inputs.people dwellings links script inputs.threshold
+holds at (command.Host inputs journal service) = holds-inputs at inputs.recodes inputs.classes inputs.ptable inputs.people inputs.threshold
 holds at (command.Serve inputs service) = holds-inputs at inputs.recodes inputs.classes inputs.ptable inputs.people inputs.threshold
 holds at (command.Gen population) = tt
 
@@ -392,7 +423,7 @@ keeps_by_load view call after command e s named loads accepted free fresh same s
       caused call command e named rose last,
       same,
     )) loads.gives)
-    accepted (unpriced call s free) fresh same (undone call e s free told still) told
+    accepted (unpriced call s free) fresh same (undone call e s free same told still) told
 
 -- other arguments end the run at once
 pub keeps_by_usage : (call : Call) (s : Status) → command_of call.words ≡ None → call.steps_after ≡ call.steps → All IsFresh call.ports
@@ -401,7 +432,7 @@ keeps_by_usage call s none free fresh same still told =
     keeps_by_end call end.Usage s (λ h. none) (λ h. refl) (λ file h. cc)
     (always_told _ call.content (λ at ne. (rw none refl, tt, same)))
     (λ h. absurd (true≢false (sym h ∙ ap asks_to_generate none))) (unpriced call s free) fresh same
-    (undone call end.Usage s free told still) told
+    (undone call end.Usage s free same told still) told
 
 -- files that were all read lead to the task
 pub keeps_by_task : {A : Type 0} (view : A → AskedValue) (call : Call) (after : Option (List ℕ → Option (List ℕ))) (command : Command)

@@ -13,7 +13,7 @@ use Rattle.tb_gen_laws.specs.People.{generated_records}
 use Rattle.tb_gen_laws.specs.Perturbations.{generated_table}
 use Rattle.tb_gen.specs.Generated.{generated_classes, generated_people, generated_ptable, generated_recodes, generated_script}
 use Rattle.tb_io.specs.Faults.{HasRisen}
-use Rattle.tb_io.specs.HeldFiles.{HasHeld, HeldFiles, bytes_or_none}
+use Rattle.tb_io.specs.HeldFiles.{HasHeld, HeldFiles, bytes_of, bytes_or_none}
 use Rattle.tb_top.specs.declared.command.Inputs.{Inputs}
 use Rattle.tb_top.specs.declared.load.Asked.{Asked}
 use Rattle.tb_top.specs.declared.load.Asked.TheVariants as asked
@@ -63,6 +63,8 @@ hold-all a b c d e f p one two three four five input.Ptable =
 hold-all a b c d e f p one two three four five input.People =
     five.others (input_name input.People) (differ (codes "people") (codes "script") refl)
     ∙ four.here
+hold-all a b c d e f p one two three four five input.Dwellings = tt
+hold-all a b c d e f p one two three four five input.Links = tt
 hold-all a b c d e f p one two three four five input.Script =
     five.here
 
@@ -71,9 +73,9 @@ pub holds-generated : (p : Population) (files : HeldFiles) → HoldGenerated p f
     → Hold (λ name. Some (bytes_or_none files name)) (scripted_files generated_inputs (input_name input.Script))
     (generated_contents p)
 holds-generated p files held =
-    let at : (file : Input) → Some (unwrap_or (generated_contents p file) []) ≡ Some (bytes_or_none files (input_name file)) =
-    λ file. ap (λ (o : Option (List ℕ)). Some (unwrap_or o [])) (sym (held file)) in
-    (at input.Classes, (at input.Recodes, (at input.Ptable, (at input.People, (at input.Script, tt)))))
+    let at : (file : Input) (bytes : List ℕ) → bytes_of files (input_name file) ≡ Some bytes → Some bytes ≡ Some (bytes_or_none files (input_name file)) =
+    λ file bytes is. ap (λ (o : Option (List ℕ)). Some (unwrap_or o [])) (sym is) in
+    (at input.Classes _ (held input.Classes), (at input.Recodes _ (held input.Recodes), (at input.Ptable _ (held input.Ptable), (at input.People _ (held input.People), (at input.Script _ (held input.Script), tt)))))
 
 -- what is true of told contents
 told : {A : Type 0} (P : A → Type 0) (o : Option A) (x : A) → o ≡ Some x → IfSome o P → P x

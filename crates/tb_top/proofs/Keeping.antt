@@ -20,7 +20,7 @@ use Rattle.tb_top.specs.Endings.{last_line}
 use Rattle.tb_top.specs.KeepOutputs.{AreKeepLinesAnswered, AreKeepReplies, HasFailed, IsKeepAnswered, IsKeepLine}
 use Rattle.tb_top.specs.Outputs.{IsBegun}
 use Rattle.tb_top.specs.Promises.{IsPriced, IsSomeLastLine, IsWhole, Keeps}
-use Rattle.tb_top.proofs.DiskKept.{answered-on-disk, ended-on-disk}
+use Rattle.tb_top.proofs.DiskKept.{answered-on-disk, ended-in-script}
 use Rattle.tb_top.proofs.PortLemmas.{all-unserved, same-idle}
 use Rattle.tb_top.proofs.Serving.{IsFinal, keeps_by_final}
 use Rattle.tb_top.proofs.Telling.{where_told}
@@ -32,6 +32,8 @@ keeps-alone (command.Script inputs script) keeps generates = cc
 keeps-alone (command.Lanes inputs script) keeps generates = cc
 keeps-alone (command.Keep inputs journal script) keeps generates = cc
 keeps-alone (command.Follow inputs script) keeps generates = cc
+keeps-alone (command.Units inputs dwellings links script) keeps generates = cc
+keeps-alone (command.Host inputs journal service) keeps generates = cc
 keeps-alone (command.Serve inputs service) keeps generates = cc
 keeps-alone (command.Gen population) keeps generates = cc
 
@@ -61,33 +63,34 @@ module _ (call : Call) (command : Command) (census : CensusValue) (journal : Lis
       let answers : AreKeepReplies census script replies = (lines.batches, lines.first_faults, lines.recovered.follow, are) in
       keeps_by_written call command asked s (text_of replies) named told (refl, (replies, answers, refl))
       (priced_by replies answers cost (λ m. cc, TookPart-all call.taken call.taken_after (text_of replies) took)) fresh same
-      (answered-on-disk call asked s told asks (inl (is, lines))) (inl (is, took))
+      (answered-on-disk call asked s told refl asks (inl (is, lines))) (inl (is, took))
   by_lines (inr (is, rose, lines)) =
       let (replies, are, part, cost) = kept-part census.setup (base_of census) script.lines _ _ _ _ lines.kept.run in
       let answers : AreKeepReplies census script replies = (lines.batches, lines.first_faults, lines.recovered.follow, are) in
       keeps_by_written call command asked s (text_of replies) named told (refl, (replies, answers, refl))
       (priced_by replies answers cost (λ m. cc, part)) fresh same
-      (answered-on-disk call asked s told asks (inr (is, rose, lines))) (inr (is, rose, part))
+      (answered-on-disk call asked s told refl asks (inr (is, rose, lines))) (inr (is, rose, part))
 
   -- none was, and a last line was written
   by_last_line : (final : Status) (text : List ℕ) → IsFinal final → final ≢ status.NetFault → (final ≡ status.DiskFault → HasFailed call.disk)
       → ((at : List ℕ → Option (List ℕ)) → asked_of at call.words ≡ Ok asked → IsWhole call at final text) → IsSomeLastLine final text
       → call.steps_after ≡ call.steps → IsEnded text final (output_of call) s → Keeps call s
   by_last_line final text is net failed whole line free ended =
-      keeps_by_final call command asked s final text named told free is (λ h. absurd (net h)) failed
+      keeps_by_final call command asked s final text named told free is (λ h. absurd (net h)) (λ h. inl (failed h))
       (same-idle call.ports call.ports_after same fresh) (λ h. same) (λ h. absurd (keeps-alone command keeps h)) whole
-      (ended-on-disk call s final text free line ended (λ h. absurd (true≢false (sym asks ∙ h)))) ended
+      (ended-in-script call asked s final text told refl asks free line ended) ended
 
   -- that of a journal's file that is refused, or of a disk that failed
   by_journal_line : (final : Status) (text : List ℕ) → IsKeepLine census saw final text → call.steps_after ≡ call.steps
       → IsEnded text final (output_of call) s → Keeps call s
   by_journal_line final text (inl (fault, refused, left, is, line)) free ended =
       by_last_line final text (subst IsFinal (sym is) tt) (λ h. cc) (λ h. cc)
-      (λ at h. subst (λ x. IsWhole call at x text) (sym is) (census, journal, script, h, inl (fault, refused, left, refl, line)))
+      (λ at h. subst (λ x. IsWhole call at x text) (sym is)
+      (census, journal, inl (script, h), inl (fault, refused, left, refl, line)))
       (inr (inl (fault, is, line))) free ended
   by_journal_line final text (inr (failed, is, line)) free ended =
       by_last_line final text (subst IsFinal (sym is) tt) (λ h. cc) (λ h. failed)
-      (λ at h. subst (λ x. IsWhole call at x text) (sym is) (census, journal, script, h, inr (failed, refl, line)))
+      (λ at h. subst (λ x. IsWhole call at x text) (sym is) (inl (census, journal, inl (script, h), inr (failed, refl, line))))
       (inr (inr (is, line))) free ended
 
   -- a run that came to a script with a journal keeps all

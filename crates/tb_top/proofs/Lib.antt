@@ -5,6 +5,7 @@ pub mod DiskKept
 pub mod Finishing
 pub mod Following
 pub mod Generating
+pub mod Hosting
 pub mod Keeping
 pub mod LanesRun
 pub mod LoadSteps

@@ -19,12 +19,16 @@ use Rattle.tb_rows.specs.declared.fault.Fault.TheVariants as fault
 use Rattle.tb_schema.specs.Recodes.{schema_of}
 use Rattle.tb_schema.specs.declared.fault.SchemaFault.{SchemaFault}
 use Rattle.tb_schema.specs.declared.fault.SchemaFault.TheVariants as schema_fault
+use Rattle.tb_model.specs.Units.{UnitsValue}
+use Rattle.tb_units.specs.Units.{units_of}
+use Rattle.tb_units.specs.declared.fault.UnitsFault.{UnitsFault}
+use Rattle.tb_units.specs.declared.fault.UnitsFault.TheVariants as units_fault
 use Rattle.tb_top.specs.declared.command.Inputs.{Inputs}
 use Rattle.tb_top.specs.declared.endings.Input.{Input}
 use Rattle.tb_top.specs.declared.endings.Input.TheVariants as input
 use Rattle.tb_top.specs.declared.endings.End.{End}
 use Rattle.tb_top.specs.declared.endings.End.TheVariants as end
-use Rattle.tb_top.specs.Asking.{◌>>=◌, CensusValue, Contents, bytes_in, census_in, contents_for, file_end, input_place, or_end, people_in, perturbation_in, recodes_in, schema_end, schema_in}
+use Rattle.tb_top.specs.Asking.{◌>>=◌, CensusValue, Contents, bytes_in, census_in, contents_for, counted_in, file_end, input_place, or_end, people_in, perturbation_in, recodes_in, schema_end, schema_in, units_end, units_in, with_units}
 use Rattle.tb_top.specs.Calls.{IsReadTo, readings_more}
 use Rattle.tb_top.specs.Commands.{NamedFile, class_files, input_files, named}
 use Rattle.tb_top.specs.Loading.{Gives, Hold, Loads, Reading}
@@ -128,6 +132,8 @@ same_place input.Classes = refl
 same_place input.Recodes = refl
 same_place input.Ptable = refl
 same_place input.People = refl
+same_place input.Dwellings = refl
+same_place input.Links = refl
 same_place input.Script = refl
 
 pub Loads-unread : {A : Type 0} (view : A → List ℕ) (file : Input) (name : List ℕ) {saw : Reading} → saw.faults ≤ saw.faults_after
@@ -284,6 +290,20 @@ Loads-refused-schema recodes classes name x f given h =
     Loads-refuses recodes (λ s. s) (recodes_in name) (λ contents r. or_end schema_end (schema_of classes r)) x (schema_end f) not.0 not.1
     (λ contents ne. ap (or_end schema_end) (given (λ m. ne (ap schema_end m)))) h
 
+not_by_units : (f : UnitsFault) → (units_end f ≢ end.Usage) × ((other : Input) → units_end f ≢ end.Unread other)
+not_by_units (units_fault.Refused file kind at) = (λ h. cc, λ other h. cc)
+not_by_units units_fault.Memory = (λ h. cc, λ other h. cc)
+
+pub Loads-refused-units : {V : Type 0} (items : V → List ℕ) (keys : Keys) (dwellings : List ℕ) (x : V)
+    (f : UnitsFault) {saw : Reading} {place : ℕ} {files : List NamedFile}
+    → (f ≢ units_fault.Memory → units_of keys dwellings (items x) ≡ Err f) → Loads saw place files items (λ contents. bytes_in input.Links (contents input.Links)) (Ok x)
+    → Loads saw place files (λ (u : UnitsValue). u)
+    (λ contents. bytes_in input.Links (contents input.Links) >>= (λ links. or_end units_end (units_of keys dwellings links))) (Err (units_end f))
+Loads-refused-units items keys dwellings x f given h =
+    let not = not_by_units f in
+    Loads-refuses items (λ u. u) (λ contents. bytes_in input.Links (contents input.Links)) (λ contents links. or_end units_end (units_of keys dwellings links)) x (units_end f) not.0 not.1
+    (λ contents ne. ap (or_end units_end) (given (λ m. ne (ap units_end m)))) h
+
 -- without a file from a place on, each file before it has its bytes
 same-before : (e : End) (contents : Contents) (file : Input) (place : ℕ) →
     ((other : Input) → e ≡ end.Unread other → place ≤ input_place other) → input_place file < place
@@ -351,12 +371,30 @@ after_ptable inputs schema contents table = people_in schema contents >>= (λ re
 abbrev pub after_schema : Inputs → Contents → SchemaValue → Result CensusValue End
 after_schema inputs contents schema = perturbation_in schema.keys contents >>= after_ptable inputs schema contents
 
-pub skips-census : (inputs : Inputs) → Skips (census_in inputs) 4
-skips-census inputs =
-    Skips-then (schema_in inputs.recodes) (after_schema inputs) 4 (skips-schema inputs.recodes 4 (omega arith))
-    (λ schema. Skips-then (perturbation_in schema.keys) (after_ptable inputs schema) 4 (skips-perturbation schema.keys 4 (omega arith))
-    (λ table. Skips-then (people_in schema) (λ contents records. Ok (census_with inputs schema table records)) 4
-    (skips-people schema 4 (omega arith)) (λ records contents e h. refl)))
+pub skips-census : (inputs : Inputs) (place : ℕ) → 3 < place → Skips (census_in inputs) place
+skips-census inputs place below =
+    Skips-then (schema_in inputs.recodes) (after_schema inputs) place (skips-schema inputs.recodes place (omega (arith, below)))
+    (λ schema. Skips-then (perturbation_in schema.keys) (after_ptable inputs schema) place (skips-perturbation schema.keys place (omega (arith, below)))
+    (λ table. Skips-then (people_in schema) (λ contents records. Ok (census_with inputs schema table records)) place
+    (skips-people schema place below) (λ records contents e h. refl)))
+
+pub skips-units : (keys : Keys) (place : ℕ) → 5 < place → Skips (units_in keys) place
+skips-units keys place below =
+    Skips-then (λ contents. bytes_in input.Dwellings (contents input.Dwellings))
+    (λ contents dwellings. bytes_in input.Links (contents input.Links) >>= (λ links. or_end units_end (units_of keys dwellings links))) place
+    (skips-bytes input.Dwellings place (omega (arith, below)))
+    (λ dwellings. Skips-then (λ contents. bytes_in input.Links (contents input.Links)) (λ contents links. or_end units_end (units_of keys dwellings links)) place
+    (skips-bytes input.Links place below) (λ links contents e h. refl))
+
+-- what comes after a census, where there are dwellings
+abbrev pub after_census : Contents → CensusValue → Result CensusValue End
+after_census contents census = units_in census.setup.schema.keys contents >>= (λ units. Ok (with_units census units))
+
+pub skips-counted : (inputs : Inputs) (place : ℕ) → 5 < place → Skips (counted_in inputs) place
+skips-counted inputs place below =
+    Skips-then (census_in inputs) after_census place (skips-census inputs place (omega (arith, below)))
+    (λ census. Skips-then (units_in census.setup.schema.keys) (λ contents units. Ok (with_units census units)) place
+    (skips-units census.setup.schema.keys place below) (λ units contents e h. refl))
 
 -- how a census ends at its first and its second step
 pub census-no-schema : {A : Type 0} (view : A → CensusValue) (inputs : Inputs) {e : End} {saw : Reading}

@@ -1,5 +1,5 @@
 -- Ports: what is true of those of a service is true of all.
-use Rattle.std.proofs.Common.{◌≡◌, ◌∙◌, ap, sym, subst, refl, ℕ, ◌+◌, ◌-◌, ◌<◌, ◌≤◌, List, ◌++◌, length, take, drop, get_or, All, inl, inr, arith}
+use Rattle.std.proofs.Common.{◌≡◌, ◌∙◌, ap, ap₂, sym, subst, refl, ℕ, ◌+◌, ◌-◌, ◌<◌, ◌≤◌, List, ◌++◌, length, take, drop, get_or, All, inl, inr, arith}
 use Rattle.std.proofs.lemmas.List.{get_or-drop, get_or-take, length-append, length-drop, length-take-le, take-append-drop, take_at}
 use Rattle.std.proofs.lemmas.List.Elements.{All-append}
 use Rattle.std.proofs.lemmas.Bool.{cases_lt}
@@ -26,6 +26,11 @@ all-fresh-idle ports fresh = λ i d below. fresh-idle (get_or ports i d) (fresh 
 
 pub same-idle : (ports ports' : List PortValue) → ports' ≡ ports → All IsFresh ports → All IsIdle ports'
 same-idle ports ports' same fresh = subst (All IsIdle) (sym same) (all-fresh-idle ports fresh)
+
+-- where neither the first n ports nor the others changed, none did
+pub all-same : (n : ℕ) (ports ports' : List PortValue) → take n ports' ≡ take n ports → drop n ports' ≡ drop n ports → ports' ≡ ports
+all-same n ports ports' first rest =
+    sym (take-append-drop n ports') ∙ ap₂ (λ (xs ys : List PortValue). xs ++ ys) first rest ∙ take-append-drop n ports
 
 -- the first n ports of some, of which the others stay
 module _ (n : ℕ) (ports ports' : List PortValue) (long : n ≤ length ports)

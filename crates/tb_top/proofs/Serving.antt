@@ -14,7 +14,7 @@ use Rattle.tb_serve.specs.Serves.{IsEnded, IsPortServed, final_status}
 use Rattle.tb_serve.specs.Stages.{HasRisenSome, IsFresh, IsUntouched}
 use Rattle.tb_top.specs.Asking.{AskedValue, CensusValue, Serve, asked_of, base_of}
 use Rattle.tb_top.specs.Calls.{Call, HasTaken, NetFailed, output_of}
-use Rattle.tb_top.specs.Commands.{asks_to_generate, asks_to_serve, command_of}
+use Rattle.tb_top.specs.Commands.{asks_to_generate, asks_to_keep, asks_to_serve, command_of}
 use Rattle.tb_top.specs.KeepOutputs.{HasFailed, IsStill}
 use Rattle.tb_top.specs.ServicePorts.{Service}
 use Rattle.tb_top.specs.Promises.{IsAskedOutput, IsDefined, IsJournalText, IsTextOf, IsWhole, Keeps, defined_status}
@@ -39,12 +39,14 @@ IsFinal status.Memory = Unit {0}
 IsFinal status.NetFault = Unit {0}
 IsFinal status.Journal = Unit {0}
 IsFinal status.DiskFault = Unit {0}
+IsFinal status.Units = ⊥
 
 -- a call that came to its task, and whose text is one of a final status
 module _ (call : Call) (command : Command) (task : AskedValue) (s final : Status) (text : List ℕ)
     (named : command_of call.words ≡ Some command)
     (told : IfSome call.content (λ at. asked_of at call.words ≡ Ok task)) (free : call.steps_after ≡ call.steps)
-    (is_final : IsFinal final) (failed : final ≡ status.NetFault → NetFailed call) (disk_failed : final ≡ status.DiskFault → HasFailed call.disk)
+    (is_final : IsFinal final) (failed : final ≡ status.NetFault → NetFailed call)
+    (disk_failed : final ≡ status.DiskFault → HasFailed call.disk ⊎ ((asks_to_serve (Some command) ≡ true) × (asks_to_keep (Some command) ≡ true)))
     (idle : All IsIdle call.ports_after) (others : asks_to_serve (Some command) ≡ false → call.ports_after ≡ call.ports)
     (generated : asks_to_generate (Some command) ≡ true → (final ≡ status.Done) ⊎ (final ≡ status.Memory))
     (whole : (at : List ℕ → Option (List ℕ)) → asked_of at call.words ≡ Ok task → IsWhole call at final text) (disk : KeepsDisk call s) where
@@ -67,8 +69,12 @@ module _ (call : Call) (command : Command) (task : AskedValue) (s final : Status
   defined_told at asked status.WriteFault final net written is = absurd final
   defined_told at asked status.Memory final net written is = inr (inl is)
   defined_told at asked status.NetFault final net written is = inr (inr (inr (inr (inl (is, net refl)))))
-  defined_told at asked status.Journal final net written is = inr (inr (inr (inr (inr (text, subst (λ x. IsJournalText call at x text) (sym is) written)))))
-  defined_told at asked status.DiskFault final net written is = inr (inr (inr (inr (inr (text, subst (λ x. IsJournalText call at x text) (sym is) written)))))
+  defined_told at asked status.Journal final net written is =
+      inr (inr (inr (inr (inr (inl (text, subst (λ x. IsJournalText call at x text) (sym is) written))))))
+  defined_told at asked status.DiskFault final net (inl written) is =
+      inr (inr (inr (inr (inr (inl (text, subst (λ x. IsJournalText call at x text) (sym is) written))))))
+  defined_told at asked status.DiskFault final net (inr written) is = inr (inr (inr (inr (inr (inr (is, (text, written)))))))
+  defined_told at asked status.Units final net written is = absurd final
 
   -- it has no other status than the final one and WriteFault
   never : (other : Status) → IsEnded text final (output_of call) s → other ≢ status.WriteFault → (IsFinal other → ⊥) → s ≢ other
@@ -88,8 +94,12 @@ module _ (call : Call) (command : Command) (task : AskedValue) (s final : Status
   net_told (inl (is, took)) h = failed (sym is ∙ h)
   net_told (inr (is, part, rose)) h = cc
 
-  disk_told : IsEnded text final (output_of call) s → s ≡ status.DiskFault → HasFailed call.disk
-  disk_told (inl (is, took)) h = disk_failed (sym is ∙ h)
+  disk_told : IsEnded text final (output_of call) s → s ≡ status.DiskFault
+      → HasFailed call.disk ⊎ ((asks_to_serve (command_of call.words) ≡ true) × (asks_to_keep (command_of call.words) ≡ true))
+  disk_told (inl (is, took)) h = elim (disk_failed (sym is ∙ h)) [
+    | inl failed ↦ inl failed
+    | inr hosts ↦ inr (ap asks_to_serve named ∙ hosts.0, ap asks_to_keep named ∙ hosts.1)
+  ]
   disk_told (inr (is, part, rose)) h = cc
 
   -- where a generated population is asked for it is Done or Memory
@@ -114,17 +124,18 @@ module _ (call : Call) (command : Command) (task : AskedValue) (s final : Status
     idle = idle;
     others = λ h. others (ap asks_to_serve (sym named) ∙ h);
     kept = disk.kept;
+    hosted = disk.hosted;
     still = disk.still;
   }
 
 -- an output of a final status
-whole_by_output : (call : Call) (at : List ℕ → Option (List ℕ)) (f : Status) (text : List ℕ)
+pub whole_by_output : (call : Call) (at : List ℕ → Option (List ℕ)) (f : Status) (text : List ℕ)
     → (f ≡ status.Done) ⊎ (f ≡ status.NetFault) → IsAskedOutput call at f text → IsWhole call at f text
 whole_by_output call at f text (inl done) h = rw done (subst (λ x. IsAskedOutput call at x text) done h)
 whole_by_output call at f text (inr net) h = rw net (subst (λ x. IsAskedOutput call at x text) net h)
 
 -- how served ports end
-data Ending (ports : List PortValue) : Type 0 where
+pub data Ending (ports : List PortValue) : Type 0 where
   Quiet : final_status ports ≡ status.Done → Ending ports
   Loud : final_status ports ≡ status.NetFault → some_failed ports ≡ true → Ending ports
 
@@ -132,22 +143,22 @@ ending_by : (ports : List PortValue) (b : Bool) → some_failed ports ≡ b → 
 ending_by ports true is = Loud (rw is refl) is
 ending_by ports false is = Quiet (rw is refl)
 
-ending_of : (ports : List PortValue) → Ending ports
+pub ending_of : (ports : List PortValue) → Ending ports
 ending_of ports = ending_by ports (some_failed ports) refl
 
-done_or_net : (ports : List PortValue) → Ending ports → (final_status ports ≡ status.Done) ⊎ (final_status ports ≡ status.NetFault)
+pub done_or_net : (ports : List PortValue) → Ending ports → (final_status ports ≡ status.Done) ⊎ (final_status ports ≡ status.NetFault)
 done_or_net ports (Quiet done) = inl done
 done_or_net ports (Loud net some) = inr net
 
-some_by : (ports : List PortValue) → Ending ports → final_status ports ≡ status.NetFault → some_failed ports ≡ true
+pub some_by : (ports : List PortValue) → Ending ports → final_status ports ≡ status.NetFault → some_failed ports ≡ true
 some_by ports (Quiet done) net = cc
 some_by ports (Loud is some) net = some
 
-final_is : (f : Status) → (f ≡ status.Done) ⊎ (f ≡ status.NetFault) → IsFinal f
+pub final_is : (f : Status) → (f ≡ status.Done) ⊎ (f ≡ status.NetFault) → IsFinal f
 final_is f (inl done) = rw done tt
 final_is f (inr net) = rw net tt
 
-no_disk_by : (f : Status) → (f ≡ status.Done) ⊎ (f ≡ status.NetFault) → f ≢ status.DiskFault
+pub no_disk_by : (f : Status) → (f ≡ status.Done) ⊎ (f ≡ status.NetFault) → f ≢ status.DiskFault
 no_disk_by f (inl done) h = cc
 no_disk_by f (inr net) h = cc
 
@@ -164,20 +175,29 @@ served-idle census service chain ports ports' each = λ i d below.
     record { party = at.party; lines = at.lines }
 
 -- some accept failed only where a count rose
+pub risen-by : (ports ports' : List PortValue) → length ports' ≡ length ports
+    → ((i : ℕ) (d : PortValue) → i < length ports → (get_or ports' i d).failed ≡ true
+    → HasRisen (get_or ports i d).listener.faults (get_or ports' i d).listener.faults)
+    → some_failed ports' ≡ true → HasRisenSome ports ports'
+risen-by ports ports' same rises some =
+    let (i, x, below, at, failed) = Any-from_list_any (λ (p : PortValue). p.failed) ports' some in
+    let inside : i < length ports = omega (arith, below, same) in
+    (i, inside, λ d. rises i d inside (failed_at ports' i x d below (sym at) failed))
+
 failed-risen : (call : Call) (census : CensusValue) (service : Service) (chain : List BatchValue) (ports ports' : List PortValue)
     → Each (IsPortServed census.setup (base_of census) service.port service.sessions chain) ports ports' → some_failed ports' ≡ true
     → HasRisenSome ports ports'
 failed-risen call census service chain ports ports' each some =
-    let (i, x, below, at, failed) = Any-from_list_any (λ (p : PortValue). p.failed) ports' some in
-    let inside : i < length ports = omega (arith, below, each.same_length) in
-    (i, inside, λ d. (each.at i d inside).sessions.visited.enough.risen (failed_at ports' i x d below (sym at) failed))
+    risen-by ports ports' each.same_length (λ i d inside. (each.at i d inside).sessions.visited.enough.risen) some
 
 -- a command that asks for sessions asks for no generated population
-serves-alone : (c : Command) → asks_to_serve (Some c) ≡ true → asks_to_generate (Some c) ≡ true → ⊥
+pub serves-alone : (c : Command) → asks_to_serve (Some c) ≡ true → asks_to_generate (Some c) ≡ true → ⊥
 serves-alone (command.Script inputs script) serves generates = cc
 serves-alone (command.Lanes inputs script) serves generates = cc
 serves-alone (command.Keep inputs journal script) serves generates = cc
 serves-alone (command.Follow inputs script) serves generates = cc
+serves-alone (command.Units inputs dwellings links script) serves generates = cc
+serves-alone (command.Host inputs journal service) serves generates = cc
 serves-alone (command.Serve inputs service) serves generates = cc
 serves-alone (command.Gen population) serves generates = cc
 

@@ -13,10 +13,10 @@ use Rattle.tb_top.specs.declared.command.Inputs.{Inputs}
 use Rattle.tb_base.specs.declared.people.TheConstants.{MOST_PERSONS}
 use Rattle.tb_base.specs.declared.limits.TheConstants.{MOST_THRESHOLD}
 use Rattle.tb_top.specs.declared.service.TheConstants.{MOST_PORT, MOST_SESSIONS, MOST_WORKERS}
-use Rattle.tb_top.specs.Commands.{command_of, follow_words, gen_named, gen_words, inputs_named, inputs_with, is_file_name, keep_named, keep_words, lanes_words, may_name_recodes, script_words, serve_named, serve_words, threshold_in, with_script, word_at, words_with_script}
+use Rattle.tb_top.specs.Commands.{command_of, follow_words, gen_named, gen_words, host_named, host_words, inputs_named, inputs_with, is_file_name, keep_named, keep_words, lanes_words, may_name_recodes, script_words, serve_named, serve_words, threshold_in, units_named, units_words, with_script, word_at, words_with_script}
 use Rattle.tb_top.specs.Numbers.{number_within}
 use Rattle.tb_top.specs.Populations.{population_named, population_with}
-use Rattle.tb_top.specs.ServicePorts.{service_named, service_with}
+use Rattle.tb_top.specs.ServicePorts.{Service, service_named, service_with}
 
 both : (a b : Bool) → (a && b) ≡ true → (a ≡ true) × (b ≡ true)
 both true b h = (refl, h)
@@ -167,6 +167,85 @@ keep_list (a ∷ b ∷ c ∷ d ∷ e ∷ f ∷ g ∷ h ∷ []) k len name named 
     )))
 keep_list (a ∷ b ∷ c ∷ d ∷ e ∷ f ∷ g ∷ h ∷ x ∷ rest) k len name named = absurd (omega (arith, len))
 
+units_list : (words : List (List ℕ)) (k : Command) → length words ≡ 9 → bytes_eq (word_at words 0) (codes "units") ≡ true
+    → units_named (word_at words 1) (word_at words 2) (word_at words 3) (word_at words 4) (word_at words 5) (word_at words 6) (word_at words 7) (word_at words 8) ≡ Some k → AreTested words
+units_list [] k len name named = absurd (omega (arith, len))
+units_list (a ∷ []) k len name named = absurd (omega (arith, len))
+units_list (a ∷ b ∷ []) k len name named = absurd (omega (arith, len))
+units_list (a ∷ b ∷ c ∷ []) k len name named = absurd (omega (arith, len))
+units_list (a ∷ b ∷ c ∷ d ∷ []) k len name named = absurd (omega (arith, len))
+units_list (a ∷ b ∷ c ∷ d ∷ e ∷ []) k len name named = absurd (omega (arith, len))
+units_list (a ∷ b ∷ c ∷ d ∷ e ∷ f ∷ []) k len name named = absurd (omega (arith, len))
+units_list (a ∷ b ∷ c ∷ d ∷ e ∷ f ∷ g ∷ []) k len name named = absurd (omega (arith, len))
+units_list (a ∷ b ∷ c ∷ d ∷ e ∷ f ∷ g ∷ h ∷ []) k len name named = absurd (omega (arith, len))
+units_list (a ∷ b ∷ c ∷ d ∷ e ∷ f ∷ g ∷ h ∷ i ∷ []) k len name named =
+    let (test, rest) = if_some (is_file_name g && is_file_name h) (option_map (λ (n : Inputs × List ℕ). command.Units n.0 g h n.1) (with_script b c d e f i)) k named in
+    let (dwellings, links) = both (is_file_name g) (is_file_name h) test in
+    let (both_named, scripted) = map_some (λ (n : Inputs × List ℕ). command.Units n.0 g h n.1) (with_script b c d e f i) k rest in
+    let (script, inner) = if_some (is_file_name i) (option_map (λ (inputs : Inputs). (inputs, i)) (inputs_named b c d e f)) both_named scripted in
+    let (inputs, read) = map_some (λ (inputs : Inputs). (inputs, i)) (inputs_named b c d e f) both_named inner in
+    let plain = plain_inputs b c d e f inputs read in
+    let values = b ∷ handed c ∷ d ∷ e ∷ f ∷ g ∷ h ∷ i ∷ [] in
+    let first : a ≡ codes "units" = (bytes_eq-Decides a (codes "units")).0 name in
+    inr (inr (inr (inr (inl (
+      values,
+      handed_at a b c (d ∷ e ∷ f ∷ g ∷ h ∷ i ∷ []) ∙ ap (λ (word : List ℕ). word ∷ values) first,
+      refl,
+      all_true _ _ plain.classes (all_true _ _ (plain_handed c plain.recodes) (all_true _ _ plain.ptable (all_true _ _ plain.people
+          (all_true _ _ plain.threshold (all_true _ _ (plain_name g dwellings) (all_true _ _ (plain_name h links)
+          (all_true _ _ (plain_name i script) refl))))))),
+    )))))
+units_list (a ∷ b ∷ c ∷ d ∷ e ∷ f ∷ g ∷ h ∷ i ∷ x ∷ rest) k len name named = absurd (omega (arith, len))
+
+-- the words of a service
+record AreServicePlain (a b c : List ℕ) : Type 0 where
+  port : is_plain a ≡ true
+  workers : is_plain b ≡ true
+  sessions : is_plain c ≡ true
+
+plain_service : (a b c : List ℕ) (service : Service) → service_named a b c ≡ Some service → AreServicePlain a b c
+plain_service a b c service h =
+    let (p, port, two) = then_some (λ p. option_and_then (λ w. option_map (service_with p w) (number_within 1 MOST_SESSIONS c))
+    (number_within 1 MOST_WORKERS b)) (number_within 1 MOST_PORT a) service h in
+    let (w, workers, one) = then_some (λ w. option_map (service_with p w) (number_within 1 MOST_SESSIONS c)) (number_within 1 MOST_WORKERS b) service two in
+    let (n, sessions) = map_some (service_with p w) (number_within 1 MOST_SESSIONS c) service one in
+    record {
+      port = plain_within 1 MOST_PORT p a port;
+      workers = plain_within 1 MOST_WORKERS w b workers;
+      sessions = plain_within 1 MOST_SESSIONS n c sessions;
+    }
+
+host_list : (words : List (List ℕ)) (k : Command) → length words ≡ 10 → bytes_eq (word_at words 0) (codes "host") ≡ true
+    → host_named (word_at words 1) (word_at words 2) (word_at words 3) (word_at words 4) (word_at words 5) (word_at words 6) (word_at words 7) (word_at words 8) (word_at words 9) ≡ Some k → AreTested words
+host_list [] k len name named = absurd (omega (arith, len))
+host_list (a ∷ []) k len name named = absurd (omega (arith, len))
+host_list (a ∷ b ∷ []) k len name named = absurd (omega (arith, len))
+host_list (a ∷ b ∷ c ∷ []) k len name named = absurd (omega (arith, len))
+host_list (a ∷ b ∷ c ∷ d ∷ []) k len name named = absurd (omega (arith, len))
+host_list (a ∷ b ∷ c ∷ d ∷ e ∷ []) k len name named = absurd (omega (arith, len))
+host_list (a ∷ b ∷ c ∷ d ∷ e ∷ f ∷ []) k len name named = absurd (omega (arith, len))
+host_list (a ∷ b ∷ c ∷ d ∷ e ∷ f ∷ g ∷ []) k len name named = absurd (omega (arith, len))
+host_list (a ∷ b ∷ c ∷ d ∷ e ∷ f ∷ g ∷ h ∷ []) k len name named = absurd (omega (arith, len))
+host_list (a ∷ b ∷ c ∷ d ∷ e ∷ f ∷ g ∷ h ∷ i ∷ []) k len name named = absurd (omega (arith, len))
+host_list (a ∷ b ∷ c ∷ d ∷ e ∷ f ∷ g ∷ h ∷ i ∷ j ∷ []) k len name named =
+    let (journal, both_named) = if_some (is_file_name g) (option_and_then (λ (inputs : Inputs). option_map (command.Host inputs g) (service_named h i j))
+    (inputs_named b c d e f)) k named in
+    let (inputs, read, more) = then_some (λ (inputs : Inputs). option_map (command.Host inputs g) (service_named h i j)) (inputs_named b c d e f) k both_named in
+    let (service, served) = map_some (command.Host inputs g) (service_named h i j) k more in
+    let ports = plain_service h i j service served in
+    let plain = plain_inputs b c d e f inputs read in
+    let values = b ∷ handed c ∷ d ∷ e ∷ f ∷ g ∷ h ∷ i ∷ j ∷ [] in
+    let first : a ≡ codes "host" = (bytes_eq-Decides a (codes "host")).0 name in
+    inr (inr (inr (inr (inr (inl (
+      values,
+      handed_at a b c (d ∷ e ∷ f ∷ g ∷ h ∷ i ∷ j ∷ []) ∙ ap (λ (word : List ℕ). word ∷ values) first,
+      refl,
+      all_true _ _ plain.classes (all_true _ _ (plain_handed c plain.recodes) (all_true _ _ plain.ptable (all_true _ _ plain.people
+          (all_true _ _ plain.threshold (all_true _ _ (plain_name g journal) (all_true _ _ ports.port (all_true _ _ ports.workers
+          (all_true _ _ ports.sessions refl)))))))),
+    ))))))
+host_list (a ∷ b ∷ c ∷ d ∷ e ∷ f ∷ g ∷ h ∷ i ∷ j ∷ x ∷ rest) k len name named = absurd (omega (arith, len))
+
 serve_list : (words : List (List ℕ)) (k : Command) → length words ≡ 9 → bytes_eq (word_at words 0) (codes "serve") ≡ true
     → serve_named (word_at words 1) (word_at words 2) (word_at words 3) (word_at words 4) (word_at words 5) (word_at words 6) (word_at words 7) (word_at words 8) ≡ Some k → AreTested words
 serve_list [] k len name named = absurd (omega (arith, len))
@@ -181,21 +260,17 @@ serve_list (a ∷ b ∷ c ∷ d ∷ e ∷ f ∷ g ∷ h ∷ []) k len name named
 serve_list (a ∷ b ∷ c ∷ d ∷ e ∷ f ∷ g ∷ h ∷ i ∷ []) k len name named =
     let (inputs, read, more) = then_some (λ (inputs : Inputs). option_map (command.Serve inputs) (service_named g h i)) (inputs_named b c d e f) k named in
     let (service, served) = map_some (command.Serve inputs) (service_named g h i) k more in
-    let (p, port, two) = then_some (λ p. option_and_then (λ w. option_map (service_with p w) (number_within 1 MOST_SESSIONS i))
-    (number_within 1 MOST_WORKERS h)) (number_within 1 MOST_PORT g) service served in
-    let (w, workers, one) = then_some (λ w. option_map (service_with p w) (number_within 1 MOST_SESSIONS i)) (number_within 1 MOST_WORKERS h) service two in
-    let (n, sessions) = map_some (service_with p w) (number_within 1 MOST_SESSIONS i) service one in
+    let ports = plain_service g h i service served in
     let plain = plain_inputs b c d e f inputs read in
     let values = b ∷ handed c ∷ d ∷ e ∷ f ∷ g ∷ h ∷ i ∷ [] in
     let first : a ≡ codes "serve" = (bytes_eq-Decides a (codes "serve")).0 name in
-    inr (inr (inr (inr (inl (
+    inr (inr (inr (inr (inr (inr (inl (
       values,
       handed_at a b c (d ∷ e ∷ f ∷ g ∷ h ∷ i ∷ []) ∙ ap (λ (word : List ℕ). word ∷ values) first,
       refl,
       all_true _ _ plain.classes (all_true _ _ (plain_handed c plain.recodes) (all_true _ _ plain.ptable (all_true _ _ plain.people
-          (all_true _ _ plain.threshold (all_true _ _ (plain_within 1 MOST_PORT p g port) (all_true _ _ (plain_within 1 MOST_WORKERS w h workers)
-          (all_true _ _ (plain_within 1 MOST_SESSIONS n i sessions) refl))))))),
-    )))))
+          (all_true _ _ plain.threshold (all_true _ _ ports.port (all_true _ _ ports.workers (all_true _ _ ports.sessions refl))))))),
+    )))))))
 serve_list (a ∷ b ∷ c ∷ d ∷ e ∷ f ∷ g ∷ h ∷ i ∷ x ∷ rest) k len name named = absurd (omega (arith, len))
 
 plain_either : (word : List ℕ) → is_plain word ≡ true → is_plain (handed word) ≡ true
@@ -216,12 +291,12 @@ gen_list (a ∷ b ∷ c ∷ []) k len name named =
     let (start, is_start) = map_some (population_with p) (number_of c) population more in
     let values = b ∷ handed c ∷ [] in
     let first : a ≡ codes "gen" = (bytes_eq-Decides a (codes "gen")).0 name in
-    inr (inr (inr (inr (inr (
+    inr (inr (inr (inr (inr (inr (inr (
       values,
       handed_at a b c [] ∙ ap (λ (word : List ℕ). word ∷ values) first,
       refl,
       all_true _ _ (plain_within 1 MOST_PERSONS p b persons) (all_true _ _ (plain_either c (plain_number c start is_start)) refl),
-    )))))
+    )))))))
 gen_list (a ∷ b ∷ c ∷ x ∷ rest) k len name named = absurd (omega (arith, len))
 
 -- so do those of a command that is made of its inputs and its script's name
@@ -243,6 +318,18 @@ serve_tested words k h =
     let (len, name) = both (length words == 9) (bytes_eq (word_at words 0) (codes "serve")) test in
     serve_list words k (eqb-true (length words) 9 len) name named
 
+units_tested : (words : List (List ℕ)) (k : Command) → units_words words ≡ Some k → AreTested words
+units_tested words k h =
+    let (test, named) = if_some ((length words == 9) && bytes_eq (word_at words 0) (codes "units")) (units_named (word_at words 1) (word_at words 2) (word_at words 3) (word_at words 4) (word_at words 5) (word_at words 6) (word_at words 7) (word_at words 8)) k h in
+    let (len, name) = both (length words == 9) (bytes_eq (word_at words 0) (codes "units")) test in
+    units_list words k (eqb-true (length words) 9 len) name named
+
+host_tested : (words : List (List ℕ)) (k : Command) → host_words words ≡ Some k → AreTested words
+host_tested words k h =
+    let (test, named) = if_some ((length words == 10) && bytes_eq (word_at words 0) (codes "host")) (host_named (word_at words 1) (word_at words 2) (word_at words 3) (word_at words 4) (word_at words 5) (word_at words 6) (word_at words 7) (word_at words 8) (word_at words 9)) k h in
+    let (len, name) = both (length words == 10) (bytes_eq (word_at words 0) (codes "host")) test in
+    host_list words k (eqb-true (length words) 10 len) name named
+
 gen_tested : (words : List (List ℕ)) (k : Command) → gen_words words ≡ Some k → AreTested words
 gen_tested words k h =
     let (test, named) = if_some ((length words == 3) && bytes_eq (word_at words 0) (codes "gen")) (gen_named (word_at words 1) (word_at words 2)) k h in
@@ -258,13 +345,17 @@ either P None other x h one two = two h
 pub tested : (words : List (List ℕ)) (k : Command) → command_of words ≡ Some k → AreTested words
 tested words k h =
     let served = option_or (serve_words words) (gen_words words) in
-    let followed = option_or (follow_words words) served in
+    let hosted = option_or (host_words words) served in
+    let counted = option_or (units_words words) hosted in
+    let followed = option_or (follow_words words) counted in
     let kept = option_or (keep_words words) followed in
     either (AreTested words) (script_words words) (option_or (lanes_words words) kept) k h
     (λ is. inl (made_tested (codes "script") (λ named. command.Script named.0 named.1) words k is))
     (λ more. either (AreTested words) (lanes_words words) kept k more
     (λ is. inr (inl (made_tested (codes "lanes") (λ named. command.Lanes named.0 named.1) words k is)))
     (λ most. either (AreTested words) (keep_words words) followed k most (keep_tested words k)
-    (λ rest. either (AreTested words) (follow_words words) served k rest
+    (λ rest. either (AreTested words) (follow_words words) counted k rest
     (λ is. inr (inr (inr (inl (made_tested (codes "follow") (λ named. command.Follow named.0 named.1) words k is)))))
-    (λ last. either (AreTested words) (serve_words words) (gen_words words) k last (serve_tested words k) (gen_tested words k)))))
+    (λ other. either (AreTested words) (units_words words) hosted k other (units_tested words k)
+    (λ further. either (AreTested words) (host_words words) served k further (host_tested words k)
+    (λ last. either (AreTested words) (serve_words words) (gen_words words) k last (serve_tested words k) (gen_tested words k)))))))

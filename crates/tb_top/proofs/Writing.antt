@@ -40,6 +40,7 @@ module _ (call : Call) (command : Command) (asked : AskedValue) (s : Status) (te
     idle = same-idle call.ports call.ports_after same fresh;
     others = λ h. same;
     kept = disk.kept;
+    hosted = disk.hosted;
     still = disk.still;
   }
   keeps_by_written (inr (is, failed, part)) = record {
@@ -58,5 +59,6 @@ module _ (call : Call) (command : Command) (asked : AskedValue) (s : Status) (te
     idle = same-idle call.ports call.ports_after same fresh;
     others = λ h. same;
     kept = disk.kept;
+    hosted = disk.hosted;
     still = disk.still;
   }

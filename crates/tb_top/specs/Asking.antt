@@ -21,6 +21,13 @@ use Rattle.tb_schema.specs.declared.fault.ClassFile.TheVariants as class_file
 use Rattle.tb_schema.specs.declared.fault.SchemaFault.{SchemaFault}
 use Rattle.tb_schema.specs.declared.fault.SchemaFault.TheVariants as schema_fault
 use Rattle.tb_script.specs.Scripts.{ScriptValue, script_of}
+use Rattle.tb_model.specs.Units.{UnitsValue}
+use Rattle.tb_units.specs.Kinds.{fault_name as units_name}
+use Rattle.tb_units.specs.Units.{units_of}
+use Rattle.tb_units.specs.declared.fault.UnitsFault.{UnitsFault}
+use Rattle.tb_units.specs.declared.fault.UnitsFault.TheVariants as units_fault
+use Rattle.tb_units.specs.declared.fault.UnitsFile.{UnitsFile}
+use Rattle.tb_units.specs.declared.fault.UnitsFile.TheVariants as units_file
 use Rattle.tb_top.specs.declared.endings.Input.{Input}
 use Rattle.tb_top.specs.declared.endings.Input.TheVariants as input
 use Rattle.tb_top.specs.declared.endings.End.{End}
@@ -51,6 +58,8 @@ most_bytes input.Classes = MOST_BYTES
 most_bytes input.Recodes = MOST_BYTES
 most_bytes input.Ptable = MOST_BYTES
 most_bytes input.People = MOST_BYTES
+most_bytes input.Dwellings = MOST_BYTES
+most_bytes input.Links = MOST_BYTES
 most_bytes input.Script = MOST_SCRIPT_BYTES
 
 -- the bytes of a file, which may not be there or be too long
@@ -73,6 +82,16 @@ input_of class_file.Recodes = input.Recodes
 abbrev pub schema_end : SchemaFault → End
 schema_end (schema_fault.Refused file kind at) = end.Refused (input_of file) (schema_name kind) at
 schema_end schema_fault.Memory = end.Memory
+
+-- which file a fault of dwellings or of links is in
+abbrev pub units_input : UnitsFile → Input
+units_input units_file.Dwellings = input.Dwellings
+units_input units_file.Links = input.Links
+
+-- the end for dwellings or links that are refused
+abbrev pub units_end : UnitsFault → End
+units_end (units_fault.Refused file kind at) = end.Refused (units_input file) (units_name kind) at
+units_end units_fault.Memory = end.Memory
 
 -- what a reader gives, or the end for what it refuses
 abbrev pub or_end : {A E : Type 0} → (E → End) → Result A E → Result A End
@@ -130,14 +149,33 @@ census_in inputs contents =
       records = records;
     }))))
 
+-- the dwellings and the links are both read before either is checked
+abbrev pub units_in : Keys → Contents → Result UnitsValue End
+units_in keys contents =
+    bytes_in input.Dwellings (contents input.Dwellings) >>= (λ dwellings.
+    bytes_in input.Links (contents input.Links) >>= (λ links.
+    or_end units_end (units_of keys dwellings links)))
+
+-- a census with these dwellings
+abbrev pub with_units : CensusValue → UnitsValue → CensusValue
+with_units census units =
+    record census { setup = record census.setup { units = Some units } }
+
+-- what the files of inputs hold, with dwellings
+abbrev pub counted_in : Inputs → Contents → Result CensusValue End
+counted_in inputs contents =
+    census_in inputs contents >>= (λ census.
+    units_in census.setup.schema.keys contents >>= (λ units. Ok (with_units census units)))
+
 -- what is asked for over a census: replies to the lines of a script, one after another, of its
--- lanes at the same time, with a journal under a name, or by a follower; sessions; or, over that of
--- a generated population, a summary of such replies
+-- lanes at the same time, with a journal under a name, or by a follower; sessions, with a journal
+-- or without; or, over that of a generated population, a summary of such replies
 pub data AskedValue : Type 0 where
   Script : CensusValue → ScriptValue → AskedValue
   Lanes : CensusValue → ScriptValue → AskedValue
   Keep : CensusValue → (journal : List ℕ) → ScriptValue → AskedValue
   Follow : CensusValue → ScriptValue → AskedValue
+  Host : CensusValue → (journal : List ℕ) → Service → AskedValue
   Serve : CensusValue → Service → AskedValue
   Gen : Population → CensusValue → ScriptValue → AskedValue
 
@@ -147,15 +185,17 @@ is_service (Script census script) = false
 is_service (Lanes census script) = false
 is_service (Keep census journal script) = false
 is_service (Follow census script) = false
+is_service (Host census journal service) = true
 is_service (Serve census service) = true
 is_service (Gen population census script) = false
 
--- whether it is replies with a journal
+-- whether it is replies, or sessions, with a journal
 abbrev pub is_keep : AskedValue → Bool
 is_keep (Script census script) = false
 is_keep (Lanes census script) = false
 is_keep (Keep census journal script) = true
 is_keep (Follow census script) = false
+is_keep (Host census journal service) = true
 is_keep (Serve census service) = false
 is_keep (Gen population census script) = false
 
@@ -165,11 +205,22 @@ scripted_in inputs contents =
     census_in inputs contents >>= (λ census.
     script_in contents >>= (λ script. Ok (census, script)))
 
+-- the census with dwellings, and the script, that the files hold
+abbrev pub counted_script_in : Inputs → Contents → Result (CensusValue × ScriptValue) End
+counted_script_in inputs contents =
+    counted_in inputs contents >>= (λ census.
+    script_in contents >>= (λ script. Ok (census, script)))
+
 -- what is asked for over them
 abbrev pub script_over : (CensusValue → ScriptValue → AskedValue) → Inputs → Contents
     → Result AskedValue End
 script_over task inputs contents =
     scripted_in inputs contents >>= (λ read. Ok (task read.0 read.1))
+
+-- what is asked for by sessions with a journal of this name over them
+abbrev pub host_in : Inputs → (journal : List ℕ) → Service → Contents → Result AskedValue End
+host_in inputs journal service contents =
+    census_in inputs contents >>= (λ census. Ok (Host census journal service))
 
 -- what a generated population asks for: what a script would over the generated files
 abbrev pub generated_asked : Population → Result AskedValue End
@@ -183,6 +234,9 @@ asked_over (command.Lanes inputs name) contents = script_over Lanes inputs conte
 asked_over (command.Keep inputs journal script) contents =
     script_over (λ census script. Keep census journal script) inputs contents
 asked_over (command.Follow inputs name) contents = script_over Follow inputs contents
+asked_over (command.Units inputs dwellings links script) contents =
+    counted_script_in inputs contents >>= (λ read. Ok (Script read.0 read.1))
+asked_over (command.Host inputs journal service) contents = host_in inputs journal service contents
 asked_over (command.Serve inputs service) contents =
     census_in inputs contents >>= (λ census. Ok (Serve census service))
 asked_over (command.Gen population) contents = generated_asked population
@@ -193,7 +247,9 @@ input_place input.Classes = 0
 input_place input.Recodes = 1
 input_place input.Ptable = 2
 input_place input.People = 3
-input_place input.Script = 4
+input_place input.Dwellings = 4
+input_place input.Links = 5
+input_place input.Script = 6
 
 -- what these files hold, where `at` tells what stands under a name
 abbrev pub contents_at : (List ℕ → Option (List ℕ)) → List NamedFile → Contents

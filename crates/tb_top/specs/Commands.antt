@@ -109,6 +109,40 @@ keep_words words =
     (word_at words 5) (word_at words 6) (word_at words 7)
     else None
 
+-- what `units CLASSES RECODES PTABLE PEOPLE THRESHOLD DWELLINGS LINKS SCRIPT` asks for
+abbrev pub units_named : (classes recodes ptable people threshold dwellings links script : List ℕ)
+    → Option Command
+units_named classes recodes ptable people threshold dwellings links script =
+    if is_file_name dwellings && is_file_name links
+    then option_map (λ named. command.Units named.0 dwellings links named.1)
+    (with_script classes recodes ptable people threshold script)
+    else None
+
+abbrev pub units_words : List (List ℕ) → Option Command
+units_words words =
+    if (length words == 9) && bytes_eq (word_at words 0) (codes "units")
+    then units_named (word_at words 1) (word_at words 2) (word_at words 3) (word_at words 4)
+    (word_at words 5) (word_at words 6) (word_at words 7) (word_at words 8)
+    else None
+
+-- what `host CLASSES RECODES PTABLE PEOPLE THRESHOLD JOURNAL PORT WORKERS SESSIONS` asks for
+abbrev pub host_named :
+    (classes recodes ptable people threshold journal port workers sessions : List ℕ)
+    → Option Command
+host_named classes recodes ptable people threshold journal port workers sessions =
+    if is_file_name journal
+    then option_and_then (λ inputs.
+    option_map (command.Host inputs journal) (service_named port workers sessions))
+    (inputs_named classes recodes ptable people threshold)
+    else None
+
+abbrev pub host_words : List (List ℕ) → Option Command
+host_words words =
+    if (length words == 10) && bytes_eq (word_at words 0) (codes "host")
+    then host_named (word_at words 1) (word_at words 2) (word_at words 3) (word_at words 4)
+    (word_at words 5) (word_at words 6) (word_at words 7) (word_at words 8) (word_at words 9)
+    else None
+
 -- what `serve CLASSES RECODES PTABLE PEOPLE THRESHOLD PORT WORKERS SESSIONS` asks for
 abbrev pub serve_words : List (List ℕ) → Option Command
 serve_words words =
@@ -130,7 +164,9 @@ command_of words =
     option_or (script_words words)
     (option_or (lanes_words words)
     (option_or (keep_words words)
-    (option_or (follow_words words) (option_or (serve_words words) (gen_words words)))))
+    (option_or (follow_words words)
+    (option_or (units_words words)
+    (option_or (host_words words) (option_or (serve_words words) (gen_words words)))))))
 
 -- an input and the name of its file
 pub record NamedFile : Type 0 where
@@ -159,6 +195,12 @@ input_files inputs =
 abbrev pub scripted_files : Inputs → List ℕ → List NamedFile
 scripted_files inputs script = input_files inputs ++ (named input.Script script ∷ [])
 
+-- those of all inputs, with dwellings and links
+abbrev pub counted_files : Inputs → (dwellings links : List ℕ) → List NamedFile
+counted_files inputs dwellings links =
+    input_files inputs
+    ++ (named input.Dwellings dwellings ∷ named input.Links links ∷ [])
+
 -- the files of a command, in the order in which they are read: those of its inputs, then its
 -- task's, a journal apart, which isn't read like them; a generated population has none
 abbrev pub command_files : Command → List NamedFile
@@ -166,16 +208,21 @@ command_files (command.Script inputs script) = scripted_files inputs script
 command_files (command.Lanes inputs script) = scripted_files inputs script
 command_files (command.Keep inputs journal script) = scripted_files inputs script
 command_files (command.Follow inputs script) = scripted_files inputs script
+command_files (command.Units inputs dwellings links script) =
+    counted_files inputs dwellings links ++ (named input.Script script ∷ [])
+command_files (command.Host inputs journal service) = input_files inputs
 command_files (command.Serve inputs service) = input_files inputs
 command_files (command.Gen population) = []
 
 -- whether sessions are asked for
 abbrev pub asks_to_serve : Option Command → Bool
 asks_to_serve (Some (command.Serve inputs service)) = true
+asks_to_serve (Some (command.Host inputs journal service)) = true
 asks_to_serve (Some (command.Script inputs script)) = false
 asks_to_serve (Some (command.Lanes inputs script)) = false
 asks_to_serve (Some (command.Keep inputs journal script)) = false
 asks_to_serve (Some (command.Follow inputs script)) = false
+asks_to_serve (Some (command.Units inputs dwellings links script)) = false
 asks_to_serve (Some (command.Gen population)) = false
 asks_to_serve None = false
 
@@ -186,15 +233,19 @@ asks_to_generate (Some (command.Script inputs script)) = false
 asks_to_generate (Some (command.Lanes inputs script)) = false
 asks_to_generate (Some (command.Keep inputs journal script)) = false
 asks_to_generate (Some (command.Follow inputs script)) = false
+asks_to_generate (Some (command.Units inputs dwellings links script)) = false
+asks_to_generate (Some (command.Host inputs journal service)) = false
 asks_to_generate (Some (command.Serve inputs service)) = false
 asks_to_generate None = false
 
 -- whether a journal is to be kept
 abbrev pub asks_to_keep : Option Command → Bool
 asks_to_keep (Some (command.Keep inputs journal script)) = true
+asks_to_keep (Some (command.Host inputs journal service)) = true
 asks_to_keep (Some (command.Script inputs script)) = false
 asks_to_keep (Some (command.Lanes inputs script)) = false
 asks_to_keep (Some (command.Follow inputs script)) = false
+asks_to_keep (Some (command.Units inputs dwellings links script)) = false
 asks_to_keep (Some (command.Serve inputs service)) = false
 asks_to_keep (Some (command.Gen population)) = false
 asks_to_keep None = false

@@ -16,6 +16,8 @@ input_name input.Classes = codes "classes"
 input_name input.Recodes = codes "recodes"
 input_name input.Ptable = codes "ptable"
 input_name input.People = codes "people"
+input_name input.Dwellings = codes "dwellings"
+input_name input.Links = codes "links"
 input_name input.Script = codes "script"
 
 -- the status for a file that is too long or refused
@@ -24,6 +26,8 @@ input_status input.Classes = status.Schema
 input_status input.Recodes = status.Schema
 input_status input.Ptable = status.Perturbation
 input_status input.People = status.Microdata
+input_status input.Dwellings = status.Units
+input_status input.Links = status.Units
 input_status input.Script = status.Script
 
 -- the status with which a run ends

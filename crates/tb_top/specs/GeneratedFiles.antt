@@ -1,5 +1,5 @@
 -- The generated files of a population, in place of files that are read.
-use Rattle.std.specs.Prelude.{◌≡◌, ℕ, List, Option, Some}
+use Rattle.std.specs.Prelude.{◌≡◌, ℕ, List, IfSome, Option, None, Some}
 use Rattle.tb_gen.specs.Generated.{generated_classes, generated_people, generated_ptable, generated_recodes, generated_script}
 use Rattle.tb_io.specs.HeldFiles.{HeldFiles, bytes_of}
 use Rattle.tb_top.specs.declared.command.Inputs.{Inputs}
@@ -16,6 +16,8 @@ generated_contents population input.Recodes = Some generated_recodes
 generated_contents population input.Ptable = Some (generated_ptable population.start)
 generated_contents population input.People =
     Some (generated_people population.persons population.start)
+generated_contents population input.Dwellings = None
+generated_contents population input.Links = None
 generated_contents population input.Script =
     Some (generated_script population.persons population.start)
 
@@ -32,4 +34,6 @@ generated_inputs = record {
 -- files in memory that hold them
 abbrev pub HoldGenerated : Population → HeldFiles → Type 0
 HoldGenerated population files =
-    (file : Input) → bytes_of files (input_name file) ≡ generated_contents population file
+    (file : Input)
+    → IfSome (generated_contents population file)
+    (λ bytes. bytes_of files (input_name file) ≡ Some bytes)

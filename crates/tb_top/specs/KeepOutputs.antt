@@ -8,8 +8,8 @@ use Rattle.tb_keep.specs.JournalRuns.{AreLinesKept, IsJournalFault, IsLeftAsItWa
 use Rattle.tb_keep.specs.JournalRuns.{after_playing}
 use Rattle.tb_keep.specs.KeptRuns.{IsKeptReply}
 use Rattle.tb_keep.specs.Playing.{CanAllFollow}
-use Rattle.tb_keep.specs.declared.journal_run.JournalFault.{JournalFault}
-use Rattle.tb_keep.specs.declared.journal_run.JournalFault.TheVariants as journal_fault
+use Rattle.tb_keep.specs.declared.recovery.JournalFault.{JournalFault}
+use Rattle.tb_keep.specs.declared.recovery.JournalFault.TheVariants as journal_fault
 use Rattle.tb_lines.specs.Outputs.{AreReplies, ReplyValue}
 use Rattle.tb_release.specs.declared.edits.Edit.{Edit}
 use Rattle.tb_rows.specs.FaultNames.{FaultNameValue}

@@ -10,6 +10,7 @@ pub mod Asking
 pub mod Services
 pub mod LaneOutputs
 pub mod KeepOutputs
+pub mod HostOutputs
 pub mod Outputs
 pub mod Calls
 pub mod Promises

@@ -14,10 +14,11 @@ use Rattle.tb_serve.specs.Serves.{output}
 use Rattle.tb_ahead.specs.Publishing.{after_seeing}
 use Rattle.tb_lines.specs.Outputs.{AreReplies, ReplyValue, price_of, text_of}
 use Rattle.tb_top.specs.declared.endings.End.TheVariants as end
-use Rattle.tb_top.specs.Asking.{AskedValue, CensusValue, Follow, Gen, Keep, Lanes, Script, Serve, base_of}
+use Rattle.tb_top.specs.Asking.{AskedValue, CensusValue, Follow, Gen, Host, Keep, Lanes, Script, Serve, base_of}
 use Rattle.tb_top.specs.Endings.{IsEnded, IsLineWritten, last_line}
 use Rattle.tb_top.specs.KeepOutputs.{AreKeepReplies, DiskSeen, IsKeepAnswered, IsStill}
 use Rattle.tb_top.specs.KeepOutputs.{kept_seen}
+use Rattle.tb_top.specs.HostOutputs.{IsHostAnswered, IsHostOutput}
 use Rattle.tb_top.specs.LaneOutputs.{AreLanesAnswered, IsTextOfPhases, IsTextToMemory}
 use Rattle.tb_top.specs.Populations.{Population}
 use Rattle.tb_top.specs.Services.{IsServiceAnswered, IsServiceOutput}
@@ -45,6 +46,7 @@ AreAnswers (Script census script) replies = AreScriptReplies census script repli
 AreAnswers (Lanes census script) replies = ⊥
 AreAnswers (Keep census journal script) replies = AreKeepReplies census script replies
 AreAnswers (Follow census script) replies = AreFollowReplies census script replies
+AreAnswers (Host census journal service) replies = ⊥
 AreAnswers (Serve census service) replies = ⊥
 AreAnswers (Gen population census script) replies = AreScriptReplies census script replies
 
@@ -65,6 +67,8 @@ IsOutput (Follow census script) ports ports' s text =
     (s ≡ status.Done)
     × ((replies : List ReplyValue) × AreAnswers (Follow census script) replies
     × (text ≡ text_of replies))
+IsOutput (Host census journal service) ports ports' s text =
+    IsHostOutput census service ports ports' s text
 IsOutput (Serve census service) ports ports' s text =
     IsServiceOutput census service ports ports' s text
 IsOutput (Gen population census script) ports ports' s text =
@@ -84,6 +88,7 @@ IsBegun (Keep census journal script) s replies taken taken' =
     (s ≢ status.Memory) × TookPart taken taken' (text_of replies)
 IsBegun (Follow census script) s replies taken taken' =
     (s ≢ status.Memory) × TookPart taken taken' (text_of replies)
+IsBegun (Host census journal service) s replies taken taken' = ⊥
 IsBegun (Serve census service) s replies taken taken' = ⊥
 IsBegun (Gen population census script) s replies taken taken' =
     ((s ≢ status.Memory) × TookPart taken taken' (summary_line population (text_of replies)))
@@ -95,6 +100,7 @@ IsOutputToMemory (Script census script) text = ⊥
 IsOutputToMemory (Lanes census script) text = IsTextToMemory census script text
 IsOutputToMemory (Keep census journal script) text = ⊥
 IsOutputToMemory (Follow census script) text = ⊥
+IsOutputToMemory (Host census journal service) text = ⊥
 IsOutputToMemory (Serve census service) text = ⊥
 IsOutputToMemory (Gen population census script) text = ⊥
 
@@ -131,8 +137,8 @@ IsGenAnswered population census script s faults faults' taken taken' steps steps
     ⊎ ((steps' ≡ steps) × IsEnded end.Memory s faults faults' taken taken')
 
 -- What is asked for was answered, over these ports and this disk. A script touches no port, only
--- one with a journal touches the disk, and what lanes at the same time and a service cost is
--- counted elsewhere.
+-- what is asked for with a journal touches the disk, and what lanes at the same time and sessions
+-- cost is counted elsewhere.
 abbrev pub IsAnswered : AskedValue → (ports ports' : List PortValue) → DiskSeen → Status
     → (faults faults' : ℕ) → (taken taken' : Option (List ℕ)) → (steps steps' : ℕ) → Type 0
 IsAnswered (Script census script) ports ports' disk s faults faults' taken taken' steps steps' =
@@ -149,6 +155,10 @@ IsAnswered (Keep census journal script) ports ports' disk s faults faults' taken
 IsAnswered (Follow census script) ports ports' disk s faults faults' taken taken' steps steps' =
     (ports' ≡ ports) × IsStill disk
     × IsScriptAnswered (Follow census script) s faults faults' taken taken' steps steps'
+IsAnswered (Host census journal service) ports ports' disk s faults faults' taken taken' steps
+    steps' =
+    (steps' ≡ steps)
+    × IsHostAnswered census service journal ports ports' s (output taken taken' faults faults') disk
 IsAnswered (Serve census service) ports ports' disk s faults faults' taken taken' steps steps' =
     IsStill disk × (steps' ≡ steps)
     × IsServiceAnswered census service ports ports' s faults faults' taken taken'

@@ -6,17 +6,19 @@ use Rattle.tb_lines.specs.Outputs.{ReplyValue, price_of}
 use Rattle.tb_top.specs.declared.endings.Input.{Input}
 use Rattle.tb_top.specs.declared.endings.End.{End}
 use Rattle.tb_top.specs.declared.endings.End.TheVariants as end
-use Rattle.tb_top.specs.Asking.{AskedValue, CensusValue, Keep, asked_by, asked_of, contents_at, contents_for}
+use Rattle.tb_top.specs.Asking.{AskedValue, CensusValue, Host, Keep, asked_by, asked_of, contents_at, contents_for}
 use Rattle.tb_top.specs.Calls.{Call, HasTaken, IsReadTo, NetFailed, ReadFailed, WriteFailed}
 use Rattle.tb_top.specs.Calls.{journal_seen, output_of}
 use Rattle.tb_top.specs.Commands.{asks_to_generate, asks_to_keep, asks_to_serve, command_of, command_files}
 use Rattle.tb_top.specs.declared.command.Command.{Command}
 use Rattle.tb_top.specs.Endings.{last_line, status_of}
+use Rattle.tb_top.specs.HostOutputs.{IsHostAnswered}
 use Rattle.tb_top.specs.KeepOutputs.{AreKeepLinesAnswered, HasFailed, IsKeepLine, IsStill}
 use Rattle.tb_top.specs.KeepOutputs.{disk_line, journal_line}
 use Rattle.tb_top.specs.Outputs.{AreAnswers, IsBegun, IsOutput, IsOutputToMemory}
+use Rattle.tb_top.specs.ServicePorts.{Service}
 use Rattle.tb_top.specs.Services.{IsIdle, IsUnserved}
-use Rattle.tb_keep.specs.declared.journal_run.JournalFault.{JournalFault}
+use Rattle.tb_keep.specs.declared.recovery.JournalFault.{JournalFault}
 use Rattle.tb_script.specs.Scripts.{ScriptValue}
 use Rattle.tb_serve.specs.Each.{Each}
 use Rattle.tb_serve.specs.Serves.{IsEnded}
@@ -60,16 +62,22 @@ IsMemoryText call at text =
     (text ≡ last_line end.Memory)
     ⊎ ((asked : AskedValue) × (asked_of at call.words ≡ Ok asked) × IsOutputToMemory asked text)
 
+-- a script's replies or sessions are asked for over this census, with a journal of this name
+abbrev pub AsksWithJournal : Call → (List ℕ → Option (List ℕ)) → CensusValue → (journal : List ℕ)
+    → Type 0
+AsksWithJournal call at census journal =
+    ((script : ScriptValue) × (asked_of at call.words ≡ Ok (Keep census journal script)))
+    ⊎ ((service : Service) × (asked_of at call.words ≡ Ok (Host census journal service)))
+
 -- a text is the last line, with this status, of a run whose journal was refused or couldn't be read
 abbrev pub IsJournalText : Call → (List ℕ → Option (List ℕ)) → Status → List ℕ → Type 0
 IsJournalText call at s text =
-    (census : CensusValue) × (journal : List ℕ) × (script : ScriptValue)
-    × (asked_of at call.words ≡ Ok (Keep census journal script))
+    (census : CensusValue) × (journal : List ℕ) × AsksWithJournal call at census journal
     × IsKeepLine census (journal_seen call journal) s text
 
 -- a text is what a run with this status writes where no write fails: with Done and NetFault an
--- output, with another status its last line; with Memory no session came or went, and only the
--- texts of phases that had ended stand before the last line
+-- output, with another status its last line; with DiskFault either; with Memory no session came or
+-- went, and only the texts of phases that had ended stand before the last line
 abbrev pub IsWhole : Call → (List ℕ → Option (List ℕ)) → Status → List ℕ → Type 0
 IsWhole call at status.Done text = IsAskedOutput call at status.Done text
 IsWhole call at status.Usage text = IsLastLine call at status.Usage text
@@ -83,7 +91,9 @@ IsWhole call at status.Memory text =
     IsMemoryText call at text × Each (λ _. IsUnserved) call.ports call.ports_after
 IsWhole call at status.NetFault text = IsAskedOutput call at status.NetFault text
 IsWhole call at status.Journal text = IsJournalText call at status.Journal text
-IsWhole call at status.DiskFault text = IsJournalText call at status.DiskFault text
+IsWhole call at status.DiskFault text =
+    IsJournalText call at status.DiskFault text ⊎ IsAskedOutput call at status.DiskFault text
+IsWhole call at status.Units text = IsLastLine call at status.Units text
 
 -- the same, or, where a write failed, a beginning of such a text
 abbrev pub IsTextOf : Call → (List ℕ → Option (List ℕ)) → Status → List ℕ → Type 0
@@ -101,7 +111,7 @@ abbrev pub defined_status : Result AskedValue End → Status
 defined_status (Ok asked) = status.Done
 defined_status (Err e) = status_of e
 
--- no other status comes but Memory, where a count of faults rose, or where a journal is refused
+-- no other status comes but Memory, where a count of faults rose, or that of a journal
 abbrev pub IsDefined : Call → (List ℕ → Option (List ℕ)) → Status → Type 0
 IsDefined call at s =
     (s ≡ defined_status (asked_of at call.words))
@@ -109,7 +119,9 @@ IsDefined call at s =
     ⊎ (((s ≡ status.ReadFault) × ReadFailed call)
     ⊎ (((s ≡ status.WriteFault) × WriteFailed call)
     ⊎ (((s ≡ status.NetFault) × NetFailed call)
-    ⊎ ((text : List ℕ) × IsJournalText call at s text)))))
+    ⊎ (((text : List ℕ) × IsJournalText call at s text)
+    ⊎ ((s ≡ status.DiskFault)
+    × ((text : List ℕ) × IsAskedOutput call at status.DiskFault text)))))))
 
 -- the counter rose by no more than the price of some replies to a script, of which a beginning of
 -- what is written with this status was taken
@@ -138,6 +150,17 @@ IsJournalKept call at s =
     × ((final : Status) × (text : List ℕ) × IsSomeLastLine final text
     × IsEnded text final (output_of call) s))
 
+-- Where sessions with a journal were asked for: they were served, and what a stop now may leave
+-- stands for the batches to which they led; or the run ended before that, with a last line.
+abbrev pub IsHostKept : Call → (List ℕ → Option (List ℕ)) → Status → Type 0
+IsHostKept call at s =
+    (census : CensusValue) → (journal : List ℕ) → (service : Service)
+    → asked_of at call.words ≡ Ok (Host census journal service)
+    → IsHostAnswered census service journal call.ports call.ports_after s (output_of call) call.disk
+    ⊎ ((call.ports_after ≡ call.ports) × IsStill call.disk
+    × ((final : Status) × (text : List ℕ) × IsSomeLastLine final text
+    × IsEnded text final (output_of call) s))
+
 -- what a call keeps, whatever its status
 pub record Keeps (call : Call) (s : Status) : Type 0 where
   -- What the sink took is the text of that status.
@@ -146,11 +169,16 @@ pub record Keeps (call : Call) (s : Status) : Type 0 where
   pub usage : s ≡ status.Usage
       → (command_of call.words ≡ None) × HasTaken call (last_line end.Usage)
   pub words : command_of call.words ≡ None → (s ≡ status.Usage) ⊎ (s ≡ status.WriteFault)
-  -- A fault of the outside comes only where its count rose.
+  -- A fault of the outside comes only where its count rose; but where sessions are served
+  -- with a journal, DiskFault comes where that isn't live at the end, of which `hosted` tells the
+  -- cause.
   pub read_fault : s ≡ status.ReadFault → ReadFailed call
   pub write_fault : s ≡ status.WriteFault → WriteFailed call
   pub net_fault : s ≡ status.NetFault → NetFailed call
-  pub disk_fault : s ≡ status.DiskFault → HasFailed call.disk
+  pub disk_fault : s ≡ status.DiskFault
+      → HasFailed call.disk
+      ⊎ ((asks_to_serve (command_of call.words) ≡ true)
+      × (asks_to_keep (command_of call.words) ≡ true))
   -- No status comes but the defined one, Memory, a fault whose count rose, or that of a journal.
   pub exact : IfSome call.content (λ at. IsDefined call at s)
   -- The counter rises by no more than the replies' price, and not at all where no line is answered,
@@ -163,7 +191,8 @@ pub record Keeps (call : Call) (s : Status) : Type 0 where
   -- At the return no one is served at a port, and where no sessions are asked for none changed.
   pub idle : All IsIdle call.ports_after
   pub others : asks_to_serve (command_of call.words) ≡ false → call.ports_after ≡ call.ports
-  -- A script with a journal was answered so that its batches are kept; and where none is asked for
-  -- the disk was left alone.
+  -- A script with a journal was answered, and sessions with one were served, so that the batches
+  -- are kept; and where none is asked for the disk was left alone.
   pub kept : IfSome call.content (λ at. IsJournalKept call at s)
+  pub hosted : IfSome call.content (λ at. IsHostKept call at s)
   pub still : asks_to_keep (command_of call.words) ≡ false → IsStill call.disk

@@ -2,11 +2,12 @@
 
 ghost use Rattle.std.specs.Prelude.{◌≡◌, None, Some, if◌then◌else◌, map, string_bytes};
 ghost use Rattle.tb_top.specs.Commands.{command_of, follow_words, gen_named, gen_words};
-ghost use Rattle.tb_top.specs.Commands.{inputs_named};
+ghost use Rattle.tb_top.specs.Commands.{host_named, host_words, inputs_named};
 ghost use Rattle.tb_top.specs.Commands.{is_file_name as names_a_file};
 ghost use Rattle.tb_top.specs.Commands.{keep_named, keep_words, lanes_words, may_name_recodes};
 ghost use Rattle.tb_top.specs.Commands.{recodes_name as name_of_recodes, script_words};
-ghost use Rattle.tb_top.specs.Commands.{serve_named, serve_words, with_script, words_with_script};
+ghost use Rattle.tb_top.specs.Commands.{serve_named, serve_words, units_named, units_words};
+ghost use Rattle.tb_top.specs.Commands.{with_script, words_with_script};
 ghost use Rattle.tb_top.specs.GeneratedFiles.{generated_inputs as inputs_of_generated};
 
 use crate::endings::Input;
@@ -46,9 +47,9 @@ pub struct Inputs<'a> {
 
 /// A command: one of several, each with its inputs and its task. `Script` answers the lines of the
 /// script of that name, `Lanes` its lanes at the same time, `Keep` as `Script`, with a journal
-/// under a name of its own, and `Follow` with a follower in place of a board; `Serve` serves
-/// sessions; `Gen` reads no files, and sums up what `Script` would write over those of a generated
-/// population.
+/// under a name of its own, `Follow` with a follower in place of a board, and `Units` with tables
+/// of dwellings too; `Serve` serves sessions, and `Host` does so with a journal; `Gen` reads no
+/// files, and sums up what `Script` would write over those of a generated population.
 #[derive(Drop)]
 pub enum Command<'a> {
     Script {
@@ -67,6 +68,17 @@ pub enum Command<'a> {
     Follow {
         inputs: Inputs<'a>,
         script: FileName<'a>,
+    },
+    Units {
+        inputs: Inputs<'a>,
+        dwellings: FileName<'a>,
+        links: FileName<'a>,
+        script: FileName<'a>,
+    },
+    Host {
+        inputs: Inputs<'a>,
+        journal: FileName<'a>,
+        service: Service,
     },
     Serve {
         inputs: Inputs<'a>,
@@ -196,6 +208,68 @@ fn read_keep<'a>(
     }
 }
 
+// The command that the arguments `CLASSES RECODES PTABLE PEOPLE THRESHOLD DWELLINGS LINKS SCRIPT`
+// name.
+fn read_units<'a>(
+    classes: &'a str,
+    recodes: &'a str,
+    ptable: &'a str,
+    people: &'a str,
+    threshold: &str,
+    dwellings: &'a str,
+    links: &'a str,
+    script: &'a str,
+) -> Option<Command<'a>>
+    ensures { result ≡ units_named classes.now recodes.now ptable.now people.now threshold.now
+        dwellings.now links.now script.now }
+{
+    if !is_file_name(dwellings) || !is_file_name(links) {
+        return None;
+    }
+    match read_script_inputs(classes, recodes, ptable, people, threshold, script) {
+        Some((inputs, script)) => Some(Command::Units {
+            inputs,
+            dwellings: FileName::of(dwellings),
+            links: FileName::of(links),
+            script,
+        }),
+        None => None,
+    }
+}
+
+// The command that the arguments `CLASSES RECODES PTABLE PEOPLE THRESHOLD JOURNAL PORT WORKERS
+// SESSIONS` name.
+fn read_host<'a>(
+    classes: &'a str,
+    recodes: &'a str,
+    ptable: &'a str,
+    people: &'a str,
+    threshold: &str,
+    journal: &'a str,
+    port: &str,
+    workers: &str,
+    sessions: &str,
+) -> Option<Command<'a>>
+    ensures { result
+        ≡ host_named classes.now recodes.now ptable.now people.now threshold.now journal.now
+        port.now workers.now sessions.now }
+{
+    if !is_file_name(journal) {
+        return None;
+    }
+    match read_inputs(classes, recodes, ptable, people, threshold) {
+        Some(inputs) => match read_service(port, workers, sessions) {
+            Some(service) => Some(Command::Host {
+                inputs,
+                journal: FileName::of(journal),
+                service,
+            }),
+            None => None,
+        },
+        None => None,
+    }
+}
+
 // The command that the arguments `CLASSES RECODES PTABLE PEOPLE THRESHOLD PORT WORKERS SESSIONS`
 // name.
 fn read_serve<'a>(
@@ -311,6 +385,76 @@ fn read_keep_words(words: &[String]) -> Option<Command<'_>>
     )
 }
 
+// What the arguments `units CLASSES RECODES PTABLE PEOPLE THRESHOLD DWELLINGS LINKS SCRIPT` ask
+// for.
+fn read_units_words(words: &[String]) -> Option<Command<'_>>
+    ensures { result ≡ units_words (map string_bytes words.now) }
+{
+    let [
+        command,
+        classes,
+        recodes,
+        ptable,
+        people,
+        threshold,
+        dwellings,
+        links,
+        script,
+    ] = words
+    else {
+        return None;
+    };
+    if command.as_str() != "units" {
+        return None;
+    }
+    read_units(
+        classes.as_str(),
+        recodes.as_str(),
+        ptable.as_str(),
+        people.as_str(),
+        threshold.as_str(),
+        dwellings.as_str(),
+        links.as_str(),
+        script.as_str(),
+    )
+}
+
+// What the arguments `host CLASSES RECODES PTABLE PEOPLE THRESHOLD JOURNAL PORT WORKERS SESSIONS`
+// ask for.
+fn read_host_words(words: &[String]) -> Option<Command<'_>>
+    ensures { result ≡ host_words (map string_bytes words.now) }
+{
+    let [
+        command,
+        classes,
+        recodes,
+        ptable,
+        people,
+        threshold,
+        journal,
+        port,
+        workers,
+        sessions,
+    ] = words
+    else {
+        return None;
+    };
+    if command.as_str() != "host" {
+        return None;
+    }
+    read_host(
+        classes.as_str(),
+        recodes.as_str(),
+        ptable.as_str(),
+        people.as_str(),
+        threshold.as_str(),
+        journal.as_str(),
+        port.as_str(),
+        workers.as_str(),
+        sessions.as_str(),
+    )
+}
+
 // What the arguments `serve CLASSES RECODES PTABLE PEOPLE THRESHOLD PORT WORKERS SESSIONS` ask for.
 fn read_serve_words(words: &[String]) -> Option<Command<'_>>
     ensures { result ≡ serve_words (map string_bytes words.now) }
@@ -371,9 +515,10 @@ pub fn generated_inputs<'a>() -> Inputs<'a>
 }
 
 /// What the arguments ask for: `script CLASSES RECODES PTABLE PEOPLE THRESHOLD SCRIPT`, `lanes` or
-/// `follow` with the same after it, `keep` with JOURNAL before SCRIPT, or `serve CLASSES RECODES
-/// PTABLE PEOPLE THRESHOLD PORT WORKERS SESSIONS`, RECODES being a file's name or `-`; or `gen N
-/// START`. None at all other arguments.
+/// `follow` with the same after it, `keep` with JOURNAL before SCRIPT, `units` with DWELLINGS and
+/// LINKS there, or `serve CLASSES RECODES PTABLE PEOPLE THRESHOLD PORT WORKERS SESSIONS`, or `host`
+/// with JOURNAL before PORT, RECODES being a file's name or `-`; or `gen N START`. None at all
+/// other arguments.
 pub fn read_command(words: &[String]) -> Option<Command<'_>>
     ensures { result ≡ command_of (map string_bytes words.now) }
 {
@@ -387,6 +532,12 @@ pub fn read_command(words: &[String]) -> Option<Command<'_>>
         return Some(command);
     }
     if let Some(command) = read_follow_words(words) {
+        return Some(command);
+    }
+    if let Some(command) = read_units_words(words) {
+        return Some(command);
+    }
+    if let Some(command) = read_host_words(words) {
         return Some(command);
     }
     if let Some(command) = read_serve_words(words) {

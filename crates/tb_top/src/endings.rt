@@ -3,6 +3,7 @@
 ghost use Rattle.std.specs.Prelude.{◌≡◌};
 ghost use Rattle.tb_io.specs.Taken.{IsWritten};
 ghost use Rattle.tb_top.specs.Asking.{file_end, input_of as input_of_file};
+ghost use Rattle.tb_top.specs.Asking.{units_input as input_of_units_file};
 ghost use Rattle.tb_top.specs.Endings.{fault_line, input_name, input_status, last_line};
 ghost use Rattle.tb_top.specs.Endings.{refusal_line};
 ghost use Rattle.tb_top.specs.Endings.{status_of};
@@ -13,6 +14,7 @@ use tb_base::{Memory, Status, print_number};
 use tb_io::{Sink, Wrote, write_all};
 use tb_rows::{Fault, FaultKind, FaultName};
 use tb_schema::{ClassFile, SchemaFault};
+use tb_units::{UnitsFault, UnitsFile};
 
 /// The files of a run, in the order in which they are read.
 #[derive(Clone, Copy, Debug, PartialEq, Eq)]
@@ -21,6 +23,8 @@ pub enum Input {
     Recodes,
     Ptable,
     People,
+    Dwellings,
+    Links,
     Script,
 }
 
@@ -92,6 +96,34 @@ fn input_of(file: ClassFile) -> Input
     }
 }
 
+impl From<UnitsFault> for End {
+    ghost use Rattle.std.specs.Prelude.{◌≡◌};
+    ghost use Rattle.tb_top.specs.Asking.{units_end};
+
+    ghost from_gives = { λ fault e. e ≡ units_end fault };
+
+    fn from(fault: UnitsFault) -> End {
+        match fault {
+            UnitsFault::Refused { file, kind, at } => End::Refused {
+                file: units_input(file),
+                name: kind.name(),
+                at,
+            },
+            UnitsFault::Memory => End::Memory,
+        }
+    }
+}
+
+// The file in which dwellings or links are refused.
+fn units_input(file: UnitsFile) -> Input
+    ensures { result ≡ input_of_units_file file }
+{
+    match file {
+        UnitsFile::Dwellings => Input::Dwellings,
+        UnitsFile::Links => Input::Links,
+    }
+}
+
 impl End {
     /// The end for a file that its reader refuses.
     pub fn of<K: FaultKind + Drop>(file: Input, fault: Fault<K>) -> End
@@ -159,6 +191,8 @@ impl Input {
             Input::Recodes => "recodes",
             Input::Ptable => "ptable",
             Input::People => "people",
+            Input::Dwellings => "dwellings",
+            Input::Links => "links",
             Input::Script => "script",
         }
     }
@@ -171,6 +205,7 @@ impl Input {
             Input::Classes | Input::Recodes => Status::Schema,
             Input::Ptable => Status::Perturbation,
             Input::People => Status::Microdata,
+            Input::Dwellings | Input::Links => Status::Units,
             Input::Script => Status::Script,
         }
     }

@@ -47,8 +47,8 @@ fn record_of(fault: &JournalFault) -> u32
     }
 }
 
-// Writes the last line of a run whose journal's file is refused.
-fn end_refused<O: Sink>(fault: &JournalFault, out: &mut O) -> Status
+/// Writes the last line of a run whose journal's file is refused.
+pub(crate) fn end_refused<O: Sink>(fault: &JournalFault, out: &mut O) -> Status
     ensures count { O.faults out.old ≤ O.faults out.new }
     ensures ended { IsEnded (journal_line fault.now) status.Journal
         (output (O.taken out.old) (O.taken out.new) (O.faults out.old) (O.faults out.new)) result }
@@ -60,8 +60,8 @@ fn end_refused<O: Sink>(fault: &JournalFault, out: &mut O) -> Status
     }
 }
 
-// Writes the last line of a run whose disk failed.
-fn end_by_disk<O: Sink>(out: &mut O) -> Status
+/// Writes the last line of a run whose disk failed.
+pub(crate) fn end_by_disk<O: Sink>(out: &mut O) -> Status
     ensures count { O.faults out.old ≤ O.faults out.new }
     ensures ended { IsEnded disk_line status.DiskFault
         (output (O.taken out.old) (O.taken out.new) (O.faults out.old) (O.faults out.new)) result }

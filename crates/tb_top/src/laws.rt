@@ -1,7 +1,7 @@
 // The top call over forms in memory.
 
 ghost use Rattle.std.specs.Prelude.{◌≡◌, ◌≢◌, ◌⊎◌, ◌+◌, All, Some, false, map, string_bytes};
-ghost use Rattle.std.specs.Prelude.{vec_len};
+ghost use Rattle.std.specs.Prelude.{true, vec_len};
 ghost use Rattle.tb_io.specs.Faults.{HasRisen};
 ghost use Rattle.tb_top.specs.KeepOutputs.{disk_seen};
 ghost use Rattle.tb_base.specs.declared.status.Status.TheVariants as status;
@@ -10,6 +10,7 @@ ghost use Rattle.tb_serve.specs.Stages.{IsFresh};
 ghost use Rattle.tb_serve.specs.Stages.{HasRisenSome};
 ghost use Rattle.tb_top.specs.declared.service.TheConstants.{MOST_WORKERS};
 ghost use Rattle.tb_top.specs.Asking.{asked_of};
+ghost use Rattle.tb_top.specs.Commands.{asks_to_keep, asks_to_serve, command_of};
 ghost use Rattle.tb_top.specs.InMemory.{Adds, NamesTheFailingRead, memory_call};
 ghost use Rattle.tb_top.specs.Promises.{IsDefined, defined_status};
 
@@ -25,8 +26,9 @@ use tb_serve::Port;
 
 /// Runs one command over files and a sink whose counts of faults are the constant 0: no fault of
 /// files and the sink can come, and the status is the one that the arguments and the files define,
-/// Memory, NetFault where a listener failed, or, for a script with a journal, Journal or DiskFault.
-pub fn run_surely<N: Listen + Send, D: Disk, L: Ledger>(
+/// Memory, NetFault where a listener failed, or, where a journal is asked for, Journal or
+/// DiskFault.
+pub fn run_surely<N: Listen + Send, D: Disk + Send, L: Ledger>(
     rt: &(impl Threads + Wait + Sync),
     alloc: Global,
     words: &[String],
@@ -47,14 +49,16 @@ pub fn run_surely<N: Listen + Send, D: Disk, L: Ledger>(
         ⊎ ((result ≡ status.Memory)
         ⊎ (((result ≡ status.NetFault) × HasRisenSome net.old.items net.new.items)
         ⊎ ((result ≡ status.Journal) ⊎ (result ≡ status.DiskFault)))) }
-    ensures disk { result ≡ status.DiskFault → HasRisen (D.faults disk.old) (D.faults disk.new) }
+    ensures disk { result ≡ status.DiskFault → HasRisen (D.faults disk.old) (D.faults disk.new)
+        ⊎ ((asks_to_serve (command_of (map string_bytes words.now)) ≡ true)
+        × (asks_to_keep (command_of (map string_bytes words.now)) ≡ true)) }
 {
     tablebuilder(rt, alloc, words, files, out, net, disk, steps)
 }
 
 /// Runs one command over files and a sink in memory, of which some readings fail and which takes no
 /// more than its bound: the bytes that it adds to those of the sink are told outright.
-pub fn run_in_memory<N: Listen + Send, D: Disk, L: Ledger>(
+pub fn run_in_memory<N: Listen + Send, D: Disk + Send, L: Ledger>(
     rt: &(impl Threads + Wait + Sync),
     alloc: Global,
     words: &[String],

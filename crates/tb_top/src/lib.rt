@@ -1,15 +1,15 @@
 //! The top call: a command of the command line, whose files are read, whose task is done, and which
 //! writes why where it can't be.
 //!
-//! It stands on the readers of the files (`tb_schema`, `tb_ptable`, `tb_records`, `tb_script`), on
-//! `tb_script`, `tb_lanes`, `tb_keep` and `tb_serve`, which answer lines over one board, and on
-//! `tb_follow_lanes`, which answers them by a follower. The contract of `tablebuilder` tells, for
-//! each status, what was written (`specs/Promises`, over what a call saw, `Calls`). A command is
-//! one of several, each with its inputs and a task (`specs/Commands`, and `ServicePorts` for
-//! sessions); what it asks for over its files is a function (`specs/Asking`), what is answered a
-//! relation (`specs/Outputs`, `LaneOutputs` for lanes at the same time, `KeepOutputs` for a script
-//! with a journal, and `Services` for sessions); `laws` says what that means over forms in memory
-//! (`specs/InMemory`).
+//! It stands on the readers of the files (`tb_schema`, `tb_ptable`, `tb_records`, `tb_units`,
+//! `tb_script`), on `tb_script`, `tb_lanes`, `tb_keep` and `tb_serve`, which answer lines over one
+//! board, and on `tb_follow_lanes`, which answers them by a follower. The contract of
+//! `tablebuilder` tells, for each status, what was written (`specs/Promises`, over what a call saw,
+//! `Calls`). A command is one of several, each with its inputs and a task (`specs/Commands`, and
+//! `ServicePorts` for sessions); what it asks for over its files is a function (`specs/Asking`),
+//! what is answered a relation (`specs/Outputs`, `LaneOutputs` for lanes at the same time,
+//! `KeepOutputs` for a script with a journal, and `Services` for sessions); `laws` says what that
+//! means over forms in memory (`specs/InMemory`).
 //!
 //! The test of the arguments alone decides whether they are a command's. Words that pass it are put
 //! into their positions by `clap` (`tb_words`) before any file is read.
@@ -26,6 +26,7 @@ mod command;
 mod endings;
 mod follow;
 mod generated;
+mod host;
 mod keep;
 mod lanes;
 pub mod laws;

@@ -1,6 +1,6 @@
 // The files of a run, read in their order.
 
-ghost use Rattle.std.specs.Prelude.{◌≡◌, ◌≤◌, [], ◌∷◌, Some, true, length};
+ghost use Rattle.std.specs.Prelude.{◌≡◌, ◌≤◌, ◌++◌, [], ◌∷◌, Some, true, length};
 ghost use Rattle.std.specs.Prelude.{IfErr, IfOk, option_map};
 ghost use Rattle.tb_base.specs.declared.people.TheConstants.{MOST_PERSONS};
 ghost use Rattle.tb_base.specs.Records.{AllFit};
@@ -8,11 +8,13 @@ ghost use Rattle.tb_model.specs.Schemas.{shape_of};
 ghost use Rattle.tb_top.specs.declared.endings.End.TheVariants as end;
 ghost use Rattle.tb_top.specs.declared.endings.Input.TheVariants as input;
 ghost use Rattle.tb_top.specs.Asking.{asked_over, bytes_in, census_in, input_place, is_keep};
-ghost use Rattle.tb_top.specs.Asking.{is_service};
+ghost use Rattle.tb_top.specs.Asking.{host_in, is_service};
 ghost use Rattle.tb_top.specs.Asking.{most_bytes, people_in, perturbation_in, recodes_in};
+ghost use Rattle.tb_top.specs.Asking.{counted_in, counted_script_in, units_in};
 ghost use Rattle.tb_top.specs.Asking.{schema_in, script_in, scripted_in};
+ghost use Rattle.tb_top.specs.Asking.{with_units as census_with_units};
 ghost use Rattle.tb_top.specs.Commands.{asks_to_generate, asks_to_keep, asks_to_serve};
-ghost use Rattle.tb_top.specs.Commands.{class_files};
+ghost use Rattle.tb_top.specs.Commands.{class_files, counted_files};
 ghost use Rattle.tb_top.specs.Commands.{command_files, input_files, named, recodes_files};
 ghost use Rattle.tb_top.specs.Commands.{scripted_files};
 ghost use Rattle.tb_top.specs.Loading.{AskedIsFirst, IsFirst, Loads, asked_value, census_value};
@@ -32,6 +34,7 @@ use tb_release::Release;
 use tb_schema::Schema;
 use tb_script::{MOST_SCRIPT_BYTES, Script, ScriptFault};
 use tb_text::Setup;
+use tb_units::Units;
 
 /// The most bytes that a file may have, the script apart: 256 MiB.
 pub const MOST_BYTES: u64 = 268_435_456;
@@ -52,7 +55,8 @@ pub struct Scripted {
 
 /// What a run is asked for over a census: to answer the lines of a script, its lanes at the same
 /// time, its lines with a journal under this name, or its lines with a follower in place of a
-/// board; to serve sessions; or to sum up the replies to a generated script.
+/// board; to serve sessions, with a journal under this name or without; or to sum up the replies to
+/// a generated script.
 #[derive(Drop)]
 pub enum Asked {
     Script {
@@ -72,6 +76,11 @@ pub enum Asked {
         census: Census,
         script: Script,
     },
+    Host {
+        census: Census,
+        journal: String,
+        service: Service,
+    },
     Serve {
         census: Census,
         service: Service,
@@ -89,6 +98,7 @@ pub fn most_bytes_of(file: Input) -> u64
 {
     match file {
         Input::Classes | Input::Recodes | Input::Ptable | Input::People => MOST_BYTES,
+        Input::Dwellings | Input::Links => MOST_BYTES,
         Input::Script => MOST_SCRIPT_BYTES,
     }
 }
@@ -217,15 +227,87 @@ fn load_census<F: Files>(alloc: Global, files: &mut F, inputs: &Inputs<'_>) -> R
     let people = load_people(alloc, files, &inputs.people, &schema)?;
     let rules = Rules::new(alloc, inputs.threshold);
     let release = Release::first(alloc, people, rules)?;
-    let setup = Setup { schema, ptable };
+    let setup = Setup {
+        schema,
+        ptable,
+        units: None,
+    };
     Ok(Census { setup, release })
+}
+
+// The dwellings and the links, both read before either is checked.
+fn load_units<F: Files>(
+    alloc: Global,
+    files: &mut F,
+    keys: Keys,
+    dwellings: &FileName<'_>,
+    links: &FileName<'_>,
+) -> Result<Units, End>
+    ensures loads { Loads
+        (reading F.content F.faults F.readings files.old files.new)
+        4
+        (named input.Dwellings dwellings.now ∷ named input.Links links.now ∷ [])
+        (λ units. units)
+        (units_in keys) result }
+{
+    let dwellings = read_bytes(alloc, files, Input::Dwellings, dwellings)?;
+    let links = read_bytes(alloc, files, Input::Links, links)?;
+    Ok(Units::read(alloc, keys, &dwellings, &links)?)
+}
+
+// The key range of a setup.
+fn keys_of(setup: &Setup) -> Keys
+    ensures { result ≡ setup.now.schema.keys }
+{
+    setup.schema.keys()
+}
+
+// A census with these dwellings.
+fn with_units(census: Census, units: Units) -> Census
+    ensures census { census_value result ≡ census_with_units (census_value census) units }
+    ensures first { IsFirst census → IsFirst result }
+{
+    let Census { setup, release } = census;
+    let Setup {
+        schema,
+        ptable,
+        units: _none,
+    } = setup;
+    let setup = Setup {
+        schema,
+        ptable,
+        units: Some(units),
+    };
+    Census { setup, release }
+}
+
+// The setup with dwellings, and release 0.
+fn load_counted<F: Files>(
+    alloc: Global,
+    files: &mut F,
+    inputs: &Inputs<'_>,
+    dwellings: &FileName<'_>,
+    links: &FileName<'_>,
+) -> Result<Census, End>
+    ensures first { IfOk result IsFirst }
+    ensures loads { Loads
+        (reading F.content F.faults F.readings files.old files.new)
+        0
+        (counted_files inputs.now dwellings.now links.now)
+        census_value
+        (counted_in inputs.now) result }
+{
+    let census = load_census(alloc, files, inputs)?;
+    let keys = keys_of(&census.setup);
+    let units = load_units(alloc, files, keys, dwellings, links)?;
+    Ok(with_units(census, units))
 }
 
 // The script of that name.
 fn load_script<F: Files>(alloc: Global, files: &mut F, name: &FileName<'_>) -> Result<Script, End>
     ensures loads { Loads
         (reading F.content F.faults F.readings files.old files.new)
-        4
+        6
         (named input.Script name.now ∷ [])
         (λ script. script)
         script_in result }
@@ -258,10 +340,61 @@ pub(crate) fn load_scripted<F: Files>(
     Ok(Scripted { census, script })
 }
 
+// The census with dwellings, and the script of that name, which is read last.
+fn load_counted_script<F: Files>(
+    alloc: Global,
+    files: &mut F,
+    inputs: &Inputs<'_>,
+    dwellings: &FileName<'_>,
+    links: &FileName<'_>,
+    script: &FileName<'_>,
+) -> Result<Scripted, End>
+    ensures first { IfOk result (λ read. IsFirst read.census) }
+    ensures loads { Loads
+        (reading F.content F.faults F.readings files.old files.new)
+        0
+        (counted_files inputs.now dwellings.now links.now
+        ++ (named input.Script script.now ∷ []))
+        scripted_value
+        (counted_script_in inputs.now) result }
+{
+    let census = load_counted(alloc, files, inputs, dwellings, links)?;
+    let script = load_script(alloc, files, script)?;
+    Ok(Scripted { census, script })
+}
+
+// The census, and a journal's name and a service to have over it.
+fn load_host<F: Files>(
+    alloc: Global,
+    files: &mut F,
+    inputs: &Inputs<'_>,
+    journal: &FileName<'_>,
+    service: &Service,
+) -> Result<Asked, End>
+    ensures first { IfOk result AskedIsFirst }
+    ensures kind { IfOk result (λ asked. is_service (asked_value asked) ≡ true) }
+    ensures keeps { IfOk result (λ asked. is_keep (asked_value asked) ≡ true) }
+    ensures loads { Loads
+        (reading F.content F.faults F.readings files.old files.new)
+        0
+        (input_files inputs.now)
+        asked_value
+        (host_in inputs.now journal.now service.now) result }
+{
+    let census = load_census(alloc, files, inputs)?;
+    let journal = String::from_str(alloc, journal.as_str())?;
+    let service = service.copy();
+    Ok(Asked::Host {
+        census,
+        journal,
+        service,
+    })
+}
+
 /// Reads the files of a command: CLASSES and RECODES, both before either is checked, then PTABLE,
-/// PEOPLE and the task's, if it has one, each checked before the next is read. For a generated
-/// population it reads none, and makes them. It takes memory for each file while it is read, and
-/// for what it says.
+/// PEOPLE and the task's, if it has any, each checked before the next is read, but for DWELLINGS
+/// and LINKS, which are checked once both are read. For a generated population it reads none, and
+/// makes them. It takes memory for each file while it is read, and for what it says.
 pub fn load<F: Files>(alloc: Global, files: &mut F, command: &Command<'_>) -> Result<Asked, End>
     ensures first { IfOk result AskedIsFirst }
     ensures kind { IfOk result (λ asked. is_service (asked_value asked)
@@ -307,6 +440,21 @@ pub fn load<F: Files>(alloc: Global, files: &mut F, command: &Command<'_>) -> Re
             let Scripted { census, script } = read;
             Ok(Asked::Follow { census, script })
         }
+        Command::Units {
+            inputs,
+            dwellings,
+            links,
+            script,
+        } => {
+            let read = load_counted_script(alloc, files, inputs, dwellings, links, script)?;
+            let Scripted { census, script } = read;
+            Ok(Asked::Script { census, script })
+        }
+        Command::Host {
+            inputs,
+            journal,
+            service,
+        } => load_host(alloc, files, inputs, journal, service),
         Command::Serve { inputs, service } => {
             let census = load_census(alloc, files, inputs)?;
             let service = service.copy();

@@ -22,6 +22,7 @@ ghost use Rattle.tb_top.specs.Summing.{AreSums};
 use crate::asking::ask;
 use crate::endings::End;
 use crate::follow::answer_follow;
+use crate::host::answer_host;
 use crate::keep::answer_keep;
 use crate::lanes::answer_lanes;
 use crate::load::{Asked, Census};
@@ -174,7 +175,7 @@ fn serve_census<R: Threads + Wait + Sync, O: Sink, N: Listen + Send>(
 }
 
 // Does what is asked for.
-fn answer<R: Threads + Wait + Sync, O: Sink, N: Listen + Send, D: Disk, L: Ledger>(
+fn answer<R: Threads + Wait + Sync, O: Sink, N: Listen + Send, D: Disk + Send, L: Ledger>(
     rt: &R,
     alloc: Global,
     asked: Asked,
@@ -205,6 +206,11 @@ fn answer<R: Threads + Wait + Sync, O: Sink, N: Listen + Send, D: Disk, L: Ledge
         Asked::Follow { census, script } => {
             answer_follow(rt, alloc, census, &script, out, steps)
         }
+        Asked::Host {
+            census,
+            journal,
+            service,
+        } => answer_host(rt, alloc, census, journal, &service, out, net, disk),
         Asked::Serve { census, service } => serve_census(rt, alloc, census, &service, out, net),
         Asked::Gen {
             population,
@@ -225,13 +231,15 @@ fn answer<R: Threads + Wait + Sync, O: Sink, N: Listen + Send, D: Disk, L: Ledge
 /// the script is answered as `script` does, but that each batch is on the disk before its
 /// publication is told. With `follow` and the arguments of `script` the lane `leader` brings
 /// numbered messages to a follower, and every other lane's line is a query over the release that
-/// the follower has reached by then. With `serve CLASSES RECODES PTABLE PEOPLE THRESHOLD PORT
-/// WORKERS SESSIONS` the listeners are bound, the first to PORT for the custodian and one for each
-/// worker to the ports after it, and each worker serves sessions in a thread of its own, one after
-/// another; in the end `out` takes how many each had. With `gen N START` no file is read: the
-/// replies are those that `script` would write over the generated files of N persons, and `out`
-/// takes how many lines and bytes they have, and the sum of their byte values. Other arguments are
-/// refused.
+/// the follower has reached by then. With `units CLASSES RECODES PTABLE PEOPLE THRESHOLD DWELLINGS
+/// LINKS SCRIPT` the script is answered as `script` does, and a line that begins with `dwellings`
+/// in place of `table` counts the dwellings of the persons that it chooses. With `serve CLASSES
+/// RECODES PTABLE PEOPLE THRESHOLD PORT WORKERS SESSIONS` the listeners are bound, the first to
+/// PORT for the custodian and one for each worker to the ports after it, and each worker serves
+/// sessions in a thread of its own, one after another; in the end `out` takes how many each had.
+/// With `gen N START` no file is read: the replies are those that `script` would write over the
+/// generated files of N persons, and `out` takes how many lines and bytes they have, and the sum of
+/// their byte values. Other arguments are refused.
 ///
 /// A printed table is the perturbed table counted from scratch over the release of its number, to
 /// which the custodian's lines before it led, or the leader's messages, by the perturbation table
@@ -242,7 +250,7 @@ fn answer<R: Threads + Wait + Sync, O: Sink, N: Listen + Send, D: Disk, L: Ledge
 /// out before the first line it doesn't. It takes memory for the files, for what they say, for one
 /// table at a time, for at most 64 cubes or as many as `cache K` says, for the edits that are held,
 /// for at most 64 messages that wait, and for the next release while it is made.
-pub fn tablebuilder<F: Files, O: Sink, N: Listen + Send, D: Disk, L: Ledger>(
+pub fn tablebuilder<F: Files, O: Sink, N: Listen + Send, D: Disk + Send, L: Ledger>(
     rt: &(impl Threads + Wait + Sync),
     alloc: Global,
     words: &[String],

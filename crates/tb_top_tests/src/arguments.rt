@@ -9,7 +9,7 @@ use tb_top::read_command;
 // Arguments, which one blank parts, and whether they are a command's.
 type Row = (&'static str, bool);
 
-static ROWS: [Row; 96] = [
+static ROWS: [Row; 114] = [
     ("", false),
     ("help", false),
     ("help script", false),
@@ -71,6 +71,42 @@ static ROWS: [Row; 96] = [
     ("follow classes - ptable people 0 script script", false),
     ("follow classes - ptable people 1000001 script", false),
     ("follow classes - ptable people 0 -x", false),
+    ("units classes - ptable people 0 dwellings script", false),
+    ("units classes - ptable people 0 dwellings links", false),
+    (
+        "units classes - ptable people 0 dwellings links script",
+        true,
+    ),
+    ("units classes none ptable people 0 links a script", true),
+    ("units units - script help 0 gen serve units", true),
+    (
+        "units classes - ptable people 0 dwellings links script script",
+        false,
+    ),
+    ("units classes - ptable people 0  links script", false),
+    ("units classes - ptable people 0 dwellings  script", false),
+    ("units classes - ptable people 0 dwellings links ", false),
+    ("units classes - ptable people 0 - links script", false),
+    ("units classes - ptable people 0 dwellings - script", false),
+    ("units classes - ptable people 0 -x links script", false),
+    ("units classes - ptable people 0 dwellings -x script", false),
+    ("units classes - ptable people 0 dwellings links -x", false),
+    (
+        "units classes -x ptable people 0 dwellings links script",
+        false,
+    ),
+    (
+        "units classes - ptable people 1000000 dwellings links script",
+        true,
+    ),
+    (
+        "units classes - ptable people 1000001 dwellings links script",
+        false,
+    ),
+    (
+        "script classes - ptable people 0 dwellings links script",
+        false,
+    ),
     ("serve classes - ptable people 0 5000 1", false),
     ("serve classes - ptable people 0 5000 1 1", true),
     ("serve classes - ptable people 0 5000 1 1 1", false),

@@ -1,8 +1,12 @@
 // The small setup with one of its files cut after each of its bytes.
 
-use super::running::{Run, WITH_RECODES, is_so};
+use super::running::{Run, WITH_RECODES, WITH_UNITS, is_so};
+use std::alloc::Global;
+use std::sync::Wait;
 use std::test::Fail;
-use tb_small::{CLASSES, PEOPLE, PTABLE, RECODES};
+use std::thread::Threads;
+use tb_base::Memory;
+use tb_small::{CLASSES, DWELLINGS, LINKS, PEOPLE, PTABLE, RECODES};
 
 // Up to how many bytes of a file, from where the row before ends, and the number of the status and
 // the text of a run over so many of them.
@@ -14,6 +18,9 @@ type Row = (usize, u8, &'static [u8]);
 type Cut = (&'static str, &'static [u8], &'static [Row]);
 
 const SEX: &[u8] = b"release 0\nSEX,count\n1,1\n2,2\n.\n";
+
+// The same table of dwellings: both have a person of SEX 1, and one has one of SEX 2.
+const HOMES: &[u8] = b"release 0\nSEX,count\n1,2\n2,1\n.\n";
 
 static CUTS: [Cut; 4] = [
     // Without AGE or one of its codes the recode isn't accepted, without E2 person 103 isn't, and
@@ -105,8 +112,52 @@ static CUTS: [Cut; 4] = [
     ),
 ];
 
+// The same of the files of dwellings, over a script that asks for a table of these.
+static UNITS_CUTS: [Cut; 2] = [
+    // A link is of a dwelling that isn't there until the last record has a key, of which one digit
+    // is enough: 6 adds up with 50 to a key to which no pvalue belongs, as 60 does.
+    (
+        "dwellings",
+        DWELLINGS,
+        &[
+            (20, 13, b"fault dwellings 1 BadHeader 0\n"),
+            (22, 13, b"fault links 5 UnknownDwelling 1\n"),
+            (23, 13, b"fault dwellings 8 BadCsv 1\n"),
+            (24, 13, b"fault dwellings 3 BadKey 1\n"),
+            (27, 13, b"fault links 5 UnknownDwelling 3\n"),
+            (28, 13, b"fault dwellings 8 BadCsv 2\n"),
+            (29, 13, b"fault dwellings 3 BadKey 2\n"),
+            (32, 0, HOMES),
+        ],
+    ),
+    (
+        "links",
+        LINKS,
+        &[
+            (14, 13, b"fault links 1 BadHeader 0\n"),
+            (16, 0, b"release 0\nSEX,count\n1,0\n2,0\n.\n"),
+            (19, 13, b"fault links 8 BadCsv 1\n"),
+            (20, 13, b"fault links 2 BadDwelling 1\n"),
+            (22, 0, b"release 0\nSEX,count\n1,1\n2,0\n.\n"),
+            (25, 13, b"fault links 8 BadCsv 2\n"),
+            (26, 13, b"fault links 2 BadDwelling 2\n"),
+            (28, 0, b"release 0\nSEX,count\n1,1\n2,0\n.\n"),
+            (31, 13, b"fault links 8 BadCsv 3\n"),
+            (32, 13, b"fault links 2 BadDwelling 3\n"),
+            (34, 0, b"release 0\nSEX,count\n1,2\n2,0\n.\n"),
+            (37, 13, b"fault links 8 BadCsv 4\n"),
+            (38, 13, b"fault links 2 BadDwelling 4\n"),
+            (40, 0, HOMES),
+        ],
+    ),
+];
+
 fn cuts() -> &'static [Cut] {
     &CUTS
+}
+
+fn units_cuts() -> &'static [Cut] {
+    &UNITS_CUTS
 }
 
 // No run has this status.
@@ -120,21 +171,43 @@ fn wanted(rows: &[Row], len: usize) -> (u8, &'static [u8]) {
     }
 }
 
+// The first of the bytes of a file after which a run with these arguments, over this script and the
+// file's bytes so far, isn't as its rows say.
+fn wrong_cut(
+    rt: &(impl Threads + Wait + Sync),
+    alloc: Global,
+    arguments: &str,
+    script: &'static [u8],
+    cut: &Cut,
+) -> Result<Option<usize>, Memory> {
+    let (name, whole, rows) = cut;
+    for len in 0..=whole.len() {
+        let (status, text) = wanted(rows, len);
+        let others = [("script", script), (*name, &whole[..len])];
+        let run = Run {
+            arguments,
+            others: &others,
+            fails: &[],
+            bound: 400,
+            status,
+            text,
+        };
+        if !is_so(rt, alloc, &run)? {
+            return Ok(Some(len));
+        }
+    }
+    Ok(None)
+}
+
 #[test]
 fn files_cut_after_each_byte(rt: HostRuntime) -> Result<(), Fail> {
-    for (name, whole, rows) in cuts() {
-        for len in 0..=whole.len() {
-            let (status, text) = wanted(rows, len);
-            let run = Run {
-                arguments: WITH_RECODES,
-                others: &[(*name, &whole[..len])],
-                fails: &[],
-                bound: 400,
-                status,
-                text,
-            };
-            assert!(rt; is_so(&rt, rt.alloc(), &run)?, "{name}: {len} bytes");
-        }
+    for cut in cuts() {
+        let wrong = wrong_cut(&rt, rt.alloc(), WITH_RECODES, b"a table SEX\n", cut)?;
+        assert_eq!(rt; wrong, None, "{}", cut.0);
+    }
+    for cut in units_cuts() {
+        let wrong = wrong_cut(&rt, rt.alloc(), WITH_UNITS, b"a dwellings SEX\n", cut)?;
+        assert_eq!(rt; wrong, None, "{}", cut.0);
     }
     Ok(())
 }

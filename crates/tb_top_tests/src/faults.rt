@@ -1,6 +1,6 @@
 // Readings that fail, and sinks that take no more.
 
-use super::running::{Run, WITH_RECODES, WITHOUT_RECODES, is_so};
+use super::running::{Run, WITH_RECODES, WITH_UNITS, WITHOUT_RECODES, is_so};
 use std::alloc::Global;
 use std::sync::Wait;
 use std::test::Fail;
@@ -37,10 +37,38 @@ static READINGS: [Readings; 7] = [
     ),
 ];
 
+// The same of a run with dwellings: these and the links are read between the microdata and the
+// script, both before either is checked.
+static UNITS_READINGS: [Readings; 8] = [
+    (&[5], &[], 7, b"fault read dwellings\n"),
+    (&[6], &[], 7, b"fault read links\n"),
+    (&[7], &[], 7, b"fault read script\n"),
+    (
+        &[6],
+        &[("dwellings", b""), ("links", b"")],
+        7,
+        b"fault read links\n",
+    ),
+    (
+        &[5],
+        &[("people", b""), ("dwellings", b"")],
+        5,
+        b"fault people 1 BadHeader 0\n",
+    ),
+    (
+        &[7],
+        &[("dwellings", b""), ("links", b"")],
+        13,
+        b"fault dwellings 1 BadHeader 0\n",
+    ),
+    (&[7], &[("links", b"")], 13, b"fault links 1 BadHeader 0\n"),
+    (&[8], &[("script", b"!x\n")], 6, b"fault script 1\n"),
+];
+
 // The arguments, how many bytes the sink takes, and these bytes.
 type Cut = (&'static str, usize, &'static [u8]);
 
-static CUTS: [Cut; 5] = [
+static CUTS: [Cut; 6] = [
     ("", 0, b""),
     ("", 5, b"fault"),
     (WITHOUT_RECODES, 0, b""),
@@ -50,29 +78,52 @@ static CUTS: [Cut; 5] = [
         12,
         b"release 0\nSE",
     ),
+    (WITH_UNITS, 12, b"release 0\nSE"),
 ];
 
 fn readings() -> &'static [Readings] {
     &READINGS
 }
 
+fn units_readings() -> &'static [Readings] {
+    &UNITS_READINGS
+}
+
 fn cuts() -> &'static [Cut] {
     &CUTS
 }
 
-#[test]
-fn readings_that_fail(rt: HostRuntime) -> Result<(), Fail> {
-    for (fails, others, status, text) in readings() {
+// The place of the first row of which a run with these arguments isn't so.
+fn wrong_reading(
+    rt: &(impl Threads + Wait + Sync),
+    alloc: Global,
+    arguments: &str,
+    rows: &[Readings],
+) -> Result<Option<usize>, Memory> {
+    for (i, (fails, others, status, text)) in rows.iter().enumerate() {
         let run = Run {
-            arguments: WITH_RECODES,
+            arguments,
             others,
             fails,
             bound: 200,
             status: *status,
             text,
         };
-        assert!(rt; is_so(&rt, rt.alloc(), &run)?, "{fails:?} {status}");
+        if !is_so(rt, alloc, &run)? {
+            return Ok(Some(i));
+        }
     }
+    Ok(None)
+}
+
+#[test]
+fn readings_that_fail(rt: HostRuntime) -> Result<(), Fail> {
+    let alloc = rt.alloc();
+    assert_eq!(rt; wrong_reading(&rt, alloc, WITH_RECODES, readings())?, None);
+    assert_eq!(rt;
+        wrong_reading(&rt, alloc, WITH_UNITS, units_readings())?,
+        None
+    );
     Ok(())
 }
 

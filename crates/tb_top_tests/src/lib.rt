@@ -1,12 +1,14 @@
 //! Tests of the top call over files and a sink in memory: worked runs and scripts, generated
-//! populations, scripts that a follower answers, files that are cut, readings and sinks that fail,
-//! tables of many places, arguments at each edge, and calls with ample memory.
+//! populations, scripts that a follower answers, tables of dwellings, files that are cut, readings
+//! and sinks that fail, tables of many places, arguments at each edge, and calls with ample memory.
 #![tactic(auto)]
 
 #[cfg(test)]
 mod arguments;
 #[cfg(test)]
 mod cuts;
+#[cfg(test)]
+mod dwellings;
 #[cfg(test)]
 mod faults;
 #[cfg(test)]

@@ -16,13 +16,15 @@ use tb_base::{Memory, Status, Steps};
 use tb_io::{MemFiles, MemListen, MemSink, SureFiles, SureSink};
 use tb_mem_disk::MemDisk;
 use tb_serve::Port;
-use tb_small::{CLASSES, PEOPLE, PTABLE, RECODES};
+use tb_small::{CLASSES, DWELLINGS, LINKS, PEOPLE, PTABLE, RECODES};
 use tb_top::MOST_WORKERS;
 use tb_top::laws::{run_in_memory, run_surely};
 
 pub const WITHOUT_RECODES: &str = "script classes - ptable people 0 script";
 
 pub const WITH_RECODES: &str = "script classes recodes ptable people 0 script";
+
+pub const WITH_UNITS: &str = "units classes recodes ptable people 0 dwellings links script";
 
 // A run: the arguments, which one blank parts (none where the text is empty), the files that have
 // other bytes than the small setup's, the numbers of the readings that fail, how many bytes the
@@ -53,6 +55,8 @@ fn files_of(alloc: Global, others: &[(&str, &[u8])], fails: &[u32]) -> Result<Me
     files.hold("recodes", RECODES)?;
     files.hold("ptable", PTABLE)?;
     files.hold("people", PEOPLE)?;
+    files.hold("dwellings", DWELLINGS)?;
+    files.hold("links", LINKS)?;
     files.hold("script", b"a table SEX\n")?;
     for (name, bytes) in others {
         files.hold(name, bytes)?;

@@ -1,7 +1,11 @@
 // Worked runs, of any files and arguments.
 
 use super::running::{Run, WITH_RECODES, WITHOUT_RECODES, is_either, is_so};
+use std::alloc::Global;
+use std::sync::Wait;
 use std::test::Fail;
+use std::thread::Threads;
+use tb_base::Memory;
 use tb_small::{CLASSES, PEOPLE, PTABLE, WIDE_CLASSES};
 
 const SEX: &[u8] = b"release 0\nSEX,count\n1,1\n2,2\n.\n";
@@ -16,7 +20,7 @@ const NOBODY_SERVED: &[u8] = b"worker 0 sessions 0\nworker 1 sessions 0\nworker 
 
 // What a run shows, the arguments, the files with other bytes than the small setup's, the number of
 // the status, and the text.
-type Over = (
+pub type Over = (
     &'static str,
     &'static str,
     &'static [(&'static str, &'static [u8])],
@@ -323,18 +327,28 @@ fn runs() -> &'static [Over] {
     &RUNS
 }
 
+// Whether a run is as its row says.
+pub fn is_worked(
+    rt: &(impl Threads + Wait + Sync),
+    alloc: Global,
+    over: &Over,
+) -> Result<bool, Memory> {
+    let (_, arguments, others, status, text) = over;
+    let run = Run {
+        arguments,
+        others,
+        fails: &[],
+        bound: 400,
+        status: *status,
+        text,
+    };
+    is_so(rt, alloc, &run)
+}
+
 #[test]
 fn worked_runs(rt: HostRuntime) -> Result<(), Fail> {
-    for (name, arguments, others, status, text) in runs() {
-        let run = Run {
-            arguments,
-            others,
-            fails: &[],
-            bound: 400,
-            status: *status,
-            text,
-        };
-        assert!(rt; is_so(&rt, rt.alloc(), &run)?, "{name}: {arguments}");
+    for over in runs() {
+        assert!(rt; is_worked(&rt, rt.alloc(), over)?, "{}: {}", over.0, over.1);
     }
     Ok(())
 }

@@ -20,6 +20,16 @@ serve_positions =
     codes "CLASSES" ∷ codes "RECODES" ∷ codes "PTABLE" ∷ codes "PEOPLE" ∷ codes "THRESHOLD"
     ∷ codes "PORT" ∷ codes "WORKERS" ∷ codes "SESSIONS" ∷ []
 
+abbrev pub host_positions : List Text
+host_positions =
+    codes "CLASSES" ∷ codes "RECODES" ∷ codes "PTABLE" ∷ codes "PEOPLE" ∷ codes "THRESHOLD"
+    ∷ codes "JOURNAL" ∷ codes "PORT" ∷ codes "WORKERS" ∷ codes "SESSIONS" ∷ []
+
+abbrev pub units_positions : List Text
+units_positions =
+    codes "CLASSES" ∷ codes "RECODES" ∷ codes "PTABLE" ∷ codes "PEOPLE" ∷ codes "THRESHOLD"
+    ∷ codes "DWELLINGS" ∷ codes "LINKS" ∷ codes "SCRIPT" ∷ []
+
 abbrev pub gen_positions : List Text
 gen_positions = codes "N" ∷ codes "START" ∷ []
 
@@ -30,6 +40,8 @@ positions_of name =
     else if bytes_eq name (codes "lanes") then script_positions
     else if bytes_eq name (codes "keep") then keep_positions
     else if bytes_eq name (codes "follow") then script_positions
+    else if bytes_eq name (codes "units") then units_positions
+    else if bytes_eq name (codes "host") then host_positions
     else if bytes_eq name (codes "serve") then serve_positions
     else gen_positions
 
@@ -62,9 +74,11 @@ with_command a name positions = with_subcommand a (command_with name positions).
 
 abbrev pub program : App
 program =
-    with_command (with_command (with_command (with_command (with_command (with_command bare_program
+    with_command (with_command (with_command (with_command (with_command (with_command
+    (with_command (with_command bare_program
     (codes "script") script_positions) (codes "lanes") script_positions)
     (codes "keep") keep_positions) (codes "follow") script_positions)
+    (codes "units") units_positions) (codes "host") host_positions)
     (codes "serve") serve_positions) (codes "gen") gen_positions
 
 -- what stands at a position

@@ -20,7 +20,9 @@ AreCommand words =
     ⊎ (AreOf (codes "lanes") 6 words
     ⊎ (AreOf (codes "keep") 7 words
     ⊎ (AreOf (codes "follow") 6 words
-    ⊎ (AreOf (codes "serve") 8 words ⊎ AreOf (codes "gen") 2 words))))
+    ⊎ (AreOf (codes "units") 8 words
+    ⊎ (AreOf (codes "host") 9 words
+    ⊎ (AreOf (codes "serve") 8 words ⊎ AreOf (codes "gen") 2 words))))))
 
 -- `-` stands where recodes are named, which says that there are none
 abbrev pub has_no_recodes : List (List ℕ) → Bool

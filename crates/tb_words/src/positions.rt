@@ -10,7 +10,9 @@ ghost use Rattle.tb_words.specs.Words.{AreCommand};
 use clap::{Arg, ArgMatches, Command, Error};
 use std::alloc::{AllocError, Global};
 
-static COMMANDS: [&str; 6] = ["script", "lanes", "keep", "follow", "serve", "gen"];
+static COMMANDS: [&str; 8] = [
+    "script", "lanes", "keep", "follow", "units", "host", "serve", "gen",
+];
 
 static SCRIPT: [&str; 6] = [
     "CLASSES",
@@ -29,6 +31,29 @@ static KEEP: [&str; 7] = [
     "THRESHOLD",
     "JOURNAL",
     "SCRIPT",
+];
+
+static UNITS: [&str; 8] = [
+    "CLASSES",
+    "RECODES",
+    "PTABLE",
+    "PEOPLE",
+    "THRESHOLD",
+    "DWELLINGS",
+    "LINKS",
+    "SCRIPT",
+];
+
+static HOST: [&str; 9] = [
+    "CLASSES",
+    "RECODES",
+    "PTABLE",
+    "PEOPLE",
+    "THRESHOLD",
+    "JOURNAL",
+    "PORT",
+    "WORKERS",
+    "SESSIONS",
 ];
 
 static SERVE: [&str; 8] = [
@@ -56,6 +81,10 @@ pub(crate) fn positions_of(name: &str) -> &'static [&'static str]
         KEEP.as_slice()
     } else if name == "follow" {
         SCRIPT.as_slice()
+    } else if name == "units" {
+        UNITS.as_slice()
+    } else if name == "host" {
+        HOST.as_slice()
     } else if name == "serve" {
         SERVE.as_slice()
     } else {

@@ -33,7 +33,7 @@ visit_of {S = S} Step fresh from to steps steps' came went end read write h =
     }
 
 -- the replies of a session, however it ended
-replied : {S : Type 0} (Legal : S → List (List ℕ) → List ReplyValue → S → Type 0) (end : SessionEnd) (left now before after : Option (List ℕ)) (first last : S)
+pub replied : {S : Type 0} (Legal : S → List (List ℕ) → List ReplyValue → S → Type 0) (end : SessionEnd) (left now before after : Option (List ℕ)) (first last : S)
     → IsSession Legal end left now first last before after → (lines : List (List ℕ)) × (replies : List ReplyValue) × Legal first lines replies last
 replied Legal Ended left now before after first last h = (_, _, h.legal)
 replied Legal LineTooLong left now before after first last h = (_, _, h.legal)

@@ -1,9 +1,8 @@
-use Rattle.std.proofs.Common.{◌∙◌, ◌<◌, ap, ℕ, length, arith, subst, sym}
+use Rattle.std.proofs.Common.{◌∙◌, ◌<◌, ap, length, arith, subst, sym}
 use Rattle.std.specs.Prelude.{slice_index_or}
 use Rattle.tb_board.specs.Holders.{HolderValue}
 use Rattle.tb_lines.specs.Outputs.{Lead}
-use Rattle.tb_serve.specs.Reports.{report}
-use Rattle.tb_serve.specs.Serves.{HasServed, IsEnded, IsVisited, final_status, output}
+use Rattle.tb_serve.specs.Serves.{HasServed, IsVisited}
 use Rattle.tb_serve.proofs.PortEnds.{can_work, first_ready, none_own, still_own}
 use Rattle.tb_serve.proofs.Wholes.{all_left, all_own, first_visited, others_served}
 use Rattle.tb_serve.proofs.over_board.serve_from.Goals as goal
@@ -53,8 +52,3 @@ returns-clause-left g c =
     (g.W.Owner.writer c.args.owner) (g.W.Owner.writer c.work_all.new.seat.owner)
     c.args.ports.now c.seat_all.new.ports c.work_all.new.ports c.confirm_all.new.ports c.clear_all.new.ports c.requires.some c.seat_all.ensures.seated c.work_all.auto.ports c.work_all.ensures.first c.work_all.ensures.others
     c.confirm_all.ensures.confirmed c.clear_all.ensures
-
-pub returns-clause-reported : goal.returns-clause-reported
-returns-clause-reported g c =
-    subst (λ (n : ℕ). IsEnded (report c.clear_all.new.ports n) (final_status c.clear_all.new.ports) (output (g.O.Sink.taken c.args.out.now) (g.O.Sink.taken c.end_with_report-status.new.out) (g.O.Sink.faults c.args.out.now) (g.O.Sink.faults c.end_with_report-status.new.out)) c.end_with_report-status.result)
-    c.release-release.ensures c.end_with_report-status.ensures.ended

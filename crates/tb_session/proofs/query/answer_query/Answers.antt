@@ -1,22 +1,25 @@
-use Rattle.std.proofs.Common.{List, ℕ, refl, subst, sym}
+use Rattle.std.proofs.Common.{◌≡◌, ◌∙◌, List, ℕ, Option, None, Some, subst, sym, ap}
+use Rattle.std.specs.Option.{option_copied}
 use Rattle.tb_board.specs.Holders.{release_seen}
-use Rattle.tb_session.specs.Replies.{table_price}
-use Rattle.tb_tables.specs.Answers.{Answers, table_reply}
-use Rattle.tb_tables.proofs.QueryAnswers.{by-fault, by-text}
+use Rattle.tb_model.specs.Units.{UnitsValue}
+use Rattle.tb_session.specs.Dwellings.{homes_asked, read_as}
+use Rattle.tb_session.specs.Replies.{whole_of}
+use Rattle.tb_tables.specs.Answers.{AnswersBy}
+use Rattle.tb_tables.specs.ReplyTexts.{table_reply_text}
 use Rattle.tb_session.proofs.query.answer_query.Goals as goal
 
-pub returns-in-Ok-clause-answer : goal.returns-in-Ok-clause-answer
-returns-in-Ok-clause-answer g c =
+pub returns-in-Some-clause-answer : goal.returns-in-Some-clause-answer
+returns-in-Some-clause-answer g c =
     let setup = c.args.setup.now in
-    let release = release_seen c.table_over_board-table.new.pass in
     let line = c.args.line.now in
-    subst (λ (text : List ℕ). Answers setup release (table_price setup release) line text c.args.steps.now c.table_over_board-table.new.steps) (sym c.of_table.ensures)
-    (by-text setup (table_reply setup release (table_price setup release)) line c.args.steps.now c.table_over_board-table.new.steps c.in-Ok.query c.table_over_board-table.result c.in-Ok.ensures.read c.table_over_board-table.ensures.text c.table_over_board-table.ensures.price)
+    let release = release_seen c.answer_homes.new.pass in
+    let asked : Some c.in-Some.units.now ≡ homes_asked setup line = ap option_copied (sym c.in-Some.is) ∙ c.homes_asked.ensures.asked in
+    subst (λ (o : Option UnitsValue). AnswersBy setup (whole_of setup release o) (read_as o line) (table_reply_text c.answer_homes.result) c.args.steps.now c.answer_homes.new.steps) asked c.answer_homes.ensures.answer
 
-pub returns-in-Err-clause-answer : goal.returns-in-Err-clause-answer
-returns-in-Err-clause-answer g c =
+pub returns-in-None-clause-answer : goal.returns-in-None-clause-answer
+returns-in-None-clause-answer g c =
     let setup = c.args.setup.now in
-    let release = release_seen c.args.pass.now in
     let line = c.args.line.now in
-    subst (λ (text : List ℕ). Answers setup release (table_price setup release) line text c.args.steps.now c.args.steps.now) (sym c.of_fault.ensures)
-    (by-fault setup (table_reply setup release (table_price setup release)) line c.args.steps.now c.args.steps.now c.in-Err.fault c.in-Err.ensures.refused refl)
+    let release = release_seen c.answer_persons.new.pass in
+    let asked : None ≡ homes_asked setup line = ap option_copied (sym c.in-None.is) ∙ c.homes_asked.ensures.asked in
+    subst (λ (o : Option UnitsValue). AnswersBy setup (whole_of setup release o) (read_as o line) (table_reply_text c.answer_persons.result) c.args.steps.now c.answer_persons.new.steps) asked c.answer_persons.ensures.answer

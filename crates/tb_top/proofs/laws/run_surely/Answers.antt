@@ -19,7 +19,10 @@ returns-clause-defined g c = elim c.tablebuilder.ensures.exact [
         | inl write ↦ absurd (HasRisen-zero write.1)
         | inr most ↦ elim most [
           | inl net ↦ inr (inr (inl net))
-          | inr journal ↦ inr (inr (inr (elim journal.1.4 [ inl refused ↦ inl refused.3 | inr failed ↦ inr failed.1 ])))
+          | inr journal ↦ elim journal [
+            | inl line ↦ inr (inr (inr (elim line.1.3 [ inl refused ↦ inl refused.3 | inr failed ↦ inr failed.1 ])))
+            | inr disk ↦ inr (inr (inr (inr disk.0)))
+          ]
         ]
       ]
     ]

@@ -22,7 +22,7 @@ returns-in_err-script-clause-loads g c =
     let inputs = c.args.inputs.now in
     rw (p.1, p.2) (Loads-then census_value scripted_value (census_in inputs)
     (λ contents census. script_in contents >>= (λ script. Ok (census, script))) c.in_ok-census.census (Err _)
-    (skips-census inputs) (omega arith) refl refl refl c.in_ok-census.ensures.loads
+    (skips-census inputs 6 (omega arith)) (omega arith) refl refl refl c.in_ok-census.ensures.loads
     (Loads-fails (λ script. script) scripted_value script_in
     (λ contents (script : ScriptValue). Ok (census_value c.in_ok-census.census, script)) c.in_err-script.ensures.loads))
 
@@ -30,7 +30,7 @@ pub returns-clause-loads : goal.returns-clause-loads
 returns-clause-loads g c =
     let inputs = c.args.inputs.now in
     Loads-then census_value scripted_value (census_in inputs)
-    (λ contents census. script_in contents >>= (λ script. Ok (census, script))) c.in_ok-census.census _ (skips-census inputs)
+    (λ contents census. script_in contents >>= (λ script. Ok (census, script))) c.in_ok-census.census _ (skips-census inputs 6 (omega arith))
     (omega arith) refl refl refl c.in_ok-census.ensures.loads
     (Loads-ends (λ script. script) scripted_value script_in
     (λ contents (script : ScriptValue). Ok (census_value c.in_ok-census.census, script)) c.in_ok-script.script

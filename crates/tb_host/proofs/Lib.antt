@@ -1,0 +1,4 @@
+mod Reported
+mod Visits
+mod Served
+mod Durable

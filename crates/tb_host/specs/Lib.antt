@@ -1,0 +1,4 @@
+pub mod Endings
+pub mod Sessions
+pub mod Hosting
+pub mod Laws

@@ -1,0 +1,337 @@
+// The command `host` over the file of a disk in memory: what its sessions are told, and what is
+// left in the file.
+
+ghost use Rattle.std.specs.Prelude.{◌≡◌, ◌+◌, All, IfOk, false, vec_len};
+ghost use Rattle.tb_mem_disk.specs.HeldDisk.{HeldDisk};
+ghost use Rattle.tb_serve.specs.Stages.{IsFresh};
+ghost use Rattle.tb_top.specs.declared.service.TheConstants.{MOST_WORKERS};
+
+use super::command::ends_over;
+use super::ports::{add_sessions, fill};
+use std::alloc::Global;
+use std::sync::Wait;
+use std::test::Fail;
+use std::thread::Threads;
+use tb_base::{Memory, Status};
+use tb_io::MemListen;
+use tb_mem_disk::MemDisk;
+use tb_serve::Port;
+use tb_top::MOST_WORKERS;
+
+// A journal without a batch, and that of one which drops a person.
+const NO_BATCH: &[u8] = b"TBJOURN1\x00";
+
+const ONE_BATCH: &[u8] = b"TBJOURN1\x01\x00\x00\x00\x09\x00\x00\x00\x01\x02\x00\x00\x00\x68\x00";
+
+// One worker, and one session at each port, or two.
+const ONE: &str = "host classes recodes ptable people 0 journal 5000 1 1";
+
+const TWO: &str = "host classes recodes ptable people 0 journal 5000 1 2";
+
+// As many bytes as a session here has of replies, and more.
+const ALL: usize = 400;
+
+// What a run shows, the bytes of the journal's file, and the command; the lines of the custodian's
+// sessions, and of an analyst's, each with what they are told, parted by `|`; whether the disk's
+// fourth sync fails, which of the custodian's accepts does (0 for none), and how many bytes each of
+// the custodian's sinks takes; how the run ends, what is written, and the bytes that are left.
+type Row = (
+    &'static str,
+    &'static [u8],
+    &'static str,
+    (&'static str, &'static str),
+    (&'static str, &'static str),
+    (bool, u32, usize),
+    Status,
+    &'static [u8],
+    &'static [u8],
+);
+
+static ROWS: [Row; 7] = [
+    (
+        "host_recovers",
+        b"",
+        ONE,
+        ("drop 104\npublish\n", "held 1\npublished 1\n"),
+        ("", ""),
+        (false, 0, ALL),
+        Status::Done,
+        b"worker 0 sessions 1\nworker 1 sessions 1\nrelease 1\n",
+        ONE_BATCH,
+    ),
+    (
+        "host_recovers",
+        ONE_BATCH,
+        ONE,
+        ("", ""),
+        ("table SEX\n", "release 1\nSEX,count\n1,1\n2,0\n.\n"),
+        (false, 0, ALL),
+        Status::Done,
+        b"worker 0 sessions 1\nworker 1 sessions 1\nrelease 1\n",
+        ONE_BATCH,
+    ),
+    // What was written before the sync that fails stands in the file.
+    (
+        "host_whose_disk_failed",
+        b"",
+        TWO,
+        (
+            "drop 104\npublish\n|drop 103\npublish\ntable SEX\n",
+            "held 1\nunkept\n|held 1\nunkept\nrelease 0\nSEX,count\n1,1\n2,2\n.\n",
+        ),
+        ("table SEX\n", "release 0\nSEX,count\n1,1\n2,2\n.\n"),
+        (true, 0, ALL),
+        Status::DiskFault,
+        b"worker 0 sessions 2\nworker 1 sessions 1\nrelease 0\nfault disk\n",
+        ONE_BATCH,
+    ),
+    // The disk's fault goes before that of the accept.
+    (
+        "an_accept_fails_after_the_disk",
+        b"",
+        TWO,
+        ("drop 104\npublish\n", "held 1\nunkept\n"),
+        ("", ""),
+        (true, 2, ALL),
+        Status::DiskFault,
+        b"worker 0 sessions 1\nworker 1 sessions 1\nrelease 0\nfault disk\n",
+        ONE_BATCH,
+    ),
+    (
+        "an_accept_fails",
+        b"",
+        TWO,
+        ("drop 104\npublish\n", "held 1\npublished 1\n"),
+        ("", ""),
+        (false, 2, ALL),
+        Status::NetFault,
+        b"worker 0 sessions 1\nworker 1 sessions 1\nrelease 1\nfault net\n",
+        ONE_BATCH,
+    ),
+    // The reply to `publish` is cut, and the next session is at its release.
+    (
+        "a_publication_whose_reply_is_cut",
+        b"",
+        TWO,
+        ("drop 104\npublish\n|table SEX\n", "held 1\npu|release 1"),
+        ("", ""),
+        (false, 0, 9),
+        Status::Done,
+        b"worker 0 sessions 2\nworker 1 sessions 1\nrelease 1\n",
+        ONE_BATCH,
+    ),
+    // Edits that are held go with their session.
+    (
+        "edits_that_were_held",
+        b"",
+        TWO,
+        (
+            "drop 104\n|publish\n",
+            "held 1\n|refused batch 0 5 Nothing\n",
+        ),
+        ("table SEX\n", "release 0\nSEX,count\n1,1\n2,2\n.\n"),
+        (false, 0, ALL),
+        Status::Done,
+        b"worker 0 sessions 2\nworker 1 sessions 1\nrelease 0\n",
+        NO_BATCH,
+    ),
+];
+
+fn rows() -> &'static [Row] {
+    &ROWS
+}
+
+// The custodian's port and an analyst's, with sessions of these lines; and after them, as many as a
+// command has, those to which no session is to come.
+fn ports(
+    alloc: Global,
+    own: &str,
+    bound: usize,
+    accept: u32,
+    analyst: &str,
+) -> Result<Vec<Port<MemListen>>, Memory>
+    ensures ports { IfOk result (λ net. vec_len net ≡ MOST_WORKERS + 1) }
+    ensures fresh { IfOk result (λ net. All IsFresh net.items) }
+{
+    let mut net = Vec::new(alloc);
+    add_sessions(alloc, &mut net, own, bound, accept)?;
+    add_sessions(alloc, &mut net, analyst, ALL, 0)?;
+    fill(alloc, &mut net, b"", 0, MOST_WORKERS as usize + 1)?;
+    Ok(net)
+}
+
+// Whether as many sessions came back as there are parts, in order, and each was told its part.
+fn are_told(listener: &MemListen, replies: &str) -> bool {
+    let mut i = 0_usize;
+    for part in replies.split('|') {
+        if i >= listener.back() || listener.writer_at(i).taken() != part.as_bytes() {
+            return false;
+        }
+        i = i.saturating_add(1);
+    }
+    i == listener.back()
+}
+
+// Whether that is so of the port at this place.
+fn is_told(net: &[Port<MemListen>], place: usize, replies: &str) -> bool {
+    match net.get(place) {
+        Some(port) => are_told(&port.listener, replies),
+        None => false,
+    }
+}
+
+// Whether the run of a row over this disk ends so, with the right replies.
+fn serves_so<R: Threads + Wait + Sync>(
+    rt: &R,
+    alloc: Global,
+    row: &Row,
+    disk: &mut MemDisk,
+) -> Result<bool, Memory>
+    requires { disk.old.attached ≡ false }
+{
+    let (_, _, command, (lines, told), (asked, answered), (_, accept, bound), end, text, _) = row;
+    let mut net = ports(alloc, lines, *bound, *accept, asked)?;
+    Ok(
+        ends_over(rt, alloc, command, &mut net, disk, *end, text)
+            && is_told(&net, 0, told)
+            && is_told(&net, 1, answered),
+    )
+}
+
+// Whether it does, and leaves the right bytes, where the fourth sync has this number.
+fn is_so<R: Threads + Wait + Sync>(
+    rt: &R,
+    alloc: Global,
+    row: &Row,
+    fourth: u32,
+) -> Result<bool, Memory> {
+    let fails = if row.5.0 { fourth } else { 0 };
+    let mut disk = MemDisk::new(alloc, row.1, &[fails])?;
+    Ok(serves_so(rt, alloc, row, &mut disk)? && disk.bytes() == row.8)
+}
+
+// The number, from 1, of the last of a disk's calls that were syncs, where these are four. 0 where
+// they aren't.
+fn fourth_sync(disk: &MemDisk) -> u32 {
+    let mut syncs = 0_u32;
+    let mut number = 0_u32;
+    let mut last = 0_u32;
+    for i in 0..disk.calls() {
+        number = number.saturating_add(1);
+        if disk.is_sync(i) {
+            syncs = syncs.saturating_add(1);
+            last = number;
+        }
+    }
+    if syncs == 4 { last } else { 0 }
+}
+
+// That number in the run of a row. 0 where the run doesn't end so.
+fn fourth_sync_of<R: Threads + Wait + Sync>(
+    rt: &R,
+    alloc: Global,
+    row: &Row,
+) -> Result<u32, Memory> {
+    let mut disk = MemDisk::new(alloc, row.1, &[])?;
+    if serves_so(rt, alloc, row, &mut disk)? {
+        Ok(fourth_sync(&disk))
+    } else {
+        Ok(0)
+    }
+}
+
+// The same in that of the first, which publishes into a new journal.
+fn fourth_sync_of_first<R: Threads + Wait + Sync>(rt: &R, alloc: Global) -> Result<u32, Memory> {
+    match rows().first() {
+        Some(row) => fourth_sync_of(rt, alloc, row),
+        None => Ok(0),
+    }
+}
+
+#[test]
+fn worked_runs(rt: HostRuntime) -> Result<(), Fail> {
+    let fourth = fourth_sync_of_first(&rt, rt.alloc())?;
+    assert!(&rt; fourth > 0);
+    for row in rows() {
+        assert!(&rt; is_so(&rt, rt.alloc(), row, fourth)?, "{}", row.0);
+    }
+    Ok(())
+}
+
+// What a run shows that serves nobody, the bytes of the journal's file, which of the disk's calls
+// fails (0 for none), how it ends, and what is written.
+type Unserved = (&'static str, &'static [u8], u32, Status, &'static [u8]);
+
+static UNSERVED: [Unserved; 4] = [
+    (
+        "not_a_journal",
+        b"0123456789",
+        0,
+        Status::Journal,
+        b"fault journal 1 NotJournal 0\n",
+    ),
+    // The gate behind the only record is open.
+    (
+        "bad_record",
+        b"TBJOURN1\x01\x00\x00\x00\x09\x00\x00\x00\x01\x02\x00\x00\x00\x68\x01",
+        0,
+        Status::Journal,
+        b"fault journal 2 BadRecord 2\n",
+    ),
+    // There is no person 999.
+    (
+        "does_not_follow",
+        b"TBJOURN1\x01\x00\x00\x00\x09\x00\x00\x00\x01\x02\x00\x00\x03\xe7\x00",
+        0,
+        Status::Journal,
+        b"fault journal 3 DoesNotFollow 1\n",
+    ),
+    ("no_file", b"", 1, Status::DiskFault, b"fault disk\n"),
+];
+
+fn unserved() -> &'static [Unserved] {
+    &UNSERVED
+}
+
+// Whether no session came back at the port at this place.
+fn is_quiet(net: &[Port<MemListen>], place: usize) -> bool {
+    match net.get(place) {
+        Some(port) => port.listener.back() == 0,
+        None => false,
+    }
+}
+
+// Whether the run of a row ends so, and no session of two came back.
+fn serves_nobody<R: Threads + Wait + Sync>(
+    rt: &R,
+    alloc: Global,
+    row: &Unserved,
+    disk: &mut MemDisk,
+) -> Result<bool, Memory>
+    requires { disk.old.attached ≡ false }
+{
+    let mut net = ports(alloc, "table SEX\n", ALL, 0, "table SEX\n")?;
+    Ok(
+        ends_over(rt, alloc, ONE, &mut net, disk, row.3, row.4)
+            && is_quiet(&net, 0)
+            && is_quiet(&net, 1),
+    )
+}
+
+// Whether it does, and leaves the file as it was.
+fn leaves_it<R: Threads + Wait + Sync>(
+    rt: &R,
+    alloc: Global,
+    row: &Unserved,
+) -> Result<bool, Memory> {
+    let mut disk = MemDisk::new(alloc, row.1, &[row.2])?;
+    Ok(serves_nobody(rt, alloc, row, &mut disk)? && disk.bytes() == row.1)
+}
+
+#[test]
+fn runs_that_serve_nobody(rt: HostRuntime) -> Result<(), Fail> {
+    for row in unserved() {
+        assert!(&rt; leaves_it(&rt, rt.alloc(), row)?, "{}", row.0);
+    }
+    Ok(())
+}

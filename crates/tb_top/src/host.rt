@@ -1,0 +1,199 @@
+// Sessions with a journal, served over a census.
+
+ghost use Rattle.std.specs.Prelude.{◌≡◌, ◌≤◌, ◌<◌, ◌+◌, All, drop, false, length, string_bytes};
+ghost use Rattle.std.specs.Prelude.{true, vec_len};
+ghost use Rattle.tb_base.specs.Records.{AllFit};
+ghost use Rattle.tb_model.specs.Schemas.{shape_of};
+ghost use Rattle.tb_serve.specs.Serves.{output};
+ghost use Rattle.tb_serve.specs.Stages.{IsFresh};
+ghost use Rattle.tb_top.specs.declared.service.TheConstants.{MOST_WORKERS};
+ghost use Rattle.tb_top.specs.HostOutputs.{IsHostAnswered, IsHostRun};
+ghost use Rattle.tb_top.specs.KeepOutputs.{disk_seen};
+ghost use Rattle.tb_top.specs.Loading.{IsBase, IsFirst, census_over, census_value};
+ghost use Rattle.tb_top.specs.Services.{ports_of};
+
+use crate::endings::End;
+use crate::keep::{end_by_disk, end_refused};
+use crate::load::Census;
+use crate::service::Service;
+use crate::top::end_by;
+use std::alloc::Global;
+use std::marker::Brand;
+use std::sync::Wait;
+use std::thread::Threads;
+use tb_base::{Memory, Status};
+use tb_board::{Board, Named, Opening};
+use tb_disk::{Disk, Done};
+use tb_host::serve_with_journal;
+use tb_io::{Listen, Sink};
+use tb_release::Release;
+use tb_serve::Port;
+use tb_session::{FIRST_CAPACITY, Setting};
+use tb_text::Setup;
+
+// Serves sessions over a board, with the journal in the file of a disk.
+fn host_on_board<
+    B: Named + Send + Sync,
+    R: Threads + Wait + Sync,
+    O: Sink,
+    N: Listen + Send,
+    D: Disk + Send,
+>(
+    rt: &R,
+    alloc: Global,
+    setup: &Setup,
+    opening: Opening,
+    service: &Service,
+    out: &mut O,
+    net: &mut [Port<N>],
+    disk: &mut D,
+) -> Status
+    requires name { opening.name ≡ B.name }
+    requires shape { opening.start.shape ≡ shape_of setup.now.schema }
+    requires first { IsBase opening.start.base }
+    requires attached { D.attached disk.old ≡ true }
+    requires there { service.now.workers < length net.old }
+    requires fresh { All IsFresh net.old }
+    ensures disk_count { D.faults disk.old ≤ D.faults disk.new }
+    ensures run { IsHostRun (census_over setup.now opening.start.base) service.now
+        (ports_of service.now net.old) (ports_of service.now net.new) (record {
+          content = D.content disk.old;
+          could_leave = D.may_leave disk.old;
+          may_leave = D.may_leave disk.new;
+          faults = D.faults disk.old;
+          faults_after = D.faults disk.new;
+        }) (output (O.taken out.old) (O.taken out.new) (O.faults out.old) (O.faults out.new))
+        result }
+    ensures rest { drop (service.now.workers + 1) net.new ≡ drop (service.now.workers + 1) net.old }
+{
+    let (board, custodian) = Board::<B>::new(opening);
+    let setting = Setting {
+        setup,
+        board: &board,
+        rt,
+        alloc,
+    };
+    let (port, workers, sessions) = (service.port(), service.workers(), service.sessions());
+    match serve_with_journal(&setting, custodian, disk, port, workers, sessions, out, net) {
+        Ok(status) => status,
+        Err(fault) => end_refused(&fault, out),
+    }
+}
+
+// The same from the opening of a board, with the journal in the file of this name.
+fn host_opened<R: Threads + Wait + Sync, O: Sink, N: Listen + Send, D: Disk + Send>(
+    rt: &R,
+    alloc: Global,
+    setup: &Setup,
+    opening: Opening,
+    journal: &str,
+    service: &Service,
+    out: &mut O,
+    net: &mut [Port<N>],
+    disk: &mut D,
+) -> Status
+    requires shape { opening.start.shape ≡ shape_of setup.now.schema }
+    requires first { IsBase opening.start.base }
+    requires attached { D.attached disk.old ≡ false }
+    requires there { service.now.workers < length net.old }
+    requires fresh { All IsFresh net.old }
+    ensures { IsHostAnswered (census_over setup.now opening.start.base) service.now journal.now
+        net.old net.new result
+        (output (O.taken out.old) (O.taken out.new) (O.faults out.old) (O.faults out.new))
+        (disk_seen D.named D.attached D.may_leave D.faults disk.old disk.new) }
+{
+    match disk.attach(journal) {
+        Done::All => {
+            host_on_board::<Brand, R, O, N, D>(rt, alloc, setup, opening, service, out, net, disk)
+        }
+        Done::Failed => end_by_disk(out),
+    }
+}
+
+// The same from release 0.
+fn host_from<R: Threads + Wait + Sync, O: Sink, N: Listen + Send, D: Disk + Send>(
+    rt: &R,
+    alloc: Global,
+    setup: &Setup,
+    base: Release,
+    journal: &str,
+    service: &Service,
+    out: &mut O,
+    net: &mut [Port<N>],
+    disk: &mut D,
+) -> Status
+    requires base { IsBase base }
+    requires fit { AllFit (shape_of setup.now.schema) base.records }
+    requires attached { D.attached disk.old ≡ false }
+    requires there { service.now.workers < length net.old }
+    requires fresh { All IsFresh net.old }
+    ensures { IsHostAnswered (census_over setup.now base) service.now journal.now net.old net.new
+        result
+        (output (O.taken out.old) (O.taken out.new) (O.faults out.old) (O.faults out.new))
+        (disk_seen D.named D.attached D.may_leave D.faults disk.old disk.new) }
+{
+    match Opening::new(alloc, setup.schema.shape(), base, FIRST_CAPACITY) {
+        Ok(opening) => { host_opened(rt, alloc, setup, opening, journal, service, out, net, disk) }
+        Err(Memory) => end_by(&End::Memory, out),
+    }
+}
+
+// The same over a census.
+fn host_census<R: Threads + Wait + Sync, O: Sink, N: Listen + Send, D: Disk + Send>(
+    rt: &R,
+    alloc: Global,
+    census: Census,
+    journal: &str,
+    service: &Service,
+    out: &mut O,
+    net: &mut [Port<N>],
+    disk: &mut D,
+) -> Status
+    requires first { IsFirst census }
+    requires attached { D.attached disk.old ≡ false }
+    requires there { service.now.workers < length net.old }
+    requires fresh { All IsFresh net.old }
+    ensures { IsHostAnswered (census_value census) service.now journal.now net.old net.new result
+        (output (O.taken out.old) (O.taken out.new) (O.faults out.old) (O.faults out.new))
+        (disk_seen D.named D.attached D.may_leave D.faults disk.old disk.new) }
+{
+    let Census { setup, release } = census;
+    host_from(rt, alloc, &setup, release, journal, service, out, net, disk)
+}
+
+/// Serves sessions over a census, with the journal in the file of this name: attaches it, opens it,
+/// publishes its batches, then binds the listeners, and writes each further batch ahead of its
+/// publication. It takes memory for a board, and as `serve_with_journal` does.
+pub(crate) fn answer_host<R: Threads + Wait + Sync, O: Sink, N: Listen + Send, D: Disk + Send>(
+    rt: &R,
+    alloc: Global,
+    census: Census,
+    journal: String,
+    service: &Service,
+    out: &mut O,
+    net: &mut Vec<Port<N>>,
+    disk: &mut D,
+) -> Status
+    requires first { IsFirst census }
+    requires attached { D.attached disk.old ≡ false }
+    requires ports { vec_len net.old ≡ MOST_WORKERS + 1 }
+    requires fresh { All IsFresh net.old.items }
+    ensures { IsHostAnswered (census_value census) service.now (string_bytes journal)
+        net.old.items net.new.items result
+        (output (O.taken out.old) (O.taken out.new) (O.faults out.old) (O.faults out.new))
+        (disk_seen D.named D.attached D.may_leave D.faults disk.old disk.new) }
+{
+    // Its clause tells that there is a port for each worker.
+    let _ = service.port();
+    let name = journal.as_str();
+    host_census(
+        rt,
+        alloc,
+        census,
+        name,
+        service,
+        out,
+        net.as_mut_slice(),
+        disk,
+    )
+}
