@@ -1,8 +1,10 @@
 #!/usr/bin/env python3
-"""Prints the batches of a journal as the custodian's lines, and copies a journal.
+"""Prints the batches of a journal as the custodian's lines, copies a journal, and makes the files of
+its last release.
 
     journal.py print CLASSES JOURNAL
     journal.py copy JOURNAL TO
+    journal.py last CLASSES PTABLE PEOPLE JOURNAL FOLDER
 
 `print` writes for each batch the line `# batch N`, N from 1, a line for each edit, and `publish`.
 With `custodian ` in front of each line that is a script, and as it is a session at the custodian's
@@ -13,38 +15,59 @@ CLASSES is the classification among these, since a journal names variables and c
 meanwhile: each record is taken whole, and one that comes later is left out. TO is put in its place
 when it is whole and on the disk, so that a stop leaves what was there before.
 
-A file that isn't a journal, a record that is bad and a batch that doesn't fit CLASSES are told on
-the standard error, the last two with their number, and the status is 1: `print` has then printed
-the batches before that one, and `copy` has left TO as it was. Other scripts may import this file.
+`last` makes FOLDER, which mustn't be there, and in it `people.csv` and `ptable.csv` of the release
+to which the batches lead from these files, and `left.csv`, the record keys of the persons who ever
+stood in the microdata and aren't in it any more. It prints the threshold that was set last, if one
+was. With these files, the same CLASSES and RECODES, and a new journal the chain of releases begins
+anew, with the same tables.
+
+A file that isn't a journal, a record that is bad and a batch that doesn't fit CLASSES, or can't be
+made, are told on the standard error, the last two with their number, and the status is 1: `print`
+has then printed the batches before that one, `copy` has left TO as it was, and `last` has made
+nothing. Other scripts may import this file.
 It needs Python 3.9 or later and the standard library alone.
 """
 
 from __future__ import annotations
 
 import csv
+import functools
 import io
 import os
 import shutil
 import struct
 import sys
 from dataclasses import dataclass
-from typing import BinaryIO, Iterator, NamedTuple, NoReturn, Union
+from typing import (
+    BinaryIO,
+    Callable,
+    Iterable,
+    Iterator,
+    NamedTuple,
+    NoReturn,
+    Optional,
+    Sequence,
+    Union,
+)
 
 __all__ = [
     "Add",
     "Amend",
     "BadClasses",
+    "BadFile",
     "BadRecord",
     "Classes",
     "DoesNotFit",
     "Drop",
     "Edit",
     "Error",
+    "Last",
     "NotJournal",
     "Pvalue",
     "Threshold",
     "batches",
     "copy",
+    "last",
     "lines",
     "read_classes",
     "records",
@@ -69,6 +92,16 @@ class BadClasses(Error):
     """The file of the classification can't be read as one."""
 
 
+class BadFile(Error):
+    """The file of the microdata or the perturbation table can't be read as one.
+
+    Attributes: `path`, the file's; `why`."""
+
+    def __init__(self, path: str, why: str) -> None:
+        super().__init__(f"{path}: {why}")
+        self.path, self.why = path, why
+
+
 class _AtRecord(Error):
     """Attributes: `number`, the record's, from 1; `why`."""
 
@@ -82,7 +115,8 @@ class BadRecord(_AtRecord):
 
 
 class DoesNotFit(_AtRecord):
-    """A record has an edit that no line of the custodian says under this classification."""
+    """A record has an edit that no line of the custodian says under this classification, or that
+    can't be made."""
 
 
 @dataclass(frozen=True)
@@ -269,24 +303,10 @@ def read_classes(path: str) -> Classes:
         Where it lacks a column or has one twice, a record has not as many fields as the header, or
         one that should doesn't state the key range. What else the program refuses isn't looked for.
     """
-    with open(path, "rb") as file:
-        data = file.read()
-    # (labels may have other letters than ASCII, and none is printed)
-    text = data.removeprefix(b"\xef\xbb\xbf").decode("latin-1")
-    try:
-        header, *rows = [row for row in csv.reader(io.StringIO(text, newline="")) if row] or [[]]
-    except csv.Error as fault:
-        raise BadClasses(str(fault)) from fault
-    columns = ("variable", "code", "label")
-    if any(header.count(column) != 1 for column in columns):
-        raise BadClasses("it lacks one of the columns variable, code, label, or has it twice")
-    places = [header.index(column) for column in columns]
     codes: dict[str, list[str]] = {}
     keys = SMALL_KEYS
-    for number, row in enumerate(rows, 1):
-        if len(row) != len(header):
-            raise BadClasses(f"record {number} has not as many fields as the header")
-        variable, code, label = (row[place] for place in places)
+    rows = _rows(path, ("variable", "code", "label"), BadClasses)
+    for number, (variable, code, label) in enumerate(rows, 1):
         if variable != "*":
             codes.setdefault(variable, []).append(code)
         elif (number, code) == (1, "keys") and label in (str(SMALL_KEYS), str(LARGE_KEYS)):
@@ -294,6 +314,26 @@ def read_classes(path: str) -> Classes:
         else:
             raise BadClasses(f"record {number} doesn't state the key range")
     return Classes(list(codes.items()), keys)
+
+
+def _rows(path: str, columns: Sequence[str], fault: Callable[[str], Error]) -> Iterator[list[str]]:
+    """The fields of these columns of a CSV file, record by record. It raises what `fault` makes of
+    what is wrong."""
+    with open(path, "rb") as file:
+        data = file.read()
+    # (labels may have other letters than ASCII, and none is printed)
+    text = data.removeprefix(b"\xef\xbb\xbf").decode("latin-1")
+    try:
+        header, *rows = [row for row in csv.reader(io.StringIO(text, newline="")) if row] or [[]]
+    except csv.Error as error:
+        raise fault(str(error)) from error
+    if any(header.count(column) != 1 for column in columns):
+        raise fault(f"it lacks one of the columns {', '.join(columns)}, or has it twice")
+    places = [header.index(column) for column in columns]
+    for number, row in enumerate(rows, 1):
+        if len(row) != len(header):
+            raise fault(f"record {number} has not as many fields as the header")
+        yield [row[place] for place in places]
 
 
 # ---- the custodian's lines
@@ -395,7 +435,106 @@ def _sync_folder(folder: str) -> None:
             os.close(opened)
 
 
+# ---- the files of the last release
+
+
+class Last(NamedTuple):
+    """What a release has: the record key and the codes of each person, the record keys of those who
+    left, the pvalue of each row and cell key, and the threshold that was set last, if one was."""
+
+    people: dict[int, tuple[int, list[str]]]
+    left: dict[int, int]
+    pvalues: dict[tuple[int, int], int]
+    threshold: Optional[int]
+
+
+def last(classes: Classes, ptable: str, people: str, path: str) -> Last:
+    """What the release has to which a journal's batches lead from the files of the microdata and the
+    perturbation table, which the program accepts.
+
+    Raises
+    ------
+    NotJournal, BadRecord, DoesNotFit
+        As `batches` and `lines`, and `DoesNotFit` also where an edit can't be made.
+    BadFile
+        Where a file lacks a column or has one twice, a record has not as many fields as the header,
+        or a number isn't one. What else the program refuses isn't looked for.
+    """
+    release = Last(_persons(people, classes), {}, _pvalues(ptable), None)
+    for number, edits in enumerate(batches(path), 1):
+        lines(number, edits, classes)
+        try:
+            for edit in edits:
+                release = _edited(release, edit, classes)
+        except ValueError as fault:
+            raise DoesNotFit(number, str(fault)) from fault
+    return release
+
+
+def _persons(path: str, classes: Classes) -> dict[int, tuple[int, list[str]]]:
+    columns = ["person", "record_key", *(name for name, _ in classes.variables)]
+    rows = _rows(path, columns, functools.partial(BadFile, path))
+    try:
+        return {int(person): (int(key), codes) for person, key, *codes in rows}
+    except ValueError as fault:
+        raise BadFile(path, str(fault)) from fault
+
+
+def _pvalues(path: str) -> dict[tuple[int, int], int]:
+    rows = _rows(path, ("pcv", "ckey", "pvalue"), functools.partial(BadFile, path))
+    try:
+        return {(int(pcv), int(ckey)): int(pvalue) for pcv, ckey, pvalue in rows}
+    except ValueError as fault:
+        raise BadFile(path, str(fault)) from fault
+
+
+def _edited(release: Last, edit: Edit, classes: Classes) -> Last:
+    """The release after an edit that fits. ValueError where it can't be made."""
+    if isinstance(edit, Threshold):
+        return release._replace(threshold=edit.threshold)
+    if isinstance(edit, Pvalue):
+        release.pvalues[edit.row, edit.cell_key] = edit.pvalue
+        return release
+    person = edit.person
+    if isinstance(edit, Add):
+        if person in release.people:
+            raise ValueError(f"person {person} is there already")
+        if release.left.pop(person, edit.record_key) != edit.record_key:
+            raise ValueError(f"person {person} had another key")
+        pairs = zip(classes.variables, edit.categories)
+        release.people[person] = (edit.record_key, [codes[place] for (_, codes), place in pairs])
+    elif person not in release.people:
+        raise ValueError(f"there is no person {person}")
+    elif isinstance(edit, Drop):
+        release.left[person] = release.people.pop(person)[0]
+    else:
+        for variable, category in edit.settings:
+            release.people[person][1][variable] = classes.variables[variable][1][category]
+    return release
+
+
+def _write_rows(path: str, header: Sequence[str], rows: Iterable[Sequence[object]]) -> None:
+    with open(path, "w", encoding="ascii", newline="", opener=_private_file) as out:
+        writer = csv.writer(out, lineterminator="\n")
+        writer.writerow(header)
+        writer.writerows(rows)
+
+
 # ---- the command
+
+
+def _last(classes: str, ptable: str, people: str, journal: str, folder: str) -> None:
+    classification = read_classes(classes)
+    release = last(classification, ptable, people, journal)
+    os.mkdir(folder, 0o700)
+    names = [name for name, _ in classification.variables]
+    persons = ([person, key, *codes] for person, (key, codes) in sorted(release.people.items()))
+    _write_rows(f"{folder}/people.csv", ["person", "record_key", *names], persons)
+    _write_rows(f"{folder}/left.csv", ["person", "record_key"], sorted(release.left.items()))
+    pvalues = ([*place, pvalue] for place, pvalue in sorted(release.pvalues.items()))
+    _write_rows(f"{folder}/ptable.csv", ["pcv", "ckey", "pvalue"], pvalues)
+    if release.threshold is not None:
+        print(f"threshold {release.threshold}")
 
 
 def _print(classes: str, journal: str) -> None:
@@ -411,23 +550,26 @@ def _stop(*words: object) -> NoReturn:
     sys.exit(1)
 
 
+# How many words each command takes after its name, and which of them is the journal.
+COMMANDS = {"print": (2, 1), "copy": (2, 0), "last": (5, 3)}
+
+
 def main(*words: str) -> None:
-    if len(words) != 3 or words[0] not in ("print", "copy"):
+    command, *rest = words or [""]
+    if command not in COMMANDS or len(rest) != COMMANDS[command][0]:
         print(__doc__.split("\n\n")[1], file=sys.stderr)
         sys.exit(2)
-    command, first, second = words
-    journal = second if command == "print" else first
+    journal = rest[COMMANDS[command][1]]
     try:
-        if command == "print":
-            _print(first, second)
-        else:
-            copy(first, second)
+        {"print": _print, "copy": copy, "last": _last}[command](*rest)
     except BrokenPipeError:
         # (who read the lines has gone, and the system would tell of it once more at the end)
         os.dup2(os.open(os.devnull, os.O_WRONLY), sys.stdout.fileno())
         sys.exit(1)
     except BadClasses as fault:
-        _stop(first, fault)
+        _stop(rest[0], fault)
+    except BadFile as fault:
+        _stop(fault)
     except Error as fault:
         _stop(journal, fault)
     except OSError as fault:

@@ -387,6 +387,91 @@ class Copying(Files):
         self.assertEqual(counts, sorted(counts))
 
 
+class TheLastRelease(Files):
+    """Over examples/small: the files of the release to which a journal leads."""
+
+    PEOPLE = b"person,record_key,SEX,AGE,AREA\n101,200,2,0-15,E1\n102,100,1,16-64,E1\n"
+    PEOPLE += b"103,20,1,65+,E2\n105,9,2,65+,E1\n"
+    PVALUES = b"pcv,ckey,pvalue\n1,7,1\n2,27,-1\n2,209,5\n3,64,-2\n3,127,3\n4,71,2\n"
+
+    def setUp(self):
+        super().setUp()
+        self.to = os.path.join(self.folder, "last")
+
+    def last(self, data, people=f"{SMALL}/people.csv"):
+        path = self.write("journal", data)
+        files = [f"{SMALL}/{name}.csv" for name in ("classes", "ptable")]
+        return self.run_it("last", *files, people, path, self.to), path
+
+    def files(self):
+        names = sorted(os.listdir(self.to))
+        return {name: self.read(os.path.join("last", name)) for name in names}
+
+    def test_the_files(self):
+        done, _ = self.last(journal_of(*(payload_of(*batch) for batch in Playing.BATCHES)))
+        self.assertEqual(done, (0, "threshold 3\n", ""))
+        left = b"person,record_key\n104,7\n"
+        wanted = {"left.csv": left, "people.csv": self.PEOPLE, "ptable.csv": self.PVALUES}
+        self.assertEqual(self.files(), wanted)
+
+    def test_a_person_who_comes_again(self):
+        add = "01 00000068 {:04x} 0003 0000 0001 0000"
+        done, path = self.last(journal_of(*map(payload_of, ("02 00000068", add.format(8)))))
+        self.assertEqual(done, (1, "", f"{path}: record 2: person 104 had another key\n"))
+        self.assertFalse(os.path.exists(self.to))
+        done, _ = self.last(journal_of(payload_of("02 00000068", add.format(7))))
+        self.assertEqual(done, (0, "", ""))
+        self.assertEqual(self.read("last/left.csv"), b"person,record_key\n")
+        self.assertIn(b"104,7,1,16-64,E1\n", self.read("last/people.csv"))
+
+    def test_edits_that_can_not_be_made(self):
+        for code, why in [
+            ("02 000003e7", "there is no person 999"),
+            ("03 000003e7 0001 0000 0000", "there is no person 999"),
+            ("01 00000068 0007 0003 0000 0001 0000", "person 104 is there already"),
+            ("02 00000000", "a person is 0"),
+        ]:
+            with self.subTest(code):
+                done, path = self.last(journal_of(payload_of("02 00000067", code)))
+                self.assertEqual(done, (1, "", f"{path}: record 1: {why}\n"))
+                self.assertFalse(os.path.exists(self.to))
+
+    def test_files_that_can_not_be_read(self):
+        rows = b"person,record_key,SEX,AGE,AREA\n101,x,1,0-15,E1\n"
+        for data, why in [
+            (rows, "invalid literal for int() with base 10: 'x'"),
+            (rows.replace(b",x,", b","), "record 1 has not as many fields as the header"),
+            (b"person\n", "it lacks one of the columns person, record_key, SEX, AGE, AREA, or has "
+                          "it twice"),
+        ]:
+            people = self.write("people.csv", data)
+            done, _ = self.last(journal_of(), people)
+            self.assertEqual(done, (1, "", f"{people}: {why}\n"))
+        os.mkdir(self.to)
+        done, _ = self.last(journal_of())
+        self.assertEqual(done, (1, "", f"{self.to}: File exists\n"))
+
+    @unittest.skipUnless(PROGRAM, "no program is named")
+    def test_the_same_tables(self):
+        done, path = self.last(journal_of(*(payload_of(*batch) for batch in Playing.BATCHES)))
+        told = [journal.lines(*batch, journal.read_classes(f"{SMALL}/classes.csv"))
+                for batch in enumerate(journal.batches(path), 1)]
+        asked = "a table AREA by SEX with totals\na table AGE by AREA\n"
+        lines = "".join(f"custodian {line}\n" for batch in told for line in batch) + asked
+        tables = []
+        for folder, threshold, text in [(SMALL, "0", lines), (self.to, "3", asked)]:
+            files = [f"{SMALL}/classes.csv", f"{SMALL}/recodes.csv"]
+            files += [f"{folder}/ptable.csv", f"{folder}/people.csv"]
+            script = self.write("script", text.encode())
+            words = [PROGRAM, "script", *files, threshold, script]
+            out = subprocess.run(words, capture_output=True, timeout=60, check=False).stdout
+            others = ("held ", "published ", "release ")
+            rows = [row for row in out.decode().splitlines() if not row.startswith(others)]
+            tables.append(rows)
+        self.assertEqual(tables[0], tables[1])
+        self.assertEqual(tables[0].count("."), 2)
+
+
 class Playing(Files):
     """Over examples/small, with the program: what is printed publishes the same batches."""
 

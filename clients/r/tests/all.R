@@ -1,10 +1,14 @@
-# Tests of `tablebuilder.R` against the servers that `clients/run.py` starts.
+# Tests of the package, of its files where it is started beside them.
 #
-# The wanted tables are counted by hand from the four persons of `examples/small`.
+# Those that ask a server need the servers that `clients/run.py` starts, and are passed over without
+# them. Their wanted tables are counted by hand from the four persons of `examples/small`.
 
-arguments <- commandArgs(trailingOnly = FALSE)
-here <- dirname(sub("^--file=", "", grep("^--file=", arguments, value = TRUE)))
-source(file.path(here, "tablebuilder.R"))
+if (file.exists("R/tablebuilder.R")) {
+  source("R/tablebuilder.R")
+  source("R/ptable.R")
+} else {
+  library(tablebuilder)
+}
 
 port_of <- function(server) as.integer(Sys.getenv(paste0("TABLEBUILDER_", server, "_PORT")))
 analyst <- function(server = "TWO_WORKERS", worker = 1) {
@@ -12,6 +16,7 @@ analyst <- function(server = "TWO_WORKERS", worker = 1) {
 }
 custodian <- function(server = "TWO_WORKERS") tb_connect(port_of(server), timeout = 60)
 prepared <- function(timeout = 60) tb_connect(port_of("PREPARED"), timeout = timeout)
+older <- function() tb_connect(port_of("OLDER"), timeout = 60)
 
 expect <- function(got, wanted) {
   if (!identical(got, wanted)) {
@@ -23,11 +28,32 @@ expect <- function(got, wanted) {
   }
 }
 
-# A table of these columns, at a release.
+# A table of these columns, at a release; text is a factor whose levels come as they first stand.
 table_of <- function(release, ...) {
-  table <- data.frame(..., check.names = FALSE, stringsAsFactors = FALSE)
+  columns <- lapply(list(...), function(column) {
+    if (is.character(column)) factor(column, levels = unique(column)) else column
+  })
+  table <- data.frame(columns, check.names = FALSE)
   attr(table, "release") <- release
+  class(table) <- c("tb_table", "data.frame")
   table
+}
+
+# An interval of a table of the package ptable, from here on or from there.
+interval <- function(i, j, from, to) data.frame(i = i, j = j, p_int_lb = from, p_int_ub = to)
+
+# A table in the form of the package ptable: probabilities of j for each count i, as a list.
+intervals_of <- function(probabilities) {
+  rows <- lapply(seq_along(probabilities), function(i) {
+    p <- probabilities[[i]]
+    ends <- cumsum(p)
+    data.frame(
+      i = i, j = as.numeric(names(p)), p = p, v = as.numeric(names(p)) - i,
+      p_int_lb = c(0, ends[-length(ends)]), p_int_ub = ends, type = "all"
+    )
+  })
+  zero <- data.frame(i = 0, j = 0, p = 1, v = 0, p_int_lb = 0, p_int_ub = 1, type = "all")
+  do.call(rbind, c(list(zero), rows))
 }
 
 # The condition of this kind that the expression signals.
@@ -54,12 +80,13 @@ expect_refused <- function(expression, number, word, position = NA, edit = NA) {
   )
 }
 
-tests <- list(
+server_tests <- list(
   one_variable = function() {
     session <- analyst()
     table <- tb_table(session, "SEX")
-    expect(unlist(lapply(table, class)), c(SEX = "character", count = "integer"))
-    expect(table$SEX, c("1", "2"))
+    expect(unlist(lapply(table, class)), c(SEX = "factor", count = "integer"))
+    expect(as.character(table$SEX), c("1", "2"))
+    expect(table$count[table$SEX == "2"], 2L)
     expect(table$count, 1:2)
     tb_close(session)
   },
@@ -71,8 +98,9 @@ tests <- list(
   totals_and_labels = function() {
     session <- analyst()
     table <- tb_table(session, "AREA by SEX", totals = TRUE, labels = TRUE)
-    expect(table$AREA, rep(c("North, rural", "South", "Total"), each = 3))
-    expect(table$SEX, rep(c("Male", "Female", "Total"), 3))
+    expect(as.character(table$AREA), rep(c("North, rural", "South", "Total"), each = 3))
+    expect(as.character(table$SEX), rep(c("Male", "Female", "Total"), 3))
+    expect(levels(table$SEX), c("Male", "Female", "Total"))
     expect(table$count, c(2L, 0L, 2L, 1L, 2L, 1L, 1L, 2L, 6L))
     expect(tb_table(session, "table AREA by SEX with totals with labels"), table)
     tb_close(session)
@@ -267,13 +295,34 @@ tests <- list(
     tb_cache(session, 8)
     tb_close(session)
   },
+  a_batch_that_is_not_kept_is_held_still = function() {
+    session <- prepared()
+    fault_of("tb_memory", tb_publish(session))
+    expect(tb_publish(session), 1)
+    expect(tb_drop(session, 103), 1)
+    for (time in 1:2) fault_of("tb_unkept", tb_publish(session))
+    expect(tb_drop(session, 103), 2)
+    tb_close(session)
+  },
+  a_journal_without_room = function() {
+    session <- custodian("FULL")
+    other <- analyst("FULL")
+    expect(tb_drop(session, 104), 1)
+    fault_of("tb_unkept", tb_publish(session))
+    expect(tb_drop(session, 103), 2)
+    fault_of("tb_unkept", tb_publish(session))
+    expect(tb_stats(session)[["release"]], 1)
+    expect(tb_table(other, "SEX"), table_of(1, SEX = c("1", "2"), count = 1:2))
+    tb_close(session)
+    tb_close(other)
+  },
   a_reply_that_is_cut = function() {
     session <- prepared()
     fault_of("tb_ended", tb_table(session, "CUT"))
     fault_of("tb_ended", tb_table(session, "SEX"))
   },
   a_reply_of_something_else = function() {
-    for (query in c("OTHER", "BYTES")) {
+    for (query in c("OTHER", "BYTES", "UNKEPT")) {
       session <- prepared()
       fault_of("tb_unexpected", tb_table(session, query))
       fault_of("tb_ended", tb_table(session, "SEX"))
@@ -281,8 +330,83 @@ tests <- list(
   },
   no_reply_in_time = function() {
     session <- prepared(timeout = 1)
-    fault_of("tb_ended", tb_table(session, "WAIT"))
-    fault_of("tb_ended", tb_table(session, "SEX"))
+    fault_of("tb_busy", tb_table(session, "WAIT"))
+    expect(inherits(fault_of("tb_ended", tb_table(session, "SEX")), "tb_busy"), FALSE)
+    session <- prepared(timeout = 1)
+    fault_of("tb_memory", tb_table(session, "SEX"))
+    expect(inherits(fault_of("tb_ended", tb_table(session, "WAIT")), "tb_busy"), FALSE)
+  },
+  a_port_that_another_client_has = function() {
+    session <- analyst()
+    expect(tb_table(session, "SEX")$count, 1:2)
+    other <- tb_connect(port_of("TWO_WORKERS") + 1, timeout = 1)
+    fault_of("tb_busy", tb_table(other, "SEX"))
+    expect(tb_table(session, "SEX")$count, 1:2)
+    tb_close(session)
+  },
+  levels_are_in_the_tables_order = function() {
+    session <- prepared()
+    table <- tb_table(session, "AGE by SEX", totals = TRUE)
+    expect(levels(table$AGE), c("65+", "0-15", "Total"))
+    expect(levels(table$SEX), c("2", "1", "Total"))
+    shuffled <- table[c(9, 4, 1, 7, 2, 8, 3, 6, 5), ]
+    expect(shuffled[order(shuffled$AGE, shuffled$SEX), "count"], table$count)
+    # Labels of which two are equal, and one is as the totals are.
+    table <- tb_table(session, "AGE", totals = TRUE, labels = TRUE)
+    expect(levels(table$AGE), c("same", "old", "Total"))
+    expect(as.character(table$AGE), c("Total", "same", "same", "old", "Total"))
+    tb_close(session)
+  },
+  no_two_columns_have_one_name = function() {
+    session <- prepared()
+    table <- tb_table(session, "count by SEX")
+    expect(names(table), c("count", "SEX", "count_"))
+    expect(table$count_, c(5L, NA, 7L, 0L))
+    expect(names(tb_table(session, "count by count_")), c("count", "count_", "count__"))
+    tb_close(session)
+  },
+  what_is_printed = function() {
+    session <- prepared()
+    expect(
+      capture.output(tb_table(session, "count by SEX")),
+      c(
+        "release 0, 4 places", " count SEX count_", "     b   1      5", "     b   2     NA",
+        "     a   1      7", "     a   2      0"
+      )
+    )
+    lines <- capture.output(tb_table(session, "MANY"))
+    expect(lines[c(1:3, 12:14)], c(
+      "release 0, 50 places", " MANY count", "   m0     0", "   m9     9", " .. 39 more",
+      "  m49    49"
+    ))
+    expect(length(lines), 14L)
+    expect(capture.output(session), paste0("session at 127.0.0.1:", port_of("PREPARED")))
+    tb_close(session)
+    expect(grepl(", ended$", capture.output(session)), TRUE)
+  },
+  what_may_be_asked = function() {
+    session <- prepared()
+    expect(tb_variables(session), data.frame(
+      name = c("SEX", "AGE", "AREA", "AGE2"),
+      kind = c("variable", "variable", "variable", "recode of AGE"),
+      categories = c(2L, 3L, 2L, 2L)
+    ))
+    expect(tb_codes(session, "AREA"), data.frame(
+      code = c("E1", "E2"), label = c("North, rural", "South")
+    ))
+    expect(tb_codes(session, "AGE2"), data.frame(
+      group = c("young", "old", "old"), code = c("0-15", "16-64", "65+")
+    ))
+    expect_refused(tb_codes(session, "NOSUCH"), 3, "UnknownName", 2)
+    fault_of("simpleError", tb_codes(session, "SEX x"))
+    fault_of("tb_memory", tb_codes(session, "MEMORY"))
+    expect(tb_codes(session, "MEMORY"), data.frame(code = "m", label = ""))
+    fault_of("tb_unexpected", tb_codes(session, "OTHER"))
+    session <- older()
+    fault_of("tb_cannot_describe", tb_variables(session))
+    fault_of("tb_cannot_describe", tb_codes(session, "SEX"))
+    expect(tb_table(session, "SEX")$count, 1:2)
+    tb_close(session)
   },
   a_server_that_goes_away = function() {
     session <- custodian("LEAVING")
@@ -297,6 +421,96 @@ tests <- list(
     }
   }
 )
+
+# Tests that ask no server.
+own_tests <- list(
+  # Bounds that are no middle of a key's interval, so the shares are exact: of 256 keys the first 64
+  # make 0 of a count of 1, the next 128 leave it, and the last 64 make it 3.
+  a_table_of_the_package_ptable = function() {
+    table <- rbind(
+      interval(1, 3, 0.75, 1), interval(1, 0, 0, 0.25), interval(1, 1, 0.25, 0.75),
+      interval(2, 1, 0, 0.5), interval(2, 3, 0.5, 1), interval(0, 0, 0, 1)
+    )
+    for (keys in c(256, 4096)) {
+      made <- tb_ptable(table, keys)
+      expect(names(made), c("pcv", "ckey", "pvalue"))
+      expect(made$pcv, rep(1:750, each = keys))
+      expect(made$ckey, rep(seq_len(keys) - 1L, 750))
+      part <- keys / 4
+      expect(made$pvalue[made$pcv == 1], rep(c(-1L, 0L, 2L), part * c(1, 2, 1)))
+      # The largest count serves all larger ones.
+      for (count in c(2, 3, 500, 501, 750)) {
+        expect(made$pvalue[made$pcv == count], rep(c(-1L, 1L), part * c(2, 2)))
+      }
+      rows <- attr(made, "rows")
+      expect(rows$count, c(1, 2))
+      expect(rows$mean, c(0.25, 0))
+      expect(rows$mean_by_keys, c(0.25, 0))
+      expect(rows$largest_difference, c(0, 0))
+    }
+  },
+  # Each share differs by at most one key, whatever the bounds; no count falls below 0.
+  shares_of_cell_keys = function() {
+    set.seed(7)
+    probabilities <- lapply(1:12, function(i) {
+      moves <- max(-i, -5):5
+      p <- stats::runif(length(moves))
+      stats::setNames(p / sum(p), i + moves)
+    })
+    for (keys in c(256, 4096)) {
+      made <- tb_ptable(intervals_of(probabilities), keys)
+      expect(all(made$pcv + made$pvalue >= 0), TRUE)
+      for (i in seq_along(probabilities)) {
+        p <- probabilities[[i]]
+        pvalues <- made$pvalue[made$pcv == i]
+        expect(is.unsorted(pvalues), FALSE)
+        shares <- table(factor(pvalues + i, levels = names(p))) / keys
+        expect(sum(shares), 1)
+        expect(all(abs(shares - p) <= 1 / keys), TRUE)
+        told <- attr(made, "rows")
+        expect(isTRUE(all.equal(told$largest_difference[i], max(abs(shares - p)))), TRUE)
+        expect(isTRUE(all.equal(told$mean_by_keys[i], mean(pvalues))), TRUE)
+        expect(isTRUE(all.equal(told$mean[i], sum(p * (as.numeric(names(p)) - i)))), TRUE)
+      }
+    }
+  },
+  an_object_of_the_package_and_a_file = function() {
+    holder <- methods::setClass("ptable", representation(pTable = "data.frame"))
+    table <- intervals_of(list(c("0" = 0.25, "2" = 0.75), c("2" = 1)))
+    made <- tb_ptable(table)
+    expect(tb_ptable(holder(pTable = table)), made)
+    file <- tempfile(fileext = ".csv")
+    expect(tb_ptable(table, file = file), made)
+    lines <- readLines(file)
+    expect(lines[c(1:3, 66, 257:258)], c(
+      "pcv,ckey,pvalue", "1,0,-1", "1,1,-1", "1,64,1", "1,255,1", "2,0,0"
+    ))
+    expect(length(lines), 1L + 750L * 256L)
+    expect(made$pvalue[2:65], c(rep(-1L, 63), 1L))
+  },
+  what_is_no_such_table = function() {
+    good <- intervals_of(list(c("0" = 0.25, "2" = 0.75)))
+    without <- function(column) good[setdiff(names(good), column)]
+    for (bad in list(
+      without("p_int_lb"), good[good$i == 0, ], good[-2, ], good[-3, ], rbind(good, good),
+      transform(good, type = c("even", "odd", "odd")), transform(good, j = j - 1),
+      transform(good, j = j + 0.5), transform(good, p_int_ub = as.character(p_int_ub)),
+      transform(good, j = 1), transform(good, i = 2 * i), transform(good, j = j + 1002 * (j > 1)),
+      transform(good, p_int_ub = NA_real_)
+    )) {
+      fault_of("simpleError", tb_ptable(bad))
+    }
+    fault_of("simpleError", tb_ptable(good, keys = 1024))
+    fault_of("simpleError", tb_ptable(good, keys = c(256, 4096)))
+  }
+)
+
+tests <- own_tests
+if (nzchar(Sys.getenv("TABLEBUILDER_PROGRAM"))) {
+  tests <- c(server_tests, own_tests)
+} else {
+  cat("no servers:", length(server_tests), "tests are passed over\n")
+}
 
 failed <- 0
 for (name in names(tests)) {

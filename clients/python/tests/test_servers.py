@@ -1,19 +1,26 @@
-"""Tests of `tablebuilder.py` against the servers that `clients/run.py` starts.
+"""Tests against the servers that `clients/run.py` starts; without these they are passed over.
 
 The wanted tables are counted by hand from the four persons of `examples/small`.
 """
 import os
+import random
 import signal
+import socket
+import subprocess
+import sys
+import tempfile
 import threading
 import unittest
 
 import tablebuilder
-from tablebuilder import Ended, OutOfMemory, Refused, Stats, Unexpected
+from tablebuilder import Busy, CannotDescribe, Category, Ended, Refused, Stats
+from tablebuilder import Unkept, Variable
+from tablebuilder.query import stage_after, tokens_of
 
-try:
-    import pandas
-except ImportError:
-    pandas = None
+
+def setUpModule():
+    if "TABLEBUILDER_PROGRAM" not in os.environ:
+        raise unittest.SkipTest("there are no servers: `make clients` starts them")
 
 
 def port_of(server):
@@ -26,10 +33,6 @@ def analyst(server="TWO_WORKERS", worker=1):
 
 def custodian(server="TWO_WORKERS"):
     return tablebuilder.connect(port_of(server), timeout=60)
-
-
-def prepared(timeout=60):
-    return tablebuilder.connect(port_of("PREPARED"), timeout=timeout)
 
 
 class Tables(unittest.TestCase):
@@ -76,23 +79,6 @@ class Tables(unittest.TestCase):
             self.assertTable(table, ("AREA",), [("E1", 1), ("E2", 1), ("Total", 6)])
             table = session.table("SEX", where="AGE not in (0-15)", totals=True)
             self.assertTable(table, ("SEX",), [("1", 2), ("2", 2), ("Total", 6)])
-
-    def test_labels_with_quotes_and_other_letters(self):
-        with prepared() as session:
-            table = session.table("AREA", labels=True)
-        self.assertTable(table, ("AREA",), [('Nord, "Ö" 1', 3), ("Süd", None), ("", 1_000_000)])
-        self.assertEqual(table.release, 12)
-
-    @unittest.skipUnless(pandas, "pandas isn't there")
-    def test_frame(self):
-        with analyst("THRESHOLD") as session:
-            frame = session.table("SEX").frame()
-        self.assertEqual(list(frame.columns), ["SEX", "count"])
-        self.assertEqual(list(frame["SEX"]), ["1", "2"])
-        self.assertEqual(str(frame["count"].dtype), "Int64")
-        self.assertEqual([bool(it) for it in frame["count"].isna()], [True, False])
-        self.assertEqual(frame["count"].sum(), 2)
-        self.assertEqual(frame.attrs["release"], 0)
 
 
 class Refusals(unittest.TestCase):
@@ -168,6 +154,36 @@ class Refusals(unittest.TestCase):
             self.assertEqual(session.table("SEX").counts, [1, 2])
 
 
+    def test_syntax_is_that_of_the_clients_own_table(self):
+        """What the client says was expected is as the server reads: lines of some of its words."""
+        draw = random.Random(5)
+        words = "table by where and not in with totals labels ( , ) SEX AREA 1 ;".split()
+        starts = ["", "table SEX", "table SEX where SEX in (1", "table SEX with totals"]
+        read = refused = 0
+        with analyst() as session:
+            for _ in range(600):
+                line = " ".join([draw.choice(starts), *draw.choices(words, k=draw.randrange(5))])
+                if not line.strip():
+                    continue
+                tokens = tokens_of(line)
+                stages = [stage_after(tokens[:count]) for count in range(len(tokens) + 1)]
+                wanted = stages.index(None) if None in stages else len(tokens) + 1
+                try:
+                    session.ask(line)
+                    word = None
+                except Refused as fault:
+                    word, position = fault.word, fault.position
+                if word == "Syntax":
+                    refused += 1
+                    self.assertEqual((line, position), (line, wanted))
+                    self.assertIn(": expected ", str(Refused(line, 2, "Syntax", position)))
+                else:
+                    read += 1
+                    self.assertTrue(None not in stages and stages[-1].is_end, line)
+        self.assertGreater(read, 50)
+        self.assertGreater(refused, 300)
+
+
 class Custodians(unittest.TestCase):
     def test_a_batch_and_a_returning_person(self):
         with custodian() as session, analyst() as other:
@@ -182,6 +198,13 @@ class Custodians(unittest.TestCase):
             with self.assertRaises(Refused) as caught:
                 session.publish()
             self.assertEqual((caught.exception.word, caught.exception.edit), ("KeyChanged", 1))
+            self.assertEqual(
+                str(caught.exception).splitlines(),
+                [
+                    "refused batch 1 3 KeyChanged: it adds a person who once had another key",
+                    "    add 200 10 SEX=1 AGE=65+ AREA=E1",
+                ],
+            )
 
     def test_the_rules_of_a_release(self):
         """SEX 1 has three persons and the cell key 64, whose pvalue in the file is -2."""
@@ -263,33 +286,64 @@ class Custodians(unittest.TestCase):
                 self.assertEqual(table.counts, [1, 2 if here else 0])
 
 
+class Descriptions(unittest.TestCase):
+    def setUp(self):
+        try:
+            with analyst() as session:
+                session.variables()
+        except CannotDescribe:
+            self.skipTest("this program can't describe what may be asked")
+
+    def test_variables_and_recodes(self):
+        with analyst() as session:
+            wanted = [("SEX", "variable", 2), ("AGE", "variable", 3), ("AREA", "variable", 2)]
+            wanted.append(("AGE2", "recode of AGE", 2))
+            self.assertEqual(session.variables(), [Variable(*it) for it in wanted])
+            labels = [Category("E1", "North, rural", ()), Category("E2", "South", ())]
+            self.assertEqual(session.codes("AREA"), labels)
+            groups = [Category("young", None, ("0-15",)), Category("old", None, ("16-64", "65+"))]
+            self.assertEqual(session.codes("AGE2"), groups)
+            with self.assertRaises(Refused) as caught:
+                session.codes("NOSUCH")
+            self.assertEqual((caught.exception.word, caught.exception.position), ("UnknownName", 2))
+            self.assertEqual(session.table("SEX").counts, [1, 2])
+
+
+class Scripts(unittest.TestCase):
+    def test_the_command_writes_what_the_server_writes(self):
+        lines = b"table SEX\n\n# none\ntable AREA by AGE2 with totals with labels\r\ntable FOO\n"
+        lines += b"at 0 table SEX where AGE in (0-15,16-64)\nat 9999 table SEX\ntable SEX"
+        address = ("127.0.0.1", port_of("TWO_WORKERS") + 1)
+        with socket.create_connection(address, 60) as session, session.makefile("rb") as replies:
+            session.sendall(lines)
+            session.shutdown(socket.SHUT_WR)
+            wanted = replies.read()
+        with tempfile.NamedTemporaryFile() as script:
+            script.write(lines)
+            script.flush()
+            words = [sys.executable, "-B", "-m", "tablebuilder", str(address[1]), script.name]
+            told = subprocess.run(words, stdout=subprocess.PIPE, timeout=60, check=False)
+        self.assertEqual((told.returncode, told.stdout), (1, wanted))
+        self.assertEqual(wanted.count(b"\n.\n"), 4)
+
+
 class Faults(unittest.TestCase):
-    def test_memory_may_be_tried_again(self):
-        with prepared() as session:
-            for call, wanted in [
-                (lambda: session.table("SEX").counts, [1, 2]),
-                (lambda: session.drop(104), 1),
-                (session.publish, 1),
-                (lambda: session.cache(8), None),
-            ]:
-                self.assertRaises(OutOfMemory, call)
-                self.assertEqual(call(), wanted)
+    def test_a_journal_without_room(self):
+        with custodian("FULL") as session, analyst("FULL") as other:
+            for held, person in enumerate((104, 103), 1):
+                self.assertEqual(session.drop(person), held)
+                self.assertRaises(Unkept, session.publish)
+            self.assertEqual(session.stats().release, 1)
+            table = other.table("SEX")
+            self.assertEqual((table.release, table.counts), (1, [1, 2]))
 
-    def test_a_reply_that_is_cut(self):
-        with prepared() as session:
-            self.assertRaises(Ended, session.table, "CUT")
-            self.assertFalse(session.is_open)
-
-    def test_a_reply_of_something_else(self):
-        for query in ("OTHER", "BYTES"):
-            with prepared() as session:
-                self.assertRaises(Unexpected, session.table, query)
-                self.assertFalse(session.is_open)
-
-    def test_no_reply_in_time(self):
-        with prepared(timeout=0.2) as session:
-            self.assertRaises(Ended, session.table, "WAIT")
-            self.assertRaises(Ended, session.table, "SEX")
+    def test_a_port_that_another_client_has(self):
+        with analyst() as session:
+            self.assertEqual(session.table("SEX").counts, [1, 2])
+            with tablebuilder.connect(port_of("TWO_WORKERS") + 1, timeout=0.3) as other:
+                self.assertRaises(Busy, other.table, "SEX")
+                self.assertFalse(other.is_open)
+            self.assertEqual(session.table("SEX").counts, [1, 2])
 
     def test_a_server_that_goes_away(self):
         with custodian("LEAVING") as session, analyst("LEAVING") as other:
@@ -298,7 +352,3 @@ class Faults(unittest.TestCase):
             for one in (session, other):
                 self.assertRaises(Ended, one.table, "SEX")
                 self.assertFalse(one.is_open)
-
-
-if __name__ == "__main__":
-    unittest.main()

@@ -2,8 +2,10 @@
 #
 # An analyst:
 #
-#     source("tablebuilder.R")
+#     library(tablebuilder)    # or source("tablebuilder.R"): this file alone will do
 #     session <- tb_connect(4001)
+#     tb_variables(session)
+#     tb_codes(session, "SEX")
 #     table <- tb_table(session, "AREA by SEX", where = "AGE in (16-64)", totals = TRUE)
 #     attr(table, "release")
 #     tb_close(session)
@@ -27,7 +29,16 @@
 #                     them together; else NA). The session goes on.
 #     tb_memory       the server had no memory for the reply. Nothing has changed, and the same may
 #                     be tried again.
+#     tb_cannot_describe
+#                     the server is of an earlier version, which tells nothing of what may be asked.
+#                     It is a tb_refused too.
+#     tb_unkept       the server couldn't keep the batch of tb_publish: nothing was published, and
+#                     the edits are still held. From then on it keeps nothing until it is started
+#                     again. It may have this batch all the same: once it was started again, the
+#                     release of tb_stats tells, before anything is tried again.
 #     tb_ended        the session has ended: it was closed, or the server went away.
+#     tb_busy         nothing came in time, not even a first reply: another client may have the
+#                     port. It is a tb_ended too.
 #     tb_unexpected   what came is no reply to what was asked. The session is closed.
 
 #' Open a session.
@@ -38,6 +49,9 @@
 #' @return A session, for `tb_table` and the others. `tb_close` ends it.
 tb_connect <- function(port, host = "127.0.0.1", timeout = 86400) {
   session <- new.env(parent = emptyenv())
+  session$address <- paste0(host, ":", port)
+  session$timeout <- timeout
+  session$is_served <- FALSE
   session$connection <- tryCatch(
     socketConnection(host, port, blocking = TRUE, open = "r+", timeout = timeout),
     error = function(fault) tb_fail("tb_ended", conditionMessage(fault)),
@@ -56,6 +70,31 @@ tb_close <- function(session) {
   invisible(NULL)
 }
 
+#' Print a session: where it is, and whether it is open.
+print.tb_session <- function(x, ...) {
+  cat("session at ", x$address, if (is.null(x$connection)) ", ended", "\n", sep = "")
+  invisible(x)
+}
+
+#' Ask what may be asked.
+#'
+#' @return A data frame with a row for each variable and then each recode: its `name`, its `kind`
+#'   ("variable", or "recode of V"), and how many `categories`, or groups, it has.
+tb_variables <- function(session) {
+  variables <- tb_describe(session, "describe", "name,kind,categories")
+  variables$categories <- as.integer(variables$categories)
+  variables
+}
+
+#' Ask which codes a variable has, or which groups a recode.
+#'
+#' @return A data frame in the schema's order: for a variable the `code` and the `label` of each
+#'   category, for a recode the `group` of each `code` of its variable.
+tb_codes <- function(session, name) {
+  if (!grepl("^[^ \t]+$", name)) stop("no name of a variable or a recode: ", name)
+  tb_describe(session, paste("describe", name), c("code,label", "group,code"))
+}
+
 #' Ask for a table.
 #'
 #' @param session What `tb_connect` returned.
@@ -64,9 +103,11 @@ tb_close <- function(session) {
 #' @param where The filters, as "AGE in (16-64, 65+) and SEX not in (1)".
 #' @param totals,labels Whether to add totals, and to give labels in place of a variable's codes.
 #' @param at The number of the release over which to count, else the current one.
-#' @return A data frame with a column of text for each dimension (a code, a group or a label, or
-#'   "Total") and the integer column `count`, which is NA where the server shows "c", since the count
-#'   is below its threshold. The attribute "release" is the release's number.
+#' @return A data frame, which prints its first places. It has a factor for each dimension, whose
+#'   levels (codes, groups or labels) are in the table's order, with "Total" last where there are
+#'   totals; and the integer column `count`, which is NA where the server shows "c", since the count
+#'   is below its threshold. Where a dimension is named count that column is `count_`, so that no
+#'   two have one name. The attribute "release" is the release's number.
 tb_table <- function(session, query, where = NULL, totals = FALSE, labels = FALSE, at = NULL) {
   line <- query
   if (!grepl("^[ \t]*table([ \t]|$)", query)) {
@@ -83,15 +124,43 @@ tb_table <- function(session, query, where = NULL, totals = FALSE, labels = FALS
   reply <- tb_reply(session, line)
   last <- length(reply)
   if (last < 4 || !grepl("^release [0-9]+$", reply[1])) tb_expect_another(session, reply)
-  table <- read.csv(
-    text = reply[2:(last - 1)], colClasses = "character", check.names = FALSE,
-    na.strings = character(0)
-  )
+  table <- tb_records(reply[2:(last - 1)])
+  dimensions <- seq_len(ncol(table) - 1)
   counts <- table[[ncol(table)]]
   counts[counts == "c"] <- NA
+  table[dimensions] <- lapply(table[dimensions], tb_in_order)
   table[[ncol(table)]] <- as.integer(counts)
+  while (anyDuplicated(names(table))) {
+    names(table)[ncol(table)] <- paste0(names(table)[ncol(table)], "_")
+  }
   attr(table, "release") <- tb_numbers_in(reply[1])
+  class(table) <- c("tb_table", "data.frame")
   table
+}
+
+#' Print a table: its release, its first places, and the last where there are more.
+#'
+#' @param most How many places to show from the first on.
+print.tb_table <- function(x, most = 10, ...) {
+  release <- attr(x, "release")
+  places <- nrow(x)
+  cat(
+    if (!is.null(release)) paste0("release ", tb_digits(release), ", "),
+    format(places, big.mark = ","), " place", if (places != 1) "s", "\n",
+    sep = ""
+  )
+  is_cut <- places > most + 1
+  shown <- as.data.frame(x)[if (is_cut) c(seq_len(most), places) else seq_len(places), ,
+    drop = FALSE
+  ]
+  class(shown) <- "data.frame"
+  lines <- utils::capture.output(print(shown, ..., row.names = FALSE))
+  if (is_cut) {
+    more <- paste0(" .. ", format(places - most - 1, big.mark = ","), " more")
+    lines <- append(lines, more, length(lines) - 1)
+  }
+  writeLines(lines)
+  invisible(x)
 }
 
 # ---- for the custodian
@@ -127,7 +196,8 @@ tb_set_threshold <- function(session, threshold) {
 
 #' Make the held edits the next release, all or none.
 #'
-#' No edit is held after it, also where it is refused. After `tb_memory` all are still held.
+#' No edit is held after it, also where it is refused. After `tb_memory`, and after `tb_unkept`,
+#' which a server with a journal signals where its disk failed, all are still held.
 #'
 #' @return The number of the release.
 tb_publish <- function(session) {
@@ -157,6 +227,36 @@ tb_cache <- function(session, capacity) {
 
 # ---- a line and its reply
 
+# A data frame of text, from lines of which the first has the names.
+tb_records <- function(lines) {
+  utils::read.csv(
+    text = lines, colClasses = "character", check.names = FALSE, na.strings = character(0)
+  )
+}
+
+# The levels are the codes as they come. Where there are totals the last of them is Total (a label
+# before may be Total too).
+tb_in_order <- function(codes) {
+  order <- unique(codes)
+  if (codes[length(codes)] == "Total") order <- c(order[order != "Total"], "Total")
+  factor(codes, levels = order)
+}
+
+# The list in the reply to `describe`, whose second line is one of these.
+tb_describe <- function(session, line, names) {
+  reply <- tryCatch(tb_reply(session, line), tb_refused = function(fault) {
+    # A server that describes refuses no such line for its first word.
+    if (fault$word == "Syntax" && identical(fault$position, 1L)) {
+      fault$message <- "this server can't describe what may be asked: it is of an earlier version"
+      class(fault) <- c("tb_cannot_describe", class(fault))
+    }
+    stop(fault)
+  })
+  last <- length(reply)
+  if (last < 3 || reply[1] != line || !(reply[2] %in% names)) tb_expect_another(session, reply)
+  tb_records(reply[2:(last - 1)])
+}
+
 tb_digits <- function(number) sprintf("%.0f", number)
 
 tb_settings <- function(...) {
@@ -183,6 +283,9 @@ tb_reply <- function(session, line) {
   if (grepl("\n", line, fixed = TRUE)) stop("a line feed would begin another line")
   reply <- tb_exchange(session, line)
   if (identical(reply, "memory")) tb_fail("tb_memory", paste("no memory for:", line), line = line)
+  if (line == "publish" && identical(reply, "unkept")) {
+    tb_fail("tb_unkept", "nothing was published: the server couldn't keep the batch", line = line)
+  }
   if (startsWith(reply[1], "refused ")) tb_refuse(session, line, reply)
   reply
 }
@@ -206,22 +309,35 @@ tb_exchange <- function(session, line) {
   # Whatever interrupts the wait, no later call takes a reply that isn't its own.
   is_whole <- FALSE
   on.exit(if (!is_whole) tb_close(session))
+  begin <- proc.time()[["elapsed"]]
+  end <- function(fault) {
+    is_late <- proc.time()[["elapsed"]] - begin >= session$timeout
+    if (is_late && !session$is_served) {
+      tb_fail(c("tb_busy", "tb_ended"), paste0(
+        "nothing came from ", session$address, " within ", session$timeout,
+        " s: another client may have this port, which serves one session at a time"
+      ))
+    }
+    tb_fail("tb_ended", conditionMessage(fault))
+  }
   reply <- tryCatch(
     {
       writeLines(enc2utf8(line), session$connection, useBytes = TRUE)
-      tb_lines(session$connection)
+      tb_lines(session)
     },
-    error = function(fault) tb_fail("tb_ended", conditionMessage(fault)),
-    warning = function(fault) tb_fail("tb_ended", conditionMessage(fault))
+    error = end, warning = end
   )
   is_whole <- TRUE
   reply
 }
 
 # The lines up to the end of a reply.
-tb_lines <- function(connection) {
+tb_lines <- function(session) {
+  connection <- session$connection
   reply <- tb_line(connection)
-  if (!startsWith(reply, "release ")) return(reply)
+  session$is_served <- TRUE
+  # A table and a list go on, up to the line `.`.
+  if (!grepl("^(release |describe$|describe )", reply)) return(reply)
   count <- 1
   while (reply[count] != ".") {
     if (count == length(reply)) length(reply) <- 2 * count

@@ -1,100 +1,19 @@
-"""Asks a TableBuilder server for tables of perturbed counts, and revises what it counts.
-
-An analyst:
-
-    import tablebuilder
-
-    with tablebuilder.connect(4001) as session:
-        table = session.table("AREA by SEX", where="AGE in (16-64)", totals=True)
-        for area, sex, count in table:
-            print(table.release, area, sex, "hidden" if count is None else count)
-
-The custodian, at the first port of the server:
-
-    with tablebuilder.connect(4000) as session:
-        session.amend(104, AREA="E1")
-        print(session.publish())
-
-Every count is perturbed: it is what the server shows, and no true count. A session holds its port
-until it is closed, and the next client waits meanwhile, so use `with`. A session is for one thread.
-This file needs the standard library alone; `Table.frame` needs pandas.
-"""
+"""A session with a server: a line out, and its reply back."""
 
 from __future__ import annotations
 
-import csv
 import socket
 import ssl
-from dataclasses import dataclass
-from typing import TYPE_CHECKING, Iterator, NamedTuple, NoReturn, Optional
+from typing import Callable, NamedTuple, NoReturn, Optional, TypeVar
 
-if TYPE_CHECKING:
-    import pandas
+from tablebuilder.faults import Busy, CannotDescribe, Ended, OutOfMemory
+from tablebuilder.faults import Refused, Unexpected, Unkept
+from tablebuilder.table import Category, Table, Variable
+from tablebuilder.table import categories_of, is_number, table_of, variables_of
 
-__all__ = [
-    "Ended",
-    "Error",
-    "OutOfMemory",
-    "Refused",
-    "Session",
-    "Stats",
-    "Table",
-    "Unexpected",
-    "connect",
-]
+__all__ = ["Session", "Stats", "connect"]
 
-
-class Error(Exception):
-    """What any reply but the one that was asked for raises."""
-
-
-class Refused(Error):
-    """The server refused the line, for its first fault. The session goes on.
-
-    Attributes
-    ----------
-    line : str
-        The line that was refused.
-    number : int
-        The fault's number.
-    word : str
-        The fault's word, such as ``UnknownName``.
-    position : int or None
-        Of a query: the token at fault, from 1, or the byte for ``NotText``; for ``NoSuchRelease``
-        the number of the last release. None where the fault has no place, and for edits.
-    edit : int or None
-        Of `Session.publish`: the edit that can't be made, from 1; 0 where it is for all of them
-        together. None for queries and for an edit's own line.
-    """
-
-    def __init__(
-        self,
-        line: str,
-        number: int,
-        word: str,
-        position: Optional[int] = None,
-        edit: Optional[int] = None,
-    ) -> None:
-        super().__init__(line, number, word, position, edit)
-        self.line, self.number, self.word = line, number, word
-        self.position, self.edit = position, edit
-
-    def __str__(self) -> str:
-        place = f" at {self.position}" if self.position is not None else ""
-        batch = f" (edit {self.edit} of the batch)" if self.edit else ""
-        return f"refused {self.number} {self.word}{place}{batch}: {self.line}"
-
-
-class OutOfMemory(Error):
-    """The server had no memory for the reply. Nothing has changed: the same may be tried again."""
-
-
-class Ended(Error):
-    """The session has ended: it was closed, or the server went away."""
-
-
-class Unexpected(Error):
-    """What came is no reply to what was asked. The session is closed."""
+T = TypeVar("T")
 
 
 class Stats(NamedTuple):
@@ -105,51 +24,6 @@ class Stats(NamedTuple):
     hits: int
     entries: int
     capacity: int
-
-
-@dataclass(frozen=True)
-class Table:
-    """A table: for each place the codes (or labels) of its dimensions, and its perturbed count.
-
-    Iterating gives a tuple for each place: the codes, and then the count.
-
-    Attributes
-    ----------
-    release : int
-        The number of the release over which the table was counted.
-    dimensions : tuple of str
-        The dimensions' names.
-    codes : tuple of list of str
-        A column for each dimension: a code, a group or a label, or ``Total``.
-    counts : list of (int or None)
-        The column of perturbed counts; None where the server shows ``c``, since the count is below
-        its threshold.
-    """
-
-    release: int
-    dimensions: tuple[str, ...]
-    codes: tuple[list[str], ...]
-    counts: list[Optional[int]]
-
-    def __len__(self) -> int:
-        return len(self.counts)
-
-    def __iter__(self) -> Iterator[tuple[str | int | None, ...]]:
-        return zip(*self.codes, self.counts)
-
-    def frame(self) -> pandas.DataFrame:
-        """The table as a pandas frame.
-
-        The dimensions are columns of strings, ``count`` is one of nullable integers (``Int64``),
-        and ``attrs["release"]`` is the release's number. It needs pandas.
-        """
-        import pandas
-
-        columns = [*map(pandas.Series, self.codes), pandas.Series(self.counts, dtype="Int64")]
-        frame = pandas.concat(columns, axis=1)
-        frame.columns = [*self.dimensions, "count"]
-        frame.attrs["release"] = self.release
-        return frame
 
 
 def connect(
@@ -174,9 +48,12 @@ def connect(
     Raises
     ------
     OSError
-        Where there is no connection.
+        Where there is no connection; `Busy` is one, where there was none in time.
     """
-    connection = socket.create_connection((host, port), timeout)
+    try:
+        connection = socket.create_connection((host, port), timeout)
+    except socket.timeout as fault:
+        raise Busy(f"{host}:{port} took no connection within {timeout} s") from fault
     try:
         connection.setsockopt(socket.IPPROTO_TCP, socket.TCP_NODELAY, 1)
         if tls is not None:
@@ -190,15 +67,19 @@ def connect(
 class Session:
     """A session over a connection; `connect` opens one.
 
-    Each method writes one line and waits for the reply to it. It raises `Refused` or `OutOfMemory`
-    where the reply says so, and then the session goes on; `Ended` where the server has gone, and
-    `Unexpected` where the reply is none to such a line. Where anything else interrupts the wait the
-    session is closed, so that no later call takes a reply that isn't its own.
+    Each method writes one line and waits for the reply to it. It raises `Refused`, `OutOfMemory` or
+    `Unkept` where the reply says so, and then the session goes on; `Ended` where the server has
+    gone, and `Unexpected` where the reply is none to such a line. `Busy`, which is an `Ended`, says
+    that not even a first reply came in time: another client may have the port. Where anything else
+    interrupts the wait the session is closed, so that no later call takes a reply that isn't its
+    own.
     """
 
     def __init__(self, connection: socket.socket) -> None:
         self._connection: Optional[socket.socket] = connection
         self._replies = connection.makefile("rb")
+        self._is_served = False
+        self._held_lines: list[str] = []
 
     def __enter__(self) -> Session:
         return self
@@ -211,12 +92,49 @@ class Session:
         """Whether the session hasn't ended, as far as is known."""
         return self._connection is not None
 
+    @property
+    def timeout(self) -> Optional[float]:
+        """For how many seconds to wait at each step of a reply; None waits for ever."""
+        return None if self._connection is None else self._connection.gettimeout()
+
+    @timeout.setter
+    def timeout(self, seconds: Optional[float]) -> None:
+        if self._connection is not None:
+            self._connection.settimeout(seconds)
+
     def close(self) -> None:
         """Ends the session, so that the next client has its port. Held edits are lost."""
         if self._connection is not None:
             connection, self._connection = self._connection, None
             self._replies.close()
             connection.close()
+
+    # ---- what may be asked
+
+    def variables(self) -> list[Variable]:
+        """The variables and then the recodes, each with how many categories or groups it has.
+
+        Raises
+        ------
+        CannotDescribe
+            Where the server is of an earlier version, which tells nothing of what may be asked.
+        """
+        return self._describe("describe", variables_of)
+
+    def codes(self, name: str) -> list[Category]:
+        """The categories of a variable in the table's order, or the groups of a recode.
+
+        Groups come as the variable's codes are first in them. A name that is neither is `Refused`
+        with the word ``UnknownName``.
+
+        Raises
+        ------
+        CannotDescribe
+            Where the server is of an earlier version, which tells nothing of what may be asked.
+        """
+        if len(name.split()) != 1:
+            raise ValueError(f"no name of a variable or a recode: {name!r}")
+        return self._describe(f"describe {name}", lambda reply: categories_of(name, reply))
 
     # ---- tables
 
@@ -257,11 +175,7 @@ class Session:
             line += " with labels" if labels else ""
         if at is not None:
             line = f"at {at} {line}"
-        reply = self._reply(line)
-        try:
-            return _table(reply)
-        except (ValueError, csv.Error):
-            self._unexpected(reply)
+        return self._parse(self.ask(line), table_of)
 
     # ---- for the custodian
 
@@ -294,7 +208,8 @@ class Session:
     def publish(self) -> int:
         """Makes the held edits the next release, all or none, and returns its number.
 
-        No edit is held after it, also where it is refused. After `OutOfMemory` all are still held.
+        No edit is held after it, also where it is refused. After `OutOfMemory`, and after `Unkept`,
+        which a server with a journal raises where its disk failed, all are still held.
         """
         return self._numbers("publish", "published")[0]
 
@@ -312,64 +227,114 @@ class Session:
 
     # ---- a line and its reply
 
-    def _held(self, line: str) -> int:
-        return self._numbers(line, "held")[0]
+    def ask(self, line: str) -> list[str]:
+        """The lines of the reply to any line, as the server writes them.
 
-    def _numbers(self, line: str, words: str) -> list[int]:
-        """The numbers of a reply of one line, whose other words are these."""
-        reply = self._reply(line)
-        parts = reply[0].split(" ")
-        numbers = [int(part) for part in parts if _is_number(part)]
-        if [part for part in parts if not _is_number(part)] != words.split(" "):
-            self._unexpected(reply)
-        return numbers
-
-    def _reply(self, line: str) -> list[str]:
-        """The lines of the reply to a line."""
+        A line of blanks alone, or that begins with ``#``, has no reply, so none is waited for;
+        ``quit`` ends the session.
+        """
         if "\n" in line:
             raise ValueError("a line feed would begin another line")
+        if line.split() == ["quit"]:
+            self.close()
+        if not line.strip(" \t\r") or line.startswith("#") or line.split() == ["quit"]:
+            return []
         reply = self._exchange(line)
         parts = reply[0].split(" ")
         if reply == ["memory"]:
             raise OutOfMemory(line)
+        if reply == ["unkept"] and line.split() == ["publish"]:
+            raise Unkept("nothing was published: the server couldn't keep the batch")
         if parts[0] == "refused":
             self._refuse(line, reply, parts[1:])
+        self._note_held(line, parts)
         return reply
+
+    def _describe(self, line: str, meaning: Callable[[list[str]], T]) -> T:
+        try:
+            reply = self.ask(line)
+        except Refused as fault:
+            # A server that describes refuses no such line for its first word.
+            if (fault.word, fault.position) == ("Syntax", 1):
+                raise CannotDescribe(line, fault.number, fault.word, 1) from None
+            raise
+        return self._parse(reply, meaning)
+
+    def _parse(self, reply: list[str], meaning: Callable[[list[str]], T]) -> T:
+        try:
+            return meaning(reply)
+        except ValueError:
+            self._unexpected(reply)
+
+    def _held(self, line: str) -> int:
+        return self._numbers(line, "held")[0]
+
+    def _note_held(self, line: str, parts: list[str]) -> None:
+        """Keeps the lines of the held edits, to show the one for which a batch is refused."""
+        if parts[0] == "held":
+            self._held_lines.append(line)
+        elif parts[0] == "published":
+            self._held_lines.clear()
+
+    def _numbers(self, line: str, words: str) -> list[int]:
+        """The numbers of a reply of one line, whose other words are these."""
+        reply = self.ask(line)
+        parts = reply[0].split(" ")
+        numbers = [int(part) for part in parts if is_number(part)]
+        if [part for part in parts if not is_number(part)] != words.split(" "):
+            self._unexpected(reply)
+        return numbers
 
     def _refuse(self, line: str, reply: list[str], parts: list[str]) -> NoReturn:
         """`K NAME`, `K NAME POSITION`, `edit K NAME` or `batch E K NAME`."""
-        edit = position = None
+        edit = position = edit_line = None
         if parts[:1] == ["edit"]:
             parts = parts[1:]
-        elif parts[:1] == ["batch"] and len(parts) == 4 and _is_number(parts[1]):
+        elif parts[:1] == ["batch"] and len(parts) == 4 and is_number(parts[1]):
             edit, parts = int(parts[1]), parts[2:]
-        elif len(parts) == 3 and _is_number(parts[2]):
+            if 1 <= edit <= len(self._held_lines):
+                edit_line = self._held_lines[edit - 1]
+            self._held_lines.clear()
+        elif len(parts) == 3 and is_number(parts[2]):
             position, parts = int(parts[2]), parts[:2]
-        if len(parts) != 2 or not _is_number(parts[0]):
+        if len(parts) != 2 or not is_number(parts[0]):
             self._unexpected(reply)
         if parts == ["9", "TooLong"]:
             # The server ends a session after a line that is too long.
             self.close()
-        raise Refused(line, int(parts[0]), parts[1], position, edit)
+        raise Refused(line, int(parts[0]), parts[1], position, edit, edit_line)
 
     def _exchange(self, line: str) -> list[str]:
         if self._connection is None:
             raise Ended("the session is closed")
+        timeout = self.timeout
         try:
             self._connection.sendall(line.encode() + b"\n")
             reply = [self._next_line()]
-            while reply[0].startswith("release ") and reply[-1] != ".":
+            self._is_served = True
+            while _has_more(reply):
                 reply.append(self._next_line())
             return reply
+        except socket.timeout as fault:
+            self.close()
+            raise self._late(timeout) from fault
         except OSError as fault:
             self.close()
-            raise Ended("the server went away, or was too slow") from fault
+            raise Ended("the server went away") from fault
         except UnicodeDecodeError as fault:
             self.close()
             raise Unexpected("a reply that is no UTF-8") from fault
         except BaseException:
             self.close()
             raise
+
+    def _late(self, timeout: Optional[float]) -> Ended:
+        if self._is_served:
+            return Ended(f"the server was silent for {timeout} s")
+        return Busy(
+            f"nothing came within {timeout} s: another client may have this port, which serves"
+            " one session at a time"
+        )
 
     def _next_line(self) -> str:
         line = self._replies.readline()
@@ -382,28 +347,11 @@ class Session:
         raise Unexpected(reply[0])
 
 
-def _table(reply: list[str]) -> Table:
-    """A table of the lines `release N`, the names, one for each place, and `.`."""
-    release, names, *places, _ = reply
-    *dimensions, _ = next(csv.reader([names], strict=True))
-    *codes, counts = zip(*csv.reader(places, strict=True))
-    return Table(
-        release=_number(release.partition(" ")[2]),
-        dimensions=tuple(dimensions),
-        codes=tuple(map(list, codes)),
-        counts=[None if count == "c" else _number(count) for count in counts],
-    )
+def _has_more(reply: list[str]) -> bool:
+    """Whether a reply that began so goes on: a table and a list do, up to the line `.`."""
+    begins = reply[0] == "describe" or reply[0].startswith(("release ", "describe "))
+    return begins and reply[-1] != "."
 
 
 def _settings(codes: dict[str, str]) -> list[str]:
     return [f"{variable}={code}" for variable, code in codes.items()]
-
-
-def _is_number(text: str) -> bool:
-    return text.isascii() and text.isdigit()
-
-
-def _number(text: str) -> int:
-    if not _is_number(text):
-        raise ValueError(text)
-    return int(text)

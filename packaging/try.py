@@ -1,0 +1,300 @@
+#!/usr/bin/env python3
+"""Tries the archive and the Debian package, each in a folder of its own.
+
+    try.py ARCHIVE [PACKAGE]
+
+The archive is unpacked, and the package installed by `dpkg --root` into an empty folder, where its
+scripts make the user there. Of each: the program is run from where it lies, over the examples that
+are beside it; the man page is read; each unit's own line starts a server, with the files of
+`examples/small` named in its file under `etc`, which the Python client from beside it asks; haproxy
+and stunnel are put in front by their examples. A unit isn't enabled, and a removal leaves the files
+under `etc`. What can't be tried, since a tool isn't there, is said. The status is 0 where all that
+was tried is as it should be.
+"""
+
+import contextlib
+import glob
+import os
+import re
+import shlex
+import shutil
+import socket
+import subprocess
+import sys
+import tempfile
+import time
+
+sys.dont_write_bytecode = True
+HERE = os.path.dirname(os.path.abspath(__file__))
+TOP = os.path.dirname(HERE)
+sys.path.insert(0, f"{TOP}/bench")
+from serve import free_ports
+
+SMALL = ("classes.csv", "recodes.csv", "ptable.csv", "people.csv")
+# The first table of examples/small, counted by hand (README.md).
+TABLE = "release 0\nSEX,count\n1,1\n2,2\n.\n"
+PATIENCE = 60
+# What the archive has below the prefix.
+PARTS = ["bin", "lib", "share"]
+
+
+class Tried:
+    """What was tried: prints each, and counts those that failed."""
+
+    def __init__(self):
+        self.failed = 0
+
+    def check(self, what, is_right, more=""):
+        self.failed += not is_right
+        print(f"{'ok    ' if is_right else 'FAILED'}  {what}{f': {more}' if not is_right else ''}")
+
+    def skip(self, what, tool):
+        print(f"not tried: {what}, since {tool} isn't there")
+
+
+def run(*words, **more):
+    more = {"stdout": subprocess.PIPE, "stderr": subprocess.STDOUT, "timeout": PATIENCE, **more}
+    told = subprocess.run([str(it) for it in words], check=False, **more)
+    return told.returncode, (told.stdout or b"").decode(errors="replace")
+
+
+class Installed:
+    """Where things lie: below a prefix, with the settings in a folder of their own."""
+
+    def __init__(self, root, prefix, settings, page):
+        self.root, self.prefix, self.settings, self.page = root, prefix, settings, page
+        self.program = f"{prefix}/bin/tablebuilder"
+        self.share = f"{prefix}/share/tablebuilder"
+        self.small = f"{self.share}/examples/small"
+        self.units = sorted(glob.glob(f"{prefix}/lib/systemd/system/*.service"))
+
+
+def try_program(tried, at):
+    wanted = run(sys.executable, f"{TOP}/bench/summary.py", 1, 1)[1]
+    got = run(at.program, "gen", 1, 1, cwd="/")
+    tried.check("gen 1 1, from another folder", got == (0, wanted), got)
+    words = [at.program, "script", *SMALL, 0, "script.txt"]
+    status, text = run(*words, cwd=at.small, stderr=subprocess.DEVNULL)
+    is_right = status == 0 and text.startswith(TABLE)
+    tried.check("the first table of examples/small", is_right, text)
+
+
+def try_page(tried, at):
+    if shutil.which("man") is None:
+        tried.skip("the man page", "man")
+        return
+    environment = {**os.environ, "MANWIDTH": "100", "LC_ALL": "C.UTF-8", "MANROFFSEQ": ""}
+    status, text = run("man", "--warnings", "-l", at.page, env=environment)
+    is_right = status == 0 and "tablebuilder script CLASSES" in text and "@" not in text
+    tried.check("the man page", is_right and "warning" not in text, text[:400])
+
+
+def words_of(unit):
+    """The words of the line by which a unit starts its server."""
+    with open(unit, encoding="utf-8") as file:
+        text = file.read()
+    return (
+        shlex.split(re.search(r"^ExecStart=(.*)$", text, re.M)[1]),
+        re.search(r"^EnvironmentFile=/etc/tablebuilder/(.*)$", text, re.M)[1],
+    )
+
+
+def settings_of(path):
+    with open(path, encoding="utf-8") as file:
+        return dict(re.findall(r"^(\w+)=(.*)$", file.read(), re.M))
+
+
+@contextlib.contextmanager
+def start(words, **more):
+    none = subprocess.DEVNULL
+    process = subprocess.Popen(words, stdin=none, stdout=none, stderr=none, **more)
+    try:
+        yield process
+    finally:
+        process.kill()
+        process.wait()
+
+
+def is_listened_to(port, process):
+    """Waits for a process to listen at a port, as long as it runs."""
+    end = time.monotonic() + PATIENCE
+    while time.monotonic() < end and process.poll() is None:
+        with contextlib.suppress(OSError), socket.create_connection(("127.0.0.1", port), 1):
+            return True
+        time.sleep(0.05)
+    return False
+
+
+def ask(at, port, *more):
+    """What the Python client from beside the program gets for a table."""
+    code = (
+        "import ssl, sys, tablebuilder\n"
+        "more = {'tls': ssl.create_default_context(cafile=sys.argv[2])} if sys.argv[2:] else {}\n"
+        "host = 'localhost' if sys.argv[2:] else '127.0.0.1'\n"
+        "with tablebuilder.connect(int(sys.argv[1]), host, timeout=30, **more) as session:\n"
+        "    print(session.table('SEX').counts)\n"
+    )
+    environment = {**os.environ, "PYTHONPATH": f"{at.share}/clients/python"}
+    return run(sys.executable, "-B", "-c", code, port, *more, env=environment)[1].strip()
+
+
+def try_unit(tried, at, unit):
+    """Starts the server of a unit by its own line, and asks it, also by what stands in front."""
+    name = os.path.basename(unit)
+    line, settings = words_of(unit)
+    values = settings_of(f"{at.settings}/{settings}")
+    with tempfile.TemporaryDirectory() as folder:
+        workers = int(values["WORKERS"])
+        first = free_ports(workers + 4)
+        for setting, file in zip(("CLASSES", "RECODES", "PTABLE", "PEOPLE"), SMALL):
+            values[setting] = f"{at.small}/{file}"
+        values.update(PORT=str(first), THRESHOLD="0", JOURNAL=f"{folder}/revisions.journal")
+        words = [re.sub(r"^\$\{(\w+)\}$", lambda it: values[it[1]], word) for word in line]
+        installed = os.path.normpath(at.root + line[0])
+        tried.check(f"{name}: its program is there", os.access(installed, os.X_OK), installed)
+        if not os.access(installed, os.X_OK):
+            return
+        with start([installed, *words[1:]]) as process:
+            is_there = all(is_listened_to(first + it, process) for it in range(1, 3))
+            tried.check(f"{name}: it listens", is_there)
+            if is_there:
+                got = ask(at, first + 1)
+                tried.check(f"{name}: a table by the Python client", got == "[1, 2]", got)
+                try_front(tried, at, folder, first, first + workers + 1)
+
+
+def try_front(tried, at, folder, first, free):
+    """haproxy and then stunnel by their examples, at other ports."""
+    ports = {4000: first, 4001: first + 1, 4002: first + 2, 4099: free, 4100: free + 1}
+    if shutil.which("haproxy", path=tool_path()) is None:
+        tried.skip("haproxy's example", "haproxy")
+        return
+    with open(f"{at.share}/haproxy.cfg", encoding="utf-8") as file:
+        text = file.read()
+    text = re.sub(r"(?<=127\.0\.0\.1:)\d+", lambda it: str(ports[int(it[0])]), text)
+    with open(f"{folder}/haproxy.cfg", "w", encoding="utf-8") as file:
+        file.write(text)
+    haproxy = shutil.which("haproxy", path=tool_path())
+    checked = run(haproxy, "-c", "-f", f"{folder}/haproxy.cfg")
+    tried.check("haproxy accepts its example", checked[0] == 0, checked[1])
+    with start([haproxy, "-f", f"{folder}/haproxy.cfg"]) as process:
+        is_there = is_listened_to(ports[4100], process)
+        # (what waited at the port was a session of its own, which ends at once)
+        tried.check("a table through haproxy", is_there and ask(at, ports[4100]) == "[1, 2]")
+        try_tls(tried, at, folder, ports[4100], free + 2)
+
+
+def try_tls(tried, at, folder, behind, port):
+    for tool in ("stunnel", "openssl"):
+        if shutil.which(tool, path=tool_path()) is None:
+            tried.skip("stunnel's example", tool)
+            return
+    pem = f"{folder}/tables.pem"
+    words = ["openssl", "req", "-x509", "-newkey", "rsa:2048", "-nodes", "-days", "1", "-subj"]
+    words += ["/CN=localhost", "-addext", "subjectAltName=DNS:localhost"]
+    run(*words, "-keyout", f"{folder}/key.pem", "-out", f"{folder}/office.pem")
+    with open(pem, "w", encoding="utf-8") as out:
+        for part in ("key.pem", "office.pem"):
+            with open(f"{folder}/{part}", encoding="utf-8") as file:
+                out.write(file.read())
+    with open(f"{at.share}/stunnel.conf", encoding="utf-8") as file:
+        text = file.read().replace("4443", str(port)).replace(":4100", f":{behind}")
+    with open(f"{folder}/stunnel.conf", "w", encoding="utf-8") as file:
+        file.write(text)
+    words = [shutil.which("stunnel", path=tool_path()), "stunnel.conf"]
+    with start(words, cwd=folder) as process:
+        got = is_listened_to(port, process) and ask(at, port, f"{folder}/office.pem")
+        tried.check("a table through stunnel", got == "[1, 2]", got)
+
+
+def tool_path():
+    return os.environ.get("PATH", "") + ":/usr/sbin:/sbin"
+
+
+def try_units(tried, at):
+    tried.check("there are units", bool(at.units))
+    for unit in at.units:
+        try_unit(tried, at, unit)
+    if shutil.which("systemd-analyze") is None:
+        tried.skip("systemd's own look at the units", "systemd-analyze")
+        return
+    with tempfile.TemporaryDirectory() as folder:
+        for unit in at.units:
+            # (systemd looks whether the program is there; Conflicts name each other)
+            with open(unit, encoding="utf-8") as file:
+                text = re.sub(r"(?m)^ExecStart=\S+", f"ExecStart={at.program}", file.read())
+            with open(f"{folder}/{os.path.basename(unit)}", "w", encoding="utf-8") as file:
+                file.write(re.sub(r"(?m)^Documentation=.*\n", "", text))
+        for path in sorted(glob.glob(f"{folder}/*.service")):
+            status, text = run("systemd-analyze", "verify", path)
+            own = [it for it in text.splitlines() if "tablebuilder" in it]
+            told = (status, own)
+            tried.check(f"systemd accepts {os.path.basename(path)}", not own and status == 0, told)
+
+
+def try_all(tried, at):
+    try_program(tried, at)
+    try_page(tried, at)
+    try_units(tried, at)
+
+
+def try_archive(tried, archive, folder):
+    # As INSTALL.md does.
+    prefix = f"{folder}/usr/local"
+    os.makedirs(prefix)
+    words = ["--strip-components=1", "--exclude=INSTALL.md", "-xf"]
+    told = run("tar", "-C", prefix, *words, archive)
+    tried.check("it unpacks", told == (0, "") and sorted(os.listdir(prefix)) == PARTS, told)
+    page = f"{prefix}/share/man/man1/tablebuilder.1"
+    try_all(tried, Installed(folder, prefix, f"{prefix}/share/tablebuilder/etc", page))
+
+
+def dpkg(root, *words):
+    # (no scripts of other packages are there, and nothing that the package depends on)
+    own = ["--force-not-root", "--force-depends", "--force-script-chrootless", "--force-bad-path"]
+    return run("dpkg", f"--root={root}", *own, "--log=/dev/null", *words)
+
+
+def try_package(tried, package, root):
+    os.makedirs(f"{root}/var/lib/dpkg/info")
+    os.makedirs(f"{root}/var/lib/dpkg/updates")
+    os.makedirs(f"{root}/etc")
+    for name in ("status", "available"):
+        open(f"{root}/var/lib/dpkg/{name}", "w", encoding="ascii").close()
+    told = dpkg(root, "--install", package)
+    tried.check("dpkg installs the package", told[0] == 0, told[1])
+    is_made = run("grep", "-q", "^tablebuilder:", f"{root}/etc/passwd")[0] == 0
+    tried.check("its user is made", is_made, told[1])
+    wanted = f"{root}/etc/systemd/system"
+    tried.check("no unit is enabled", not glob.glob(f"{wanted}/**/tablebuilder*", recursive=True))
+    page = f"{root}/usr/share/man/man1/tablebuilder.1.gz"
+    try_all(tried, Installed(root, f"{root}/usr", f"{root}/etc/tablebuilder", page))
+    told = dpkg(root, "--remove", "tablebuilder")
+    is_left = os.path.exists(f"{root}/etc/tablebuilder/host.conf")
+    is_gone = not os.path.exists(f"{root}/usr/bin/tablebuilder")
+    is_right = told[0] == 0 and is_left and is_gone
+    tried.check("a removal leaves the settings alone", is_right, told[1])
+    told = dpkg(root, "--purge", "tablebuilder")
+    is_gone = not os.path.exists(f"{root}/etc/tablebuilder")
+    tried.check("a purge takes them too", told[0] == 0 and is_gone, told[1])
+
+
+def main():
+    archive, *packages = sys.argv[1:]
+    tried = Tried()
+    with tempfile.TemporaryDirectory() as folder:
+        print(archive)
+        try_archive(tried, os.path.abspath(archive), folder)
+    for package in packages:
+        print(package)
+        if shutil.which("dpkg") is None:
+            tried.skip("the package", "dpkg")
+            continue
+        with tempfile.TemporaryDirectory() as root:
+            try_package(tried, os.path.abspath(package), root)
+    print(f"{tried.failed} failed")
+    return 1 if tried.failed else 0
+
+
+if __name__ == "__main__":
+    sys.exit(main())
