@@ -1,30 +1,26 @@
 .PHONY: test try try-guide build demo serve guide quotes clients refusals growths crash bench
-.PHONY: bench-serve bench-journal bench-tools
+.PHONY: bench-serve bench-journal bench-tools check-r dist deb try-dist analysis
 
-# What `make try` runs over: names of files, RECODES or `-` for none, and the threshold.
+# What `make try` runs over: names of files, RECODES or `-` for none, and the threshold; DWELLINGS and
+# LINKS are both given or neither.
 CLASSES = examples/small/classes.csv
 RECODES = examples/small/recodes.csv
 PTABLE = examples/small/ptable.csv
 PEOPLE = examples/small/people.csv
 THRESHOLD = 0
+DWELLINGS =
+LINKS =
 SCRIPT = examples/small/script.txt
 
 # The whole gate: every proof, the wrong bodies that must be refused, the tests and the program.
 test:
 	.ci/run
 
-# A file's whole name, between quotes.
-whole = '$(if $(filter - /%,$(1)),$(1),$(CURDIR)/$(1))'
-
-# A first look: the tables of SCRIPT, by a run that checks as it goes and proves nothing. It takes
-# some 75 seconds, nearly all of them to build the program.
+# A first look: the tables of SCRIPT, by a program that checks as it goes and of which nothing is
+# proved. It is built first, which takes some two minutes of a processor, and kept for the next look
+# over the same sources.
 try:
-	@for file in $(foreach name,CLASSES RECODES PTABLE PEOPLE SCRIPT,$(call whole,$($(name)))); do \
-		test "$$file" = - || test -r "$$file" || { echo "$$file can't be read"; exit 1; }; \
-	done
-	cd crates/tablebuilder && rt try --seconds 600 -- script $(call whole,$(CLASSES)) \
-		$(call whole,$(RECODES)) $(call whole,$(PTABLE)) $(call whole,$(PEOPLE)) \
-		'$(THRESHOLD)' $(call whole,$(SCRIPT))
+	@python3 docs/try.py $(foreach name,CLASSES RECODES PTABLE PEOPLE THRESHOLD DWELLINGS LINKS SCRIPT,'$(name)=$($(name))')
 
 # Every example of the guide by such a run.
 try-guide:
@@ -38,12 +34,16 @@ build:
 demo: build
 	cd examples/small && ../../crates/tablebuilder/out/tablebuilder script classes.csv recodes.csv ptable.csv people.csv 0 script.txt
 
-# The server over the files of examples/small: two workers, 1,000 sessions at each port.
+# The server over the files of examples/small, with a new journal in a folder of its own: two workers,
+# 1,000 sessions at each port.
 serve: build
-	@printf '%s\n' "ask for a table:      printf 'table SEX\n' | nc -N 127.0.0.1 4001" \
+	@mkdir -p examples/out && journal="$$(mktemp -d "$(CURDIR)/examples/out/XXXXXX")/revisions.journal" && \
+	printf '%s\n' "ask for a table:      printf 'table SEX\n' | nc -N 127.0.0.1 4001" \
 		"revise, as custodian: printf 'drop 104\npublish\n' | nc -N 127.0.0.1 4000" \
-		"stop the server:      Ctrl-C"
-	cd examples/small && ../../crates/tablebuilder/out/tablebuilder serve classes.csv recodes.csv ptable.csv people.csv 0 4000 2 1000
+		"its journal:          $$journal" \
+		"stop the server:      Ctrl-C" && \
+	cd examples/small && ../../crates/tablebuilder/out/tablebuilder host classes.csv recodes.csv \
+		ptable.csv people.csv 0 "$$journal" 4000 2 1000
 
 # Every example of the guide by the built program, compared with what the page has.
 guide: build quotes
@@ -53,9 +53,39 @@ guide: build quotes
 quotes:
 	python3 docs/quotes.py .
 
+# What is packed, and into which folder. Another PROGRAM isn't built.
+PROGRAM = crates/tablebuilder/out/tablebuilder
+DIST = out
+PACKED = $(if $(filter file,$(origin PROGRAM)),build)
+
+# An archive of the program, its pages, the clients, units and examples, as
+# out/tablebuilder-VERSION-x86_64-linux.tar.gz.
+dist: $(PACKED)
+	python3 packaging/dist.py tar $(PROGRAM) $(DIST)
+
+# A Debian package of the same.
+deb: $(PACKED)
+	python3 packaging/dist.py deb $(PROGRAM) $(DIST)
+
+# Both, each tried in a folder of its own: `packaging/try.py` says how.
+try-dist: dist deb
+	python3 packaging/try.py $(DIST)/tablebuilder-$$(cat VERSION)-x86_64-linux.tar.gz \
+		$(DIST)/tablebuilder_$$(cat VERSION)_amd64.deb
+
 # The tests of each client against servers over examples/small, at free ports.
 clients: build
 	python3 clients/run.py crates/tablebuilder/out/tablebuilder examples/small
+
+# The two analyses of docs/ANALYSIS.md over 20,000 generated persons, compared with the page; with
+# UPDATE=update the page and its drawings are written anew.
+analysis: $(PACKED)
+	python3 docs/analysis/run.py $(PROGRAM) out/analysis $(UPDATE)
+
+# Checks the R client as a package by R's own check, in out/r; it needs no program.
+check-r:
+	mkdir -p out/r
+	cd out/r && R CMD build ../../clients/r && R CMD check --no-manual tablebuilder_*.tar.gz
+	@! grep -E '^Status:.*(WARNING|ERROR)' out/r/tablebuilder.Rcheck/00check.log
 
 # Runs the built program on each kind of refusal and compares what it prints, what it says of it on the
 # standard error, and its status.
@@ -67,14 +97,16 @@ refusals: build
 growths: build
 	python3 docs/growths.py crates/tablebuilder/out/tablebuilder examples/small
 
-# Kills the built program again and again while it keeps a script's batches in a journal, and compares
-# what it acknowledged with what the journal has. It ends within two minutes.
+# Kills the built program again and again while it keeps batches in a journal, of a script and then of
+# a server that 16 clients ask meanwhile, and compares what it acknowledged with what the journal has.
+# It ends within five minutes.
 crash: build
 	python3 docs/crash.py crates/tablebuilder/out/tablebuilder
+	python3 docs/crash_host.py crates/tablebuilder/out/tablebuilder
 
 # The program beside a plain one over generated persons: medians, spreads, peak memory and ratios; set
-# pvalues and thresholds; a script with a journal, on the disk of bench/out; a leader's messages; and
-# tables of earlier releases.
+# pvalues and thresholds; a script with a journal, on the disk of bench/out; a leader's messages;
+# tables of earlier releases; and tables of dwellings.
 bench: bench-tools build
 	mkdir -p bench/out
 	rustc -O --edition 2021 -o bench/out/baseline bench/baseline.rs
@@ -85,13 +117,18 @@ bench: bench-tools build
 	python3 bench/keep.py crates/tablebuilder/out/tablebuilder bench/out/syncs.so bench/out
 	python3 bench/follow.py crates/tablebuilder/out/tablebuilder bench/out
 	python3 bench/past.py crates/tablebuilder/out/tablebuilder bench/out
+	python3 bench/units.py crates/tablebuilder/out/tablebuilder bench/out
 
-# Sessions over connections to this machine: rates beside a plain server and a script, and memory.
+# Sessions over connections to this machine, by a server that keeps a journal: rates beside a plain
+# server, one without a journal and a script, publications beside the syncs of the disk of bench/out,
+# and memory.
 bench-serve: bench-tools build
 	mkdir -p bench/out
+	cc -O2 -shared -fPIC -o bench/out/syncs.so bench/syncs.c -ldl
 	rustc -O --edition 2021 -o bench/out/client bench/client.rs
 	rustc -O --edition 2021 -o bench/out/prepared bench/prepared.rs
-	python3 bench/serve.py crates/tablebuilder/out/tablebuilder bench/out/client bench/out/prepared
+	python3 bench/serve.py crates/tablebuilder/out/tablebuilder bench/out/client bench/out/prepared \
+		bench/out/syncs.so bench/out
 
 # 10,000 batches of a journal read back from a disk in memory: two tests, timed.
 bench-journal: bench-tools

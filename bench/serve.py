@@ -1,17 +1,21 @@
 #!/usr/bin/env python3
-"""Measures sessions of the program's `serve` and prints tables of medians, spreads and ratios.
+"""Measures sessions of the program's `host` and prints tables of medians, spreads and ratios.
 
-    serve.py PROGRAM CLIENT PREPARED [PERSONS]
+    serve.py PROGRAM CLIENT PREPARED SYNCS FOLDER [PERSONS]
 
 The client asks for one table, whose cube is kept, over connections to 127.0.0.1: a line at a time,
-where it reads the whole reply before it writes the next line, or 100 lines at once. Measured are
+where it reads the whole reply before it writes the next line, or 100 lines at once. SYNCS is
+`bench/syncs.c`, built, and FOLDER is on the disk that has the journals. Measured are
 
 - one connection, a line at a time, beside a server of std's threads that sends prepared bytes;
+- the same, and 100 lines at once, beside `serve`, which keeps no journal;
 - one connection, 100 lines at once, and refused lines so, beside what a line of `script` takes,
   which is what a script of many lines takes beyond one of a single line (that of refused lines runs
   over no persons, since loading many differs from run to run by more than the lines take);
 - four connections at once beside one;
 - 16 connections while the custodian publishes batches, beside 16 without publications;
+- a publication of one amend by a client, until its reply is there, beside one by `serve` and the
+  syncs of the disk that two of them take;
 - what a session takes of memory, over `examples/small`, where loading takes less than sessions do:
   the peak of a process with 16 sessions less that of one with one session.
 
@@ -38,6 +42,7 @@ import typing
 sys.dont_write_bytecode = True
 from bench import ASCENDING, HERE, LARGE, NONE
 from bench import input_words, machine, make_input, median_ratio, peak_so_far, seconds_of, words_of
+from keep import TOLD, file_system_of
 
 QUERY, REFUSED = "table AREA by SEX with totals", "table NOSUCH"
 # Lines that are written at once; how many of them a session asks for, and how many a script has.
@@ -47,10 +52,14 @@ BATCHES, EDITS = 100, 100
 FOUR, WORKERS = 4, 16
 # How often all is run in turn, and for how long a line at a time is asked.
 RUNS, PUBLISH_RUNS, MEMORY_RUNS = 7, 3, 7
+# How many publications of one amend a session has in a run that is timed, after a first one, and how
+# many syncs each may take.
+ONE_BY_ONE, ONE_RUNS, MOST_SYNCS = 200, 7, 2
 SECONDS, MANY_SECONDS = 1, 3
 NO_LIMIT = 990_000
-# The sessions at one port in a run: one connection, one of four, tables and refused lines at once.
-SESSIONS_A_RUN = 4
+# The sessions at one port in a run: one connection, one of four, tables and refused lines at once; of
+# `serve` one connection, and tables at once.
+SESSIONS_A_RUN, SERVED_A_RUN = 4, 2
 # Runs at the same time take blocks of so many ports each, whose files stay locked while they last.
 FIRST_PORT, LAST_PORT, BLOCK = 20_000, 32_000, 500
 LOCKS = []
@@ -60,9 +69,13 @@ SMALL_INPUT = f"{HERE}/../examples/small"
 
 
 class Tools(typing.NamedTuple):
+    """The programs, the library that stands before the syncs, and the folder of the journals."""
+
     program: str
     client: str
     prepared: str
+    syncs: str
+    room: str
 
 
 def are_free(ports):
@@ -104,16 +117,21 @@ class Server:
     """A process that serves so many sessions at each of its ports, of which the first is the
     custodian's."""
 
-    def __init__(self, words, folder, workers, sessions):
+    def __init__(self, words, folder, workers, sessions, environment=None, limit=None):
         self.first, self.workers, self.sessions = free_ports(workers + 1), workers, sessions
         self.ports = range(self.first, self.first + workers + 1)
         self.had = [0] * (workers + 1)
-        name = os.path.basename(words[0])
+        name = f"{os.path.basename(words[0])}-{self.first}"
         self.out, self.err = f"{folder}/{name}.served", f"{folder}/{name}.told"
         words = [*words, *map(str, (self.first, workers, sessions))]
         with open(self.out, "wb") as out, open(self.err, "wb") as err:
             self.process = subprocess.Popen(
-                words, stdin=subprocess.DEVNULL, stdout=out, stderr=err
+                words,
+                stdin=subprocess.DEVNULL,
+                stdout=out,
+                stderr=err,
+                env=environment,
+                preexec_fn=limit,
             )
 
     def told(self):
@@ -165,6 +183,12 @@ def killed_at_last(server):
 
 def serve_words(tools, folder):
     return [tools.program, "serve", *input_words(folder)]
+
+
+def host_words(tools, folder):
+    """The words of a server with a new journal."""
+    journal = tempfile.mkdtemp(prefix="journal-", dir=tools.room)
+    return [tools.program, "host", *input_words(folder), f"{journal}/journal"]
 
 
 def numbers_of(tools, words):
@@ -241,8 +265,10 @@ class Rates(typing.NamedTuple):
 
     one: list
     prepared: list
+    served: list
     four: list
     at_once: list
+    served_at_once: list
     script: list
     refused: list
     refused_script: list
@@ -256,20 +282,28 @@ def measure_lines(tools, folder, empty):
     at_once = Asking(1, AT_ONCE, LINES, MOST_SECONDS, QUERY, tables.reply)
     refused = Asking(1, AT_ONCE, REFUSED_LINES, MOST_SECONDS, REFUSED, refusals.reply)
     rates = Rates(*([] for _ in Rates._fields))
-    served = Server(serve_words(tools, folder), folder, FOUR, SESSIONS_A_RUN * RUNS)
-    with killed_at_last(served):
-        prepared = Server([tools.prepared, tables.reply], folder, 1, RUNS)
-        with killed_at_last(prepared):
-            for _ in range(RUNS):
-                rates.one.append(rate(tools, served, one))
-                rates.prepared.append(rate(tools, prepared, one))
-                rates.four.append(rate(tools, served, one._replace(connections=FOUR)))
-                rates.at_once.append(rate(tools, served, at_once))
-                tables.run()
-                rates.refused.append(rate(tools, served, refused))
-                refusals.run()
-            prepared.end("")
-        served.end(served.report(0))
+    with contextlib.ExitStack() as servers:
+
+        def started(words, workers, sessions):
+            server = Server(words, folder, workers, sessions)
+            return servers.enter_context(killed_at_last(server))
+
+        hosted = started(host_words(tools, folder), FOUR, SESSIONS_A_RUN * RUNS)
+        served = started(serve_words(tools, folder), 1, SERVED_A_RUN * RUNS)
+        prepared = started([tools.prepared, tables.reply], 1, RUNS)
+        for _ in range(RUNS):
+            rates.prepared.append(rate(tools, prepared, one))
+            rates.one.append(rate(tools, hosted, one))
+            rates.served.append(rate(tools, served, one))
+            rates.four.append(rate(tools, hosted, one._replace(connections=FOUR)))
+            rates.served_at_once.append(rate(tools, served, at_once))
+            rates.at_once.append(rate(tools, hosted, at_once))
+            tables.run()
+            rates.refused.append(rate(tools, hosted, refused))
+            refusals.run()
+        prepared.end("")
+        for server in (hosted, served):
+            server.end(server.report(0))
     rates.script.extend(tables.rates())
     rates.refused_script.extend(refusals.rates())
     return len(tables.text), rates
@@ -326,7 +360,7 @@ def measure_publications(tools, folder, persons):
     figures = Published([], [], [], [])
     asking = Asking(WORKERS, 1, NO_LIMIT, MANY_SECONDS, QUERY, what.tables)
     for _ in range(PUBLISH_RUNS):
-        server = Server(serve_words(tools, folder), folder, WORKERS, 2)
+        server = Server(host_words(tools, folder), folder, WORKERS, 2)
         with killed_at_last(server):
             figures.without.append(rate(tools, server, asking))
             server.had = [1] + [2] * WORKERS
@@ -339,9 +373,79 @@ def measure_publications(tools, folder, persons):
     return figures
 
 
+class OneByOne(typing.NamedTuple):
+    """The seconds of a publication by `host` and by `serve`, its syncs by `host`, and the seconds of
+    one, run by run."""
+
+    hosted: list
+    served: list
+    syncs: list
+    sync: list
+
+
+@contextlib.contextmanager
+def custodian(server, persons):
+    """A session of the custodian's: what publishes one amend as the batch of a number, from 0."""
+    server.had[0] += 1
+    with socket.create_connection(("127.0.0.1", server.first), PATIENCE) as connection:
+        connection.setsockopt(socket.IPPROTO_TCP, socket.TCP_NODELAY, 1)
+        replies = connection.makefile("rb")
+
+        def publish(number):
+            connection.sendall(f"{amend(number, persons)}publish\n".encode())
+            told = [replies.readline(), replies.readline()]
+            if told != [b"held 1\n", b"published %d\n" % (number + 1)]:
+                sys.exit(f"bench: publication {number + 1}: {told}")
+
+        yield publish
+
+
+def syncs_so_far(path):
+    """How many syncs there were, and the seconds of all."""
+    with open(path, "rb") as told:
+        count, nanoseconds = TOLD.unpack(told.read())
+    return count, nanoseconds / 1e9
+
+
+def publish_one_by_one(server, persons, first, told):
+    """The seconds of a publication of a session after its first, how many syncs it had, and the
+    seconds of one."""
+    with custodian(server, persons) as publish:
+        publish(first)
+        before, syncs = time.perf_counter(), syncs_so_far(told)
+        for number in range(first + 1, first + 1 + ONE_BY_ONE):
+            publish(number)
+        seconds = time.perf_counter() - before
+    count, syncing = (after - before for before, after in zip(syncs, syncs_so_far(told)))
+    return seconds / ONE_BY_ONE, count / ONE_BY_ONE, syncing / count if count else 0
+
+
+def measure_one_by_one(tools, folder, persons):
+    """Publications of one amend by `host` and by `serve` in turn, a session each."""
+    told, figures = f"{tools.room}/told", OneByOne([], [], [], [])
+    with open(told, "wb") as out:
+        out.write(bytes(TOLD.size))
+    environment = {**os.environ, "LD_PRELOAD": tools.syncs, "SYNCS": told}
+    hosted = Server(host_words(tools, folder), folder, 1, ONE_RUNS, environment)
+    with killed_at_last(hosted):
+        served = Server(serve_words(tools, folder), folder, 1, ONE_RUNS)
+        with killed_at_last(served):
+            for first in range(0, ONE_RUNS * (ONE_BY_ONE + 1), ONE_BY_ONE + 1):
+                figures.served.append(publish_one_by_one(served, persons, first, told)[0])
+                seconds, syncs, sync = publish_one_by_one(hosted, persons, first, told)
+                figures.hosted.append(seconds)
+                figures.syncs.append(syncs)
+                figures.sync.append(sync)
+            for server in (hosted, served):
+                server.end(server.report(ONE_RUNS * (ONE_BY_ONE + 1)))
+    if not all(figures.syncs):
+        sys.exit("bench: no sync of the program was seen")
+    return figures
+
+
 def peak_with(tools, folder, workers, reply):
     """The peak of a process each of whose workers has a session, all at once, in bytes."""
-    server = Server([tools.program, "serve", *input_words(SMALL_INPUT)], folder, workers, 1)
+    server = Server(host_words(tools, SMALL_INPUT), folder, workers, 1)
     with killed_at_last(server):
         rate(tools, server, Asking(workers, 1, NO_LIMIT, SECONDS / 2, QUERY, reply))
         peak = peak_so_far(server.process.pid)
@@ -376,8 +480,16 @@ def at_most(what, reached, most):
     return Row(what, reached, f"at most {most}", reached <= most)
 
 
-def targets(rates, figures, memory):
+def beside_syncs(ones):
+    """A publication by `host` beside one by `serve` and two syncs, run by run."""
+    for hosted, served, sync in zip(ones.hosted, ones.served, ones.sync):
+        yield hosted / (served + MOST_SYNCS * sync)
+
+
+def targets(rates, figures, ones, memory):
     alone = median_ratio(rates.one, rates.prepared)
+    served = median_ratio(rates.one, rates.served)
+    served_at_once = median_ratio(rates.at_once, rates.served_at_once)
     at_once = median_ratio(rates.at_once, rates.script)
     four = median_ratio(rates.four, rates.one)
     beyond = [
@@ -386,25 +498,37 @@ def targets(rates, figures, memory):
     beside = median_ratio(figures.beside, figures.without)
     yield at_least("a line at a time: rate beside that of prepared bytes", alone, 0.55)
     yield at_least(f"{AT_ONCE} lines at once: rate beside that of `script`", at_once, 0.65)
+    # (a query is answered by the same calls, so these are 1 but for the noise)
+    yield at_least("a line at a time: rate beside that of `serve`", served, 0.95)
+    yield at_least(f"{AT_ONCE} lines at once: rate beside that of `serve`", served_at_once, 0.95)
     on = f"on {os.cpu_count()} processors"
     yield at_least(f"{FOUR} connections: rate beside that of one, {on}", four, 2.0)
     what = "a refused line, microseconds above one of `script`"
     yield at_most(what, statistics.median(beyond), 2)
     what = f"{WORKERS} connections beside publications: rate beside that without them"
     yield at_least(what, beside, 0.5)
+    what = "a publication of one amend: time beside two syncs and that by `serve`"
+    yield at_most(what, statistics.median(beside_syncs(ones)), 1.1)
+    yield at_most("syncs of such a publication", statistics.median(ones.syncs), MOST_SYNCS)
     what = "memory of a session over `examples/small`, KiB"
     yield at_most(what, statistics.median(memory), 96)
 
 
-def print_figures(rates, figures, memory):
+def microseconds(seconds):
+    return [each * 1e6 for each in seconds]
+
+
+def print_figures(disk, rates, figures, ones, memory):
     batches = f"{BATCHES} batches of {EDITS} amends"
     print("| What | Runs | Median (least to most) |")
     print("|---|---|---|")
     for what, told in [
         ("one connection, a line at a time, replies a second", rates.one),
         ("the same from the server of prepared bytes", rates.prepared),
+        ("the same by `serve`", rates.served),
         (f"{FOUR} connections, a line at a time, replies a second", rates.four),
         (f"one connection, {AT_ONCE} lines at once, replies a second", rates.at_once),
+        ("the same by `serve`", rates.served_at_once),
         ("`script`, tables a second", rates.script),
         (f"one connection, {AT_ONCE} refused lines at once, replies a second", rates.refused),
         ("`script`, refused lines a second", rates.refused_script),
@@ -412,6 +536,9 @@ def print_figures(rates, figures, memory):
         (f"the same beside {batches}", figures.beside),
         ("publications a second meanwhile", figures.published),
         ("fewest different releases that a session saw after its first", figures.releases),
+        ("a publication of one amend, microseconds", microseconds(ones.hosted)),
+        ("the same by `serve`", microseconds(ones.served)),
+        (f"one sync on {file_system_of(disk)}, microseconds", microseconds(ones.sync)),
         ("memory of a session, KiB", memory),
     ]:
         spread = f"{statistics.median(told):,.0f} ({min(told):,.0f} to {max(told):,.0f})"
@@ -426,22 +553,29 @@ def print_targets(rows):
         print(f"| {row.what} | {row.reached:.2f} | {row.target} | {holds} |")
 
 
-def main(program, client, prepared, persons=LARGE):
-    tools = Tools(*map(os.path.abspath, (program, client, prepared)))
+def main(program, client, prepared, syncs, disk, persons=LARGE):
     persons = int(persons)
-    with tempfile.TemporaryDirectory(prefix="tablebuilder-serve-") as top:
+    with contextlib.ExitStack() as folders:
+
+        def folder_in(place):
+            made = tempfile.TemporaryDirectory(prefix="tablebuilder-serve-", dir=place)
+            return folders.enter_context(made)
+
+        room, top = folder_in(disk), folder_in(None)
+        tools = Tools(*map(os.path.abspath, (program, client, prepared, syncs, room)))
         folder, empty = f"{top}/persons", f"{top}/none"
         for path, count in ((folder, persons), (empty, NONE)):
             os.mkdir(path)
             make_input(path, count, ASCENDING)
         length, rates = measure_lines(tools, folder, empty)
         figures = measure_publications(tools, folder, persons)
+        ones = measure_one_by_one(tools, folder, persons)
         memory = measure_memory(tools, folder)
     print(f"{machine()}; replies equal byte by byte, no release of a session fell")
     print(f"{persons:,} persons, `{QUERY}`, its cube kept: {length:,} bytes a reply\n")
-    print_figures(rates, figures, memory)
+    print_figures(disk, rates, figures, ones, memory)
     print()
-    print_targets(targets(rates, figures, memory))
+    print_targets(targets(rates, figures, ones, memory))
 
 
 if __name__ == "__main__":

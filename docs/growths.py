@@ -1,6 +1,6 @@
 #!/usr/bin/env python3
-"""Runs scripts, lanes, scripts with a journal and those of a leader's messages over examples/small
-with one allocation refused, for one allocation after another, and compares each output, and what a
+"""Runs scripts, lanes, scripts with a journal, with dwellings and of a leader's messages over
+examples/small with one allocation refused, for one allocation after another, and compares each output, and what a
 journal then has, with what the definitions allow, by a model that shares nothing with the program.
 Loading makes few of them, and the first batch one for each shard of the key book: each of the first
 400 and of the last 400 is refused, and each 20th between; with `all`, each one.
@@ -70,10 +70,11 @@ ALL = "no reply is memory"
 # How many allocations at both ends are refused one by one, which between, and how many beyond.
 ENDS, STRIDE, BEYOND = 400, 20, 20
 FILES = ("classes", "recodes", "ptable", "people")
+UNITS = ("dwellings", "links")
 # How far ahead a message may be.
 MOST_AHEAD = 64
-# The lines, and whether they are answered as lanes, as a script, as one with a journal or as one of
-# a leader's messages.
+# The lines, and whether they are answered as lanes, as a script, as one with a journal, with
+# dwellings or of a leader's messages.
 CASES = {
     "add, amend and drop": ("script", """
 custodian add 105 9 SEX=2 AGE=65+ AREA=E1
@@ -231,6 +232,21 @@ custodian publish
 custodian publish
 a table SEX
 """),
+    "dwellings": ("units", """
+a dwellings SEX with totals
+a table SEX
+custodian drop 101
+custodian dwellings AREA by SEX with totals
+custodian publish
+custodian dwellings AREA by SEX with totals
+a dwellings AGE
+a at 0 table SEX
+custodian drop 102
+custodian threshold 2
+custodian publish
+a dwellings SEX by AREA with totals
+custodian stats
+"""),
     "messages out of order": ("follow", """
 leader begin 3
 leader add 104 7 SEX=2 AGE=16-64 AREA=E2
@@ -297,14 +313,24 @@ class Model:
                         for row in rows_of(f"{folder}/ptable.csv")}
         people = tuple(tuple(sorted(row.items())) for row in rows_of(f"{folder}/people.csv"))
         self.first = Release(people, {}, 0)
+        self.keys = {row["dwelling"]: int(row["dwelling_key"])
+                     for row in rows_of(f"{folder}/dwellings.csv")}
+        self.homes = {row["person"]: row["dwelling"] for row in rows_of(f"{folder}/links.csv")}
 
-    def shown(self, records, release):
-        count, key = len(records), sum(int(one["record_key"]) for one in records) % 256
+    def keys_in(self, word, records):
+        """The keys of what is counted among records: of persons, or each dwelling's once."""
+        if word == "table":
+            return [int(one["record_key"]) for one in records]
+        homes = {self.homes[one["person"]] for one in records if one["person"] in self.homes}
+        return [self.keys[home] for home in homes]
+
+    def shown(self, keys, release):
+        count, key = len(keys), sum(keys) % 256
         value = count + (self.pvalues | release.pvalues).get((count, key), 0)
         return "c" if value < release.threshold else str(value)
 
     def table(self, number, release, query):
-        """The reply to `table NAME [by NAME] [with totals]` at a release."""
+        """The reply to `table NAME [by NAME] [with totals]` at a release, or to one of dwellings."""
         words = query.split()
         totals = words[-2:] == ["with", "totals"]
         names = [word for word in words[1:-2 if totals else None] if word != "by"]
@@ -317,7 +343,8 @@ class Model:
         for cell in cells:
             inside = [one for one in records
                       if all(code in (TOTAL, one[name]) for name, code in zip(names, cell))]
-            lines.append(",".join([*cell, self.shown(inside, release)]))
+            shown = self.shown(self.keys_in(words[0], inside), release)
+            lines.append(",".join([*cell, shown]))
         return "".join(line + "\n" for line in [*lines, "."])
 
     def reply(self, chain, line):
@@ -390,7 +417,7 @@ class Custodian:
         if reply == MEMORY:
             return True
         release, keys = self.chain[-1], dict(self.keys)
-        if line.startswith(("table ", "at ")):
+        if line.startswith(("table ", "dwellings ", "at ")):
             return reply == self.model.reply(self.chain, line)
         if line.startswith("stats"):
             return reply.startswith(f"stats release {len(self.chain) - 1} looks ")
@@ -678,9 +705,11 @@ class Case:
             with open(path, "wb") as out:
                 out.write(self.first)
         files = [f"{self.small}/{file}.csv" for file in FILES]
-        names = [path, script] if self.command == "keep" else [script]
+        between = [f"{self.small}/{file}.csv" for file in UNITS if self.command == "units"]
+        if self.command == "keep":
+            between = [path]
         return run(self.program, f"{self.folder}/refuser.so", number, self.command,
-                   [*files, "0", *names])
+                   [*files, "0", *between, script])
 
     def batches(self):
         """The batches of the journal, each as its lines."""

@@ -18,8 +18,9 @@ import typing
 
 CRATE = os.path.join(os.path.dirname(os.path.abspath(__file__)), "../crates/tablebuilder")
 FILES = ("classes.csv", "recodes.csv", "ptable.csv", "people.csv")
+UNITS = ("dwellings.csv", "links.csv")
 EXAMPLE = re.compile(
-    r"^```(?P<command>script|lanes|keep|follow)(?: threshold=(?P<threshold>\d+))?(?: file=(?P<file>\S+))?"
+    r"^```(?P<command>script|lanes|keep|follow|units)(?: threshold=(?P<threshold>\d+))?(?: file=(?P<file>\S+))?"
     r"(?: over=(?P<over>\w+))?(?: journal=(?P<journal>\S+))?\n"
     r"(?P<script>.*?)^```\n```output\n(?P<output>.*?)^```$",
     re.S | re.M,
@@ -57,11 +58,13 @@ def inputs_of(folder, example):
     return [os.path.abspath(os.path.join(folder, name)) for name in FILES]
 
 
-def words_between(example, journals):
+def words_between(folder, example, journals):
     """The arguments between the inputs and the script: the threshold, and the file of the example's
-    journal, if it has one, in the folder of journals."""
+    journal, if it has one, in the folder of journals, or the files of dwellings."""
     journal = [] if example.journal is None else [os.path.join(journals, example.journal)]
-    return [example.threshold, *journal]
+    names = UNITS if example.command == "units" else ()
+    units = [os.path.abspath(os.path.join(folder, name)) for name in names]
+    return [example.threshold, *journal, *units]
 
 
 def wrong_by_program(program, folder, examples):
@@ -70,7 +73,7 @@ def wrong_by_program(program, folder, examples):
     with tempfile.TemporaryDirectory() as scratch, tempfile.TemporaryDirectory() as journals:
         for example in examples:
             script = write(scratch, "script.txt", example.script)
-            between = words_between(example, journals)
+            between = words_between(folder, example, journals)
             words = [program, example.command, *inputs_of(folder, example), *between, script]
             done = subprocess.run(words, capture_output=True, check=False)
             if done.stdout.decode() != example.output or done.returncode != 0:
@@ -89,7 +92,7 @@ def wrong_by_try(folder, examples):
         with tempfile.TemporaryDirectory() as scratch, tempfile.TemporaryDirectory() as journals:
             for number, example in enumerate(examples):
                 if example.command == command and inputs_of(folder, example) == inputs:
-                    between = "\n".join(words_between(example, journals))
+                    between = "\n".join(words_between(folder, example, journals))
                     write(scratch, f"{number:02}", example.script)
                     write(scratch, f"{number:02}.args", f"{between}\n{{}}\n")
                     write(scratch, f"{number:02}.stdout", example.output)

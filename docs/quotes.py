@@ -3,8 +3,10 @@
 Usage: quotes.py ROOT
 
 Each definition that docs/DEFINITIONS.md quotes must stand in a comment of some crate, word for word
-but for capital letters; and each file that README.md and docs/ARCHITECTURE.md name between
-backquotes must be there.
+but for capital letters; each file that README.md, CONTRIBUTING.md, docs/ARCHITECTURE.md and
+docs/PROMISES.md name between backquotes must be there; the man page must have the forms of the commands that
+docs/REFERENCE.md has, and each unit a command of them; docs/SERVER.md must have each line of the
+examples under packaging; and each place that has the version must have that of VERSION.
 """
 
 import glob
@@ -16,6 +18,18 @@ COMMENT = re.compile(r"\s*(?:--|//[/!]?)\s?(.*)")
 QUOTE = re.compile(r'"([^"]+)"')
 CODE = re.compile(r"`[^`]*`")
 FILE = re.compile(r"`((?:[\w.-]+/)+[\w.-]*)`")
+PAGES = ("README.md", "CONTRIBUTING.md", *(os.path.join("docs", page) for page in ("ARCHITECTURE.md", "PROMISES.md")))
+# Where the form of a command stands in a page.
+FORM = re.compile(r"^    (tablebuilder .*)$", re.M)
+MAN_FORM = re.compile(r"^\.B (tablebuilder .*)$", re.M)
+UNIT_COMMAND = re.compile(r"^ExecStart=\S+ (\w+)", re.M)
+EXAMPLES = ("haproxy.cfg", "stunnel.conf", "stunnel-client.conf")
+# Where the version stands beside VERSION.
+VERSIONS = {
+    "clients/python/pyproject.toml": re.compile(r'^version = "(.*)"$', re.M),
+    "clients/r/DESCRIPTION": re.compile(r"^Version: (.*)$", re.M),
+    "CHANGELOG.md": re.compile(r"^## (\S+)$", re.M),
+}
 # Between two comments: no quotation runs over it.
 BREAK = " \0 "
 
@@ -50,26 +64,62 @@ def is_there(root, name):
     its ending may be left out; what is built may be missing."""
     inside = [os.path.join(root, "crates", name), os.path.join(root, "crates", "*", name)]
     places = [os.path.join(root, name), *inside, *(it + ".*" for it in inside)]
-    return "/out/" in name or any(glob.glob(it) for it in places)
+    return "out" in name.split("/")[:-1] or any(glob.glob(it) for it in places)
+
+
+def read(root, *parts):
+    with open(os.path.join(root, *parts), encoding="utf-8") as file:
+        return file.read()
+
+
+def wrong_forms(root):
+    """What the man page and the units have other than docs/REFERENCE.md."""
+    page = read(root, "docs", "REFERENCE.md").partition("## The commands")[2].partition("\n| ")[0]
+    forms = FORM.findall(page)
+    if sorted(MAN_FORM.findall(read(root, "packaging", "tablebuilder.1"))) != sorted(forms):
+        yield "packaging/tablebuilder.1 has other commands than docs/REFERENCE.md"
+    commands = [form.split()[1] for form in forms]
+    for path in sorted(glob.glob(os.path.join(root, "packaging", "systemd", "*.service"))):
+        if UNIT_COMMAND.search(read(path))[1] not in commands:
+            yield f"{path} starts what is no command"
+
+
+def wrong_versions(root):
+    """The places that have another version than VERSION."""
+    version = read(root, "VERSION").strip()
+    for path, form in VERSIONS.items():
+        found = form.search(read(root, path))
+        if not found or found[1] != version:
+            yield f"{path} has another version than VERSION"
+
+
+def wrong_examples(root):
+    """The lines of the examples for haproxy and stunnel that docs/SERVER.md doesn't have."""
+    page = {line.strip() for line in read(root, "docs", "SERVER.md").splitlines()}
+    for name in EXAMPLES:
+        for line in map(str.strip, read(root, "packaging", name).splitlines()):
+            if not line.startswith(("#", ";")) and line not in page:
+                yield f"packaging/{name} has a line that docs/SERVER.md hasn't: {line}"
 
 
 def main():
     (root,) = sys.argv[1:]
     said = comments(root)
     wrong = quoted = named = 0
-    with open(os.path.join(root, "docs", "DEFINITIONS.md"), encoding="utf-8") as file:
-        for number, text in quotations(file.read()):
-            quoted += 1
-            if plain(text).rstrip(".,") not in said:
+    for number, text in quotations(read(root, "docs", "DEFINITIONS.md")):
+        quoted += 1
+        if plain(text).rstrip(".,") not in said:
+            wrong += 1
+            print(f"docs/DEFINITIONS.md, line {number}, quotes what stands nowhere: {text}")
+    for page in PAGES:
+        for name in FILE.findall(read(root, page)):
+            named += 1
+            if not is_there(root, name):
                 wrong += 1
-                print(f"docs/DEFINITIONS.md, line {number}, quotes what stands nowhere: {text}")
-    for page in ("README.md", os.path.join("docs", "ARCHITECTURE.md")):
-        with open(os.path.join(root, page), encoding="utf-8") as file:
-            for name in FILE.findall(file.read()):
-                named += 1
-                if not is_there(root, name):
-                    wrong += 1
-                    print(f"{page} names a file that isn't there: {name}")
+                print(f"{page} names a file that isn't there: {name}")
+    for told in (*wrong_forms(root), *wrong_versions(root), *wrong_examples(root)):
+        wrong += 1
+        print(told)
     print(f"{quoted} quotations and {named} files, {wrong} wrong")
     return 1 if wrong or not quoted else 0
 

@@ -3,7 +3,7 @@ standard error, and its status.
 
 Usage: refusals.py PROGRAM
 
-Each run is over the files of examples/small, of which a row of the table replaces one.
+Each run is over the files of examples/small, of which a row of a table replaces one.
 """
 
 import errno
@@ -16,16 +16,25 @@ import socket
 import subprocess
 import sys
 import tempfile
+import time
+
+sys.dont_write_bytecode = True
+sys.path.insert(0, os.path.join(os.path.dirname(os.path.abspath(__file__)), "..", "bench"))
+from serve import free_ports
 
 SMALL = os.path.join(os.path.dirname(os.path.abspath(__file__)), "..", "examples", "small")
-NAMES = ("classes.csv", "recodes.csv", "ptable.csv", "people.csv", "script.txt")
+NAMES = ("classes.csv", "recodes.csv", "ptable.csv", "people.csv", "dwellings.csv", "links.csv", "script.txt")
 SCRIPT = "script classes.csv recodes.csv ptable.csv people.csv 0 script.txt"
 KEEP = "keep classes.csv recodes.csv ptable.csv people.csv 0"
+HOST = "host classes.csv recodes.csv ptable.csv people.csv 0"
+UNITS = "units classes.csv recodes.csv ptable.csv people.csv 0 dwellings.csv links.csv script.txt"
 USAGE = """\
 usage: tablebuilder script CLASSES RECODES PTABLE PEOPLE THRESHOLD SCRIPT
        tablebuilder lanes CLASSES RECODES PTABLE PEOPLE THRESHOLD SCRIPT
        tablebuilder keep CLASSES RECODES PTABLE PEOPLE THRESHOLD JOURNAL SCRIPT
        tablebuilder follow CLASSES RECODES PTABLE PEOPLE THRESHOLD SCRIPT
+       tablebuilder units CLASSES RECODES PTABLE PEOPLE THRESHOLD DWELLINGS LINKS SCRIPT
+       tablebuilder host CLASSES RECODES PTABLE PEOPLE THRESHOLD JOURNAL PORT WORKERS SESSIONS
        tablebuilder serve CLASSES RECODES PTABLE PEOPLE THRESHOLD PORT WORKERS SESSIONS
        tablebuilder gen N START
 """
@@ -51,6 +60,8 @@ CLASSES = "variable,code,label\n"
 RECODES = "recode,variable,code,group\n"
 PTABLE = "pcv,ckey,pvalue\n"
 PEOPLE = "person,record_key,SEX,AGE,AREA\n"
+DWELLINGS = "dwelling,dwelling_key\n"
+LINKS = "person,dwelling\n"
 VARIABLES = "".join(f"V{i},1,\n" for i in range(65))
 GROUPS = "".join(f"R{i},SEX,1,all\n" for i in range(257))
 # More bytes than a file may have, without taking as many on the disk.
@@ -133,9 +144,44 @@ FILES = [
     ("script.txt", None, "fault read script", f"script.txt: {UNREAD}", 7),
 ]
 
-NOT_JOURNAL = "the file must be a journal that `keep` has written, or not be there yet"
+DWELLING = "dwelling must be a number from 1 to 4294967295"
+TOO_MANY = "there must be at most 1000000 records"
+ONES = "".join(f"{i},1\n" for i in range(1, 1_000_002))
+
+# The same of the files that `units` reads besides.
+UNITS_FILES = [
+    ("dwellings.csv", "dwelling,key\n1,50\n", "fault dwellings 1 BadHeader 0",
+     "dwellings.csv, header: the header must have each of `dwelling` and `dwelling_key` once", 13),
+    ("dwellings.csv", DWELLINGS + "1,50\n2\n", "fault dwellings 8 BadCsv 2", f"dwellings.csv, record 2: {FIELDS}", 13),
+    ("dwellings.csv", DWELLINGS + "0,50\n", "fault dwellings 2 BadDwelling 1",
+     f"dwellings.csv, record 1: {DWELLING}", 13),
+    ("dwellings.csv", DWELLINGS + "1,50\n2,256\n", "fault dwellings 3 BadKey 2",
+     f"dwellings.csv, record 2: dwelling_key must be a number from 0 to 255, {WIDE}", 13),
+    ("dwellings.csv", DWELLINGS + "1,50\n2,60\n1,50\n", "fault dwellings 4 DwellingTwice 3",
+     "dwellings.csv, record 3: an earlier record has the same dwelling", 13),
+    ("dwellings.csv", DWELLINGS + ONES, "fault dwellings 9 TooMany 1000001",
+     f"dwellings.csv, record 1000001: {TOO_MANY}", 13),
+    ("dwellings.csv", LONG, "fault dwellings TooLong", "dwellings.csv: the file must have at most 268435456 bytes", 13),
+    ("dwellings.csv", None, "fault read dwellings", f"dwellings.csv: {UNREAD}", 7),
+    ("links.csv", "person,home\n101,1\n", "fault links 1 BadHeader 0",
+     "links.csv, header: the header must have each of `person` and `dwelling` once", 13),
+    ("links.csv", LINKS + "101,1,\n", "fault links 8 BadCsv 1", f"links.csv, record 1: {FIELDS}", 13),
+    ("links.csv", LINKS + "0,1\n", "fault links 7 BadPerson 1",
+     "links.csv, record 1: person must be a number from 1 to 4294967295", 13),
+    ("links.csv", LINKS + "101,1\n102,x\n", "fault links 2 BadDwelling 2", f"links.csv, record 2: {DWELLING}", 13),
+    ("links.csv", LINKS + "101,1\n102,1\n103,2\n104,3\n", "fault links 5 UnknownDwelling 4",
+     "links.csv, record 4: the dwelling is not among the dwellings", 13),
+    ("links.csv", LINKS + "101,1\n101,2\n", "fault links 6 PersonTwice 2",
+     "links.csv, record 2: an earlier record has the same person", 13),
+    ("links.csv", LINKS + ONES, "fault links 9 TooMany 1000001", f"links.csv, record 1000001: {TOO_MANY}", 13),
+    ("links.csv", LONG, "fault links TooLong", "links.csv: the file must have at most 268435456 bytes", 13),
+    ("links.csv", None, "fault read links", f"links.csv: {UNREAD}", 7),
+]
+
+NOT_JOURNAL = "the file must be a journal that `keep` or `host` has written, or not be there yet"
 BAD_RECORD = (
-    "the record must be as `keep` wrote it; the file was changed since then, so put a copy of the journal in its place"
+    "the record must be as `keep` or `host` wrote it; the file was changed since then, so put a copy of the journal in"
+    " its place"
 )
 NOT_FOLLOWING = (
     "the batch must fit the classification and follow the microdata and the batches before it, so name the files that"
@@ -172,14 +218,19 @@ class Runs:
         """Copies the accepted files, with another one, or none, under `name`."""
         for each in NAMES:
             shutil.copy(os.path.join(SMALL, each), self.work)
-        path = os.path.join(self.work, name or NAMES[0])
+        if name:
+            self.put(name, text)
+
+    def put(self, name, text):
+        """Puts a text or so many bytes, or no file, under `name`."""
+        path = os.path.join(self.work, name)
         if isinstance(text, str):
             with open(path, "w", encoding="utf-8", newline="") as file:
                 file.write(text)
         elif isinstance(text, int):
             with open(path, "w", encoding="utf-8") as file:
                 file.truncate(text)
-        elif name:
+        else:
             os.remove(path)
 
     def run(self, words, out, err, status, stdout=subprocess.PIPE, limit=None):
@@ -187,11 +238,14 @@ class Runs:
         done = subprocess.run([self.program, *words], cwd=self.work, stdin=subprocess.DEVNULL, stdout=stdout,
                               stderr=subprocess.PIPE, preexec_fn=limit, timeout=60, check=False)
         got = ((done.stdout or b"").decode(), done.stderr.decode(), done.returncode)
-        if got == (out, err, status):
+        self.compare(words, got, (out, err, status))
+
+    def compare(self, words, got, wanted):
+        if got == wanted:
             self.right += 1
         else:
             self.wrong += 1
-            print(f"{words}\n  printed and said: {got}\n  wanted:           {(out, err, status)}")
+            print(f"{words}\n  printed and said: {got}\n  wanted:           {wanted}")
 
 
 def system_error(number):
@@ -215,14 +269,17 @@ def journals(runs):
     runs.fill()
     path = os.path.join(runs.work, "journal")
     words = [*KEEP.split(), "journal", "script.txt"]
+    host = [*HOST.split(), "journal", "4000", "1", "1"]
     for data, line, said in JOURNALS:
         with open(path, "wb") as file:
             file.write(data)
-        runs.run(words, line + "\n", said + "\n", 11)
+        for each in (words, host):
+            runs.run(each, line + "\n", said + "\n", 11)
     with open(path, "rb") as held:
         fcntl.flock(held, fcntl.LOCK_EX)
         said = f"the journal's file: another process has it\njournal: {DISK}\n"
-        runs.run(words, "fault disk\n", said, 12)
+        for each in (words, host):
+            runs.run(each, "fault disk\n", said, 12)
     names = {"none/journal": system_error(errno.ENOENT), ".": system_error(errno.EISDIR), "/dev/null": "it is no file"}
     for name, why in names.items():
         said = f"the journal's file: {why}\n{name}: {DISK}\n"
@@ -236,11 +293,72 @@ def journals(runs):
     runs.run(words, f"held 1\npublished 1\nrefused batch 0 5 Nothing\n{table}", "", 0)
 
 
+def told_at(port, lines):
+    """What a session of these lines is told, once the port is there."""
+    for _ in range(600):
+        try:
+            session = socket.create_connection(("127.0.0.1", port), 60)
+            break
+        except ConnectionRefusedError:
+            time.sleep(0.1)
+    with session, session.makefile("rb") as replies:
+        session.sendall(lines)
+        session.shutdown(socket.SHUT_WR)
+        return replies.read().decode()
+
+
+def hosts(runs):
+    """What comes of a server whose journal takes no batch, and of the next one over the same file."""
+    table = "SEX,count\n1,1\n2,{}\n.\n"
+    lines = b"drop 104\npublish\npublish\ntable SEX\n"
+    for limit, replies, end, status in [
+        (short_files, f"held 1\nunkept\nunkept\nrelease 0\n{table.format(2)}", "release 0\nfault disk\n", 12),
+        (None, f"held 1\npublished 1\nrefused batch 0 5 Nothing\nrelease 1\n{table.format(0)}", "release 1\n", 0),
+    ]:
+        port = free_ports(2)
+        words = [*HOST.split(), "new", str(port), "1", "1"]
+        with subprocess.Popen([runs.program, *words], cwd=runs.work, stdin=subprocess.DEVNULL,
+                              stdout=subprocess.PIPE, stderr=subprocess.PIPE, preexec_fn=limit) as process:
+            told = [told_at(port, lines), told_at(port + 1, b"")]
+            out, said = (text.decode() for text in process.communicate(timeout=60))
+        report = f"worker 0 sessions 1\nworker 1 sessions 1\n{end}"
+        runs.compare(words, (told, out, process.returncode), ([replies, ""], report, status))
+        fault = f"the journal's file: {system_error(errno.EFBIG)}\n"
+        runs.compare(words, said.count(fault), 1 if limit else 0)
+
+
+def units(runs):
+    """What comes of the files that `units` reads: dwellings and links are read after the microdata, both
+    before either is checked, and the script comes last."""
+    words = UNITS.split()
+    for name, text, line, said, status in UNITS_FILES:
+        runs.fill(name, text)
+        runs.run(words, line + "\n", said + "\n", status)
+    runs.fill("dwellings.csv", "")
+    said = "dwellings.csv, header: the header must have each of `dwelling` and `dwelling_key` once\n"
+    for name, text in (("links.csv", ""), ("script.txt", "!x\n")):
+        runs.put(name, text)
+        runs.run(words, "fault dwellings 1 BadHeader 0\n", said, 13)
+    runs.put("links.csv", LONG)
+    said = "links.csv: the file must have at most 268435456 bytes\n"
+    runs.run(words, "fault links TooLong\n", said, 13)
+    runs.put("links.csv", None)
+    runs.run(words, "fault read links\n", f"links.csv: {UNREAD}\n", 7)
+    runs.put("people.csv", "")
+    said = "people.csv, header: the header must have each of person, record_key and the variables once\n"
+    runs.run(words, "fault people 1 BadHeader 0\n", said, 5)
+    runs.fill("script.txt", "a dwellings SEX with totals\na dwellings FOO\na at 0 dwellings SEX\n")
+    table = "release 0\nSEX,count\n1,2\n2,1\nTotal,2\n.\n"
+    refused = "refused 2 Syntax 1\n"
+    runs.run(words, f"{table}refused 3 UnknownName 2\n{refused}", "", 0)
+    runs.run(SCRIPT.split(), 3 * refused, "", 0)
+
+
 def others(runs):
     """What comes of the arguments, the memory, the output and the ports."""
     runs.fill()
     words = SCRIPT.split()
-    for bad in ([], ["--help"], words[:-1], [b"\xff"]):
+    for bad in ([], ["--help"], words[:-1], UNITS.split()[:-1], ["units", *words[1:]], [b"\xff"]):
         runs.run(bad, "fault usage\n", USAGE, 2)
     here = [f"./{word}" if word == "people.csv" else word for word in words]
     runs.fill("people.csv", PEOPLE + "101,200,1,0-15,E1\n101,200,1,0-15,E1\n")
@@ -248,6 +366,8 @@ def others(runs):
     runs.run(here, "fault people 5 PersonTwice 2\n", said, 5)
     serve = ["serve", *here[1:6], "4000", "1", "1"]
     runs.run(serve, "fault people 5 PersonTwice 2\n", said, 5)
+    host = ["host", *here[1:6], "journal", "4000", "1", "1"]
+    runs.run(host, "fault people 5 PersonTwice 2\n", said, 5)
     runs.run(["follow", *here[1:]], "fault people 5 PersonTwice 2\n", said, 5)
     with socket.socket() as taken:
         taken.bind(("127.0.0.1", 0))
@@ -259,7 +379,8 @@ def others(runs):
                 f"cannot listen on 127.0.0.1:{port}: {system_error(errno.EADDRINUSE)}\n"
                 f"port {port} and the 2 after it must be free on this machine, and go on accepting clients\n"
             )
-            runs.run([*serve[:6], str(port), "2", "1"], "fault net\n", said, 10)
+            for each in (serve[:6], [*host[:6], "free"]):
+                runs.run([*each, str(port), "2", "1"], "fault net\n", said, 10)
     runs.fill("people.csv", LONG - 1)
     runs.run(words, "fault memory\n", "out of memory\n", 9, limit=less_memory)
     runs.fill()
@@ -269,6 +390,34 @@ def others(runs):
     runs.run(words, "", "", 0)
 
 
+def first_looks(runs):
+    """What `make try` says of arguments, before it builds anything."""
+    runs.fill()
+    good = dict(zip(("CLASSES", "RECODES", "PTABLE", "PEOPLE"), NAMES), THRESHOLD="0", SCRIPT="script.txt")
+    number, empty = "a threshold is a number from 0 to 1,000,000", "it is empty: name a file"
+    for name, value, said in [
+        ("THRESHOLD", "1000001", number),
+        ("THRESHOLD", "-1", number),
+        ("THRESHOLD", "", number),
+        ("CLASSES", "-", f"it can't be read: {os.strerror(errno.ENOENT)}"),
+        ("RECODES", "none.csv", f"it can't be read: {os.strerror(errno.ENOENT)}"),
+        ("PEOPLE", ".", "it is a folder: name a file"),
+        ("SCRIPT", "", empty),
+    ]:
+        compare_look(runs, {**good, name: value}, f"{name}={value}: {said}\n")
+    compare_look(runs, {**good, "LINKS": "links.csv"}, f"DWELLINGS=: {empty}\n")
+
+
+def compare_look(runs, given, said):
+    """Compares what is said of arguments that are refused; nothing is built, since `rt` isn't found."""
+    words = [sys.executable, "-B", os.path.join(os.path.dirname(os.path.abspath(__file__)), "try.py")]
+    words += [f"{name}={value}" for name, value in given.items()]
+    done = subprocess.run(words, cwd=runs.work, env={"PATH": ""}, stdin=subprocess.DEVNULL,
+                          stdout=subprocess.PIPE, stderr=subprocess.PIPE, timeout=60, check=False)
+    got = (done.stdout.decode(), done.stderr.decode(), done.returncode)
+    runs.compare(words, got, ("", said, 2))
+
+
 def main():
     (program,) = sys.argv[1:]
     with tempfile.TemporaryDirectory() as work:
@@ -276,8 +425,11 @@ def main():
         for name, text, line, said, status in FILES:
             runs.fill(name, text)
             runs.run(SCRIPT.split(), line + "\n", said + "\n", status)
+        units(runs)
         journals(runs)
+        hosts(runs)
         others(runs)
+        first_looks(runs)
     print(f"{runs.right} refusals as wanted, {runs.wrong} not")
     return 1 if runs.wrong else 0
 
