@@ -191,6 +191,11 @@ DISK = (
     "the file must be there or its folder, this user must be allowed to read and write it, no other process may have"
     " it, and the disk must take what is written"
 )
+# A server may have served before its journal took no more.
+HOST_DISK = (
+    f"{DISK}, and memory suffice behind it; each `publish` after such a fault was answered `unkept`, so"
+    " start anew from the file"
+)
 # A journal of one batch, which drops person 104; and such a record.
 RECORD = bytes.fromhex("01 00000009 00000001 02 00000068")
 JOURNAL = b"TBJOURN1" + RECORD + b"\0"
@@ -277,8 +282,8 @@ def journals(runs):
             runs.run(each, line + "\n", said + "\n", 11)
     with open(path, "rb") as held:
         fcntl.flock(held, fcntl.LOCK_EX)
-        said = f"the journal's file: another process has it\njournal: {DISK}\n"
-        for each in (words, host):
+        for each, why in ((words, DISK), (host, HOST_DISK)):
+            said = f"the journal's file: another process has it\njournal: {why}\n"
             runs.run(each, "fault disk\n", said, 12)
     names = {"none/journal": system_error(errno.ENOENT), ".": system_error(errno.EISDIR), "/dev/null": "it is no file"}
     for name, why in names.items():
