@@ -64,9 +64,11 @@ __all__ = [
     "Last",
     "NotJournal",
     "Pvalue",
+    "Reader",
     "Threshold",
     "batches",
     "copy",
+    "edits_of",
     "last",
     "lines",
     "read_classes",
@@ -165,39 +167,69 @@ Edit = Union[Add, Drop, Amend, Pvalue, Threshold]
 # ---- the records of a journal
 
 
-def records(file: BinaryIO) -> Iterator[bytes]:
-    """The payloads of a journal's records, in order, from a file that is read from its start.
+class Reader:
+    """Reads the records of a journal one after another, also while a program puts further ones.
 
-    A gate is read before what stands behind it. A program opens a gate when its record is whole, so
-    it may put further records meanwhile.
+    `number` is how many were read so far. A gate is read before what stands behind it, since a
+    program opens a gate when its record is whole. Where records may come, the file has to be one
+    without a buffer, which would give a gate as it was.
+    """
+
+    def __init__(self, file: BinaryIO) -> None:
+        self._file, self._place, self.number = file, len(HEADER), 0
+
+    def next(self) -> Optional[bytes]:
+        """The payload of the next record, or None as long as there is none.
+
+        Raises
+        ------
+        NotJournal
+            Where more than nine bytes don't begin as a journal does. A file of fewer is one without
+            records, since a stop may leave any where a journal is made.
+        BadRecord
+            At a record whose gate is open and which doesn't lie in the file, with the gate behind
+            it, or whose payload is longer than any is.
+        """
+        if self.number == 0 and not self._has_more_than_a_gate():
+            return None
+        self._file.seek(self._place)
+        if self._file.read(1) != OPEN:
+            return None
+        length = self._file.read(4)
+        size = int.from_bytes(length, "big")
+        if len(length) == 4 and size > MOST_PAYLOAD_BYTES:
+            why = f"its payload has more than {MOST_PAYLOAD_BYTES:,} bytes"
+            raise BadRecord(self.number + 1, why)
+        payload = self._file.read(size)
+        if not self._file.read(1):
+            raise BadRecord(self.number + 1, "it is cut off")
+        self._place += 1 + len(length) + size
+        self.number += 1
+        return payload
+
+    def _has_more_than_a_gate(self) -> bool:
+        self._file.seek(0)
+        start = self._file.read(len(HEADER) + 2)
+        if len(start) < len(HEADER) + 2:
+            return False
+        if not start.startswith(HEADER):
+            raise NotJournal("the file isn't a journal")
+        return True
+
+
+def records(file: BinaryIO) -> Iterator[bytes]:
+    """The payloads of a journal's records, in order, up to the first gate that isn't open.
 
     Raises
     ------
-    NotJournal
-        Where more than nine bytes don't begin as a journal does. A file of fewer is one without
-        records, since a stop may leave any where a journal is made.
-    BadRecord
-        At a record whose gate is open and which doesn't lie in the file, with the gate behind it,
-        or whose payload is longer than any is.
+    NotJournal, BadRecord
+        As `Reader.next`.
     """
-    start = file.read(len(HEADER) + 2)
-    if len(start) < len(HEADER) + 2:
-        return
-    if not start.startswith(HEADER):
-        raise NotJournal("the file isn't a journal")
-    file.seek(len(HEADER))
-    number, gate = 1, file.read(1)
-    while gate == OPEN:
-        length = file.read(4)
-        size = int.from_bytes(length, "big")
-        if len(length) == 4 and size > MOST_PAYLOAD_BYTES:
-            raise BadRecord(number, f"its payload has more than {MOST_PAYLOAD_BYTES:,} bytes")
-        payload = file.read(size)
-        gate = file.read(1)
-        if not gate:
-            raise BadRecord(number, "it is cut off")
+    reader = Reader(file)
+    payload = reader.next()
+    while payload is not None:
         yield payload
-        number += 1
+        payload = reader.next()
 
 
 class _Fields:
@@ -218,7 +250,7 @@ class _Fields:
         return self.place == len(self.payload)
 
 
-def _edits(payload: bytes) -> list[Edit]:
+def edits_of(payload: bytes) -> list[Edit]:
     """The edits that have this payload. ValueError, with what is wrong, where none have."""
     fields = _Fields(payload)
     (count,) = fields.take("I")
@@ -256,7 +288,7 @@ def _batches(file: BinaryIO) -> Iterator[tuple[bytes, list[Edit]]]:
     """The payloads of a journal, and the edits of each."""
     for number, payload in enumerate(records(file), 1):
         try:
-            edits = _edits(payload)
+            edits = edits_of(payload)
         except ValueError as fault:
             raise BadRecord(number, str(fault)) from fault
         yield payload, edits

@@ -1,5 +1,6 @@
 #!/usr/bin/env python3
-"""Runs the tests of each client against servers over `examples/small`, and those of `journal.py`.
+"""Runs the tests of each client against servers over `examples/small`, and those of `journal.py` and
+of the relay, which has doubles of the servers.
 
     run.py PROGRAM FOLDER
 
@@ -34,6 +35,7 @@ CLIENTS = {
     "python": ("python", [sys.executable, "-B", "-m", "unittest"], ""),
     "R": ("r", ["Rscript", "--vanilla", "tests/all.R"], R_MISSING),
     "journal": (".", [sys.executable, "-B", "test_journal.py"], ""),
+    "relay": ("relay", [sys.executable, "-B", "test_relay.py"], ""),
 }
 
 # A journal of one batch, whose edits set the threshold so often that no byte may be written behind.

@@ -387,6 +387,29 @@ class Copying(Files):
         self.assertEqual(counts, sorted(counts))
 
 
+class Following(Files):
+    def test_records_that_come_while_it_is_read(self):
+        path, payloads = self.write("journal", b""), [payload_of("02 00000068"), b"", b"x" * 300]
+        with open(path, "rb", buffering=0) as file:
+            reader = journal.Reader(file)
+            for data in (b"", HEADER[:3], HEADER, journal_of()):
+                self.write("journal", data)
+                self.assertIsNone(reader.next())
+            for number, payload in enumerate(payloads, 1):
+                # (the record first, behind a closed gate)
+                closed = bytearray(journal_of(*payloads[:number]))
+                closed[len(journal_of(*payloads[: number - 1])) - 1] = 0
+                self.write("journal", closed)
+                self.assertIsNone(reader.next())
+                self.write("journal", journal_of(*payloads[:number]))
+                self.assertEqual((reader.next(), reader.number), (payload, number))
+                self.assertIsNone(reader.next())
+            self.write("journal", journal_of(*payloads)[:-1] + record(b"xyz"))
+            with self.assertRaises(BadRecord) as caught:
+                reader.next()
+            self.assertEqual(caught.exception.number, 4)
+
+
 class TheLastRelease(Files):
     """Over examples/small: the files of the release to which a journal leads."""
 

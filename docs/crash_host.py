@@ -113,6 +113,41 @@ def release_of(reply):
     return int(number)
 
 
+def write_script(path, batches, tables):
+    """The lines of batches, and after each the queries that had a table at that release."""
+    asked, classes = [], journal.read_classes(FILES[0])
+    with open(path, "w", encoding="ascii") as out:
+        for release, edits in enumerate([[], *batches]):
+            if release > 0:
+                lines = journal.lines(release, edits, classes)[1:]
+                out.writelines(f"custodian {line}\n" for line in lines)
+            here = [query for query in QUERIES if (query, release) in tables]
+            out.writelines(f"a {query}\n" for query in here)
+            asked += [(query, release) for query in here]
+    return asked
+
+
+def compare(tables, batches, words, folder, seconds):
+    """Compares each table that a client got, by its query and release, with that of a script of the
+    batches, which the words begin."""
+    script = f"{folder}/script.txt"
+    asked = write_script(script, batches, tables)
+    done = subprocess.run([*words, script], stdout=subprocess.PIPE, timeout=seconds, check=True)
+    places, table, got = iter(asked), [], 0
+    for line in done.stdout.splitlines(keepends=True):
+        if not table and not line.startswith(b"release "):
+            continue
+        table.append(line)
+        if line == b".\n":
+            query, release = next(places)
+            if b"".join(table) != tables[query, release]:
+                raise Wrong(f"`{query}` at release {release}: a client got "
+                            f"{tables[query, release]!r}, and `script` prints {b''.join(table)!r}")
+            table, got = [], got + 1
+    if got != len(asked) or len(asked) != len(tables):
+        raise Wrong(f"`script` prints {got} tables of {len(tables)}")
+
+
 class Run:
     """A run of the server, which begins with so many batches in its journal."""
 
@@ -280,40 +315,10 @@ class Test:
         self.done += 1
         self.look(run)
 
-    def write_script(self, path):
-        """The lines of the journal's batches, and after each the queries that had a table."""
-        asked = []
-        with open(path, "w", encoding="ascii") as out:
-            for release, edits in enumerate([[], *self.found()]):
-                if release > 0:
-                    lines = journal.lines(release, edits, self.classes)[1:]
-                    out.writelines(f"custodian {line}\n" for line in lines)
-                here = [query for query in QUERIES if (query, release) in self.tables]
-                out.writelines(f"a {query}\n" for query in here)
-                asked += [(query, release) for query in here]
-        return asked
-
     def compare(self):
         """Compares each table with that of a script of the journal's batches."""
-        script = f"{self.folder}/script.txt"
-        asked = self.write_script(script)
-        done = subprocess.run([*self.words("script"), script], stdout=subprocess.PIPE,
-                              timeout=max(self.end(MOST_SECONDS) - time.monotonic(), 1),
-                              check=True)
-        places, table, got = iter(asked), [], 0
-        for line in done.stdout.splitlines(keepends=True):
-            if not table and not line.startswith(b"release "):
-                continue
-            table.append(line)
-            if line == b".\n":
-                query, release = next(places)
-                if b"".join(table) != self.tables[query, release]:
-                    raise Wrong(f"`{query}` at release {release}: a client got "
-                                f"{self.tables[query, release]!r}, and `script` prints "
-                                f"{b''.join(table)!r}")
-                table, got = [], got + 1
-        if got != len(asked) or len(asked) != len(self.tables):
-            raise Wrong(f"`script` prints {got} tables of {len(self.tables)}")
+        seconds = max(self.end(MOST_SECONDS) - time.monotonic(), 1)
+        compare(self.tables, self.found(), self.words("script"), self.folder, seconds)
 
     def finish(self):
         """A server that isn't killed: each port has one session, and then it ends."""

@@ -24,7 +24,7 @@ import tempfile
 HERE = os.path.dirname(os.path.abspath(__file__))
 TOP = os.path.dirname(HERE)
 # What stands under `share/tablebuilder`, beside the clients.
-EXAMPLES = ("haproxy.cfg", "stunnel.conf", "stunnel-client.conf")
+EXAMPLES = ("haproxy.cfg", "haproxy-mirrors.cfg", "stunnel.conf", "stunnel-client.conf")
 # The machine of an ELF file, and where its number stands.
 MACHINE, MACHINE_AT = b"\x3e\x00", slice(18, 20)
 PLAIN, EXECUTABLE = 0o644, 0o755

@@ -7,9 +7,10 @@ The archive is unpacked, and the package installed by `dpkg --root` into an empt
 scripts make the user there. Of each: the program is run from where it lies, over the examples that
 are beside it; the man page is read; each unit's own line starts a server, with the files of
 `examples/small` named in its file under `etc`, which the Python client from beside it asks; haproxy
-and stunnel are put in front by their examples. A unit isn't enabled, and a removal leaves the files
-under `etc`. What can't be tried, since a tool isn't there, is said. The status is 0 where all that
-was tried is as it should be.
+and stunnel are put in front by their examples. The relays' units carry a batch of such a server to
+a mirror's double, where `redis-server` and `python3-redis` are there. A unit isn't enabled, and a
+removal leaves the files under `etc`. What can't be tried, since a tool isn't there, is said. The
+status is 0 where all that was tried is as it should be.
 """
 
 import contextlib
@@ -90,13 +91,29 @@ def try_page(tried, at):
 
 
 def words_of(unit):
-    """The words of the line by which a unit starts its server."""
+    """The words of the line by which a unit starts its server, and the names of its files."""
     with open(unit, encoding="utf-8") as file:
         text = file.read()
     return (
         shlex.split(re.search(r"^ExecStart=(.*)$", text, re.M)[1]),
-        re.search(r"^EnvironmentFile=/etc/tablebuilder/(.*)$", text, re.M)[1],
+        re.findall(r"^EnvironmentFile=/etc/tablebuilder/(.*)$", text, re.M),
     )
+
+
+def values_of(at, names):
+    """What these files set, with the files of examples/small in place of theirs."""
+    values = {}
+    for name in names:
+        with contextlib.suppress(FileNotFoundError):
+            values.update(settings_of(f"{at.settings}/{name}"))
+    for setting, file in zip(("CLASSES", "RECODES", "PTABLE", "PEOPLE"), SMALL):
+        values[setting] = f"{at.small}/{file}"
+    return {**values, "THRESHOLD": "0"}
+
+
+def filled(line, values):
+    """A line's words, as systemd fills them."""
+    return [re.sub(r"\$\{(\w+)\}", lambda it: values[it[1]], word) for word in line]
 
 
 def settings_of(path):
@@ -142,14 +159,12 @@ def try_unit(tried, at, unit):
     """Starts the server of a unit by its own line, and asks it, also by what stands in front."""
     name = os.path.basename(unit)
     line, settings = words_of(unit)
-    values = settings_of(f"{at.settings}/{settings}")
+    values = values_of(at, settings)
     with tempfile.TemporaryDirectory() as folder:
         workers = int(values["WORKERS"])
         first = free_ports(workers + 4)
-        for setting, file in zip(("CLASSES", "RECODES", "PTABLE", "PEOPLE"), SMALL):
-            values[setting] = f"{at.small}/{file}"
-        values.update(PORT=str(first), THRESHOLD="0", JOURNAL=f"{folder}/revisions.journal")
-        words = [re.sub(r"^\$\{(\w+)\}$", lambda it: values[it[1]], word) for word in line]
+        values.update(PORT=str(first), JOURNAL=f"{folder}/revisions.journal")
+        words = filled(line, values)
         installed = os.path.normpath(at.root + line[0])
         tried.check(f"{name}: its program is there", os.access(installed, os.X_OK), installed)
         if not os.access(installed, os.X_OK):
@@ -211,10 +226,50 @@ def tool_path():
     return os.environ.get("PATH", "") + ":/usr/sbin:/sbin"
 
 
+def try_relays(tried, at):
+    """A batch of a server, by the lines of the relays' units, at the double of a mirror."""
+    what, redis = "the relays' units", shutil.which("redis-server", path=tool_path())
+    if redis is None or run("/usr/bin/python3", "-c", "import redis")[0] != 0:
+        tried.skip(what, "redis-server or python3-redis")
+        return
+    sys.path.insert(0, f"{at.share}/clients/relay")
+    import doubles
+
+    first = free_ports(5)
+    with tempfile.TemporaryDirectory() as folder, contextlib.ExitStack() as stack:
+        mirror = stack.enter_context(doubles.serving(doubles.Mirror()))
+        own = {"JOURNAL": f"{folder}/journal", "WORKERS": "2", "AGENT": f"127.0.0.1:{first + 3}"}
+        own.update(ADDRESS=f"127.0.0.1:{first + 2}", REDIS_URL=f"redis://127.0.0.1:{first + 4}/0")
+        words = [redis, "--port", str(first + 4), "--bind", "127.0.0.1", "--dir", folder]
+        stack.enter_context(start(words))
+        ports = {"host": first, "feed": first, "apply": mirror.port}
+        started = [start_unit(stack, at, unit, {**own, "PORT": str(ports[unit])}) for unit in ports]
+        if is_listened_to(first + 1, started[0]):
+            with socket.create_connection(("127.0.0.1", first), PATIENCE) as custodian:
+                custodian.sendall(b"drop 104\npublish\n")
+                custodian.shutdown(socket.SHUT_WR)
+                custodian.makefile("rb").read()
+        end = time.monotonic() + PATIENCE
+        while not mirror.applied and time.monotonic() < end:
+            time.sleep(0.05)
+        tried.check(f"{what}: a batch", mirror.applied == [["drop 104"]], mirror.applied)
+
+
+def start_unit(stack, at, name, own):
+    """Starts what a unit starts, with values of its own."""
+    line, settings = words_of(f"{at.prefix}/lib/systemd/system/tablebuilder-{name}.service")
+    values = {**values_of(at, settings), **own}
+    words = filled(line, values)
+    words = [at.root + word if os.path.exists(at.root + word) else word for word in words]
+    return stack.enter_context(start(words, env={**os.environ, "REDIS_URL": values["REDIS_URL"]}))
+
+
 def try_units(tried, at):
     tried.check("there are units", bool(at.units))
     for unit in at.units:
-        try_unit(tried, at, unit)
+        if "-feed" not in unit and "-apply" not in unit:
+            try_unit(tried, at, unit)
+    try_relays(tried, at)
     if shutil.which("systemd-analyze") is None:
         tried.skip("systemd's own look at the units", "systemd-analyze")
         return

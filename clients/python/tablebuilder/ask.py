@@ -250,7 +250,8 @@ def _lines_of(data: bytes) -> list[str]:
     return lines[:-1] if lines[-1] == "" else lines
 
 
-def _address(text: str) -> tuple[str, int]:
+def address_of(text: str) -> tuple[str, int]:
+    """The host and the port that an argument names."""
     host, _, port = text.rpartition(":")
     if not (port.isascii() and port.isdigit() and 1 <= int(port) <= 65_535):
         raise argparse.ArgumentTypeError(f"{text} is no [HOST:]PORT")
@@ -266,7 +267,7 @@ def _words(arguments: Optional[Sequence[str]]) -> argparse.Namespace:
         formatter_class=argparse.RawDescriptionHelpFormatter,
     )
     where = "where a worker listens"
-    parser.add_argument("address", metavar="[HOST:]PORT", type=_address, help=where)
+    parser.add_argument("address", metavar="[HOST:]PORT", type=address_of, help=where)
     parser.add_argument("script", metavar="SCRIPT", nargs="?", help="a file of lines to ask")
     parser.add_argument(
         "--wait",

@@ -229,7 +229,7 @@ class Words(unittest.TestCase):
             ("tables.example:4443", ("tables.example", 4443)),
             ("[::1]:4001", ("::1", 4001)),
         ]:
-            self.assertEqual(ask._address(text), wanted)
+            self.assertEqual(ask.address_of(text), wanted)
 
     def test_what_is_no_address(self):
         for words in ([], ["here"], ["0"], ["4001", "a", "b"]):
