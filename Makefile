@@ -1,5 +1,6 @@
-.PHONY: test try try-guide build demo serve guide quotes clients refusals growths crash bench
-.PHONY: bench-serve bench-journal bench-tools check-r dist deb try-dist analysis
+.PHONY: test try try-guide build demo serve guide quotes clients refusals pressure growths crash
+.PHONY: mirrors bench bench-serve bench-journal bench-mirrors bench-tools check-r dist deb try-dist
+.PHONY: analysis
 
 # What `make try` runs over: names of files, RECODES or `-` for none, and the threshold; DWELLINGS and
 # LINKS are both given or neither.
@@ -22,9 +23,9 @@ test:
 try:
 	@python3 docs/try.py $(foreach name,CLASSES RECODES PTABLE PEOPLE THRESHOLD DWELLINGS LINKS SCRIPT,'$(name)=$($(name))')
 
-# Every example of the guide by such a run.
-try-guide:
-	python3 docs/guide.py try docs/GUIDE.md examples/small
+# Every example of the guide by that program.
+try-guide: try
+	python3 docs/guide.py out/try/*/program docs/GUIDE.md examples/small
 
 # Proves what the program stands on and builds it, as crates/tablebuilder/out/tablebuilder.
 build:
@@ -92,6 +93,11 @@ check-r:
 refusals: build
 	python3 docs/refusals.py crates/tablebuilder/out/tablebuilder
 
+# Runs the built server where files are wanting and with clients that don't stop, and compares what its
+# clients get and what it says. It ends within two minutes, of which it waits for one.
+pressure: build
+	python3 docs/pressure.py crates/tablebuilder/out/tablebuilder
+
 # Runs scripts and lanes with one allocation refused, for one after another, and compares what they
 # print with a model of the definitions.
 growths: build
@@ -103,6 +109,13 @@ growths: build
 crash: build
 	python3 docs/crash.py crates/tablebuilder/out/tablebuilder
 	python3 docs/crash_host.py crates/tablebuilder/out/tablebuilder
+
+# Kills each process between a custodian and the analysts of two mirrors in turn (a host, two mirrors,
+# their relays, Redis and haproxy), and compares every table that came with the custodian's lines. It
+# installs redis-server, haproxy and python3-redis where they aren't there, and ends within five
+# minutes.
+mirrors: build
+	python3 docs/crash_mirrors.py crates/tablebuilder/out/tablebuilder
 
 # The program beside a plain one over generated persons: medians, spreads, peak memory and ratios; set
 # pvalues and thresholds; a script with a journal, on the disk of bench/out; a leader's messages;
@@ -129,6 +142,13 @@ bench-serve: bench-tools build
 	rustc -O --edition 2021 -o bench/out/prepared bench/prepared.rs
 	python3 bench/serve.py crates/tablebuilder/out/tablebuilder bench/out/client bench/out/prepared \
 		bench/out/syncs.so bench/out
+
+# Replies of two mirrors beside those of one, and how far a mirror is behind its host; with the
+# servers of `make mirrors`, and four processors of which nothing else takes a part.
+bench-mirrors: bench-tools build
+	mkdir -p bench/out
+	rustc -O --edition 2021 -o bench/out/client bench/client.rs
+	python3 bench/mirrors.py crates/tablebuilder/out/tablebuilder bench/out/client bench/out
 
 # 10,000 batches of a journal read back from a disk in memory: two tests, timed.
 bench-journal: bench-tools

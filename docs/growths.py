@@ -15,6 +15,7 @@ definitions don't allow, and then ends with status 1.
 import collections
 import copy
 import csv
+import io
 import os
 import subprocess
 import sys
@@ -106,6 +107,13 @@ a table AREA
 a table SEX
 custodian stats
 custodian clear
+custodian stats
+"""),
+    "what may be asked": ("script", """
+a describe
+a table SEX
+custodian describe AGE2
+a describe AREA
 custodian stats
 """),
     "two publications": ("script", """
@@ -306,9 +314,14 @@ class Model:
     the first release is 0."""
 
     def __init__(self, folder):
-        self.codes = collections.defaultdict(list)
+        self.codes, self.labels = collections.defaultdict(list), collections.defaultdict(list)
         for row in rows_of(f"{folder}/classes.csv"):
             self.codes[row["variable"]].append(row["code"])
+            self.labels[row["variable"]].append(row["label"])
+        self.groups, self.bases = collections.defaultdict(dict), {}
+        for row in rows_of(f"{folder}/recodes.csv"):
+            self.groups[row["recode"]][row["code"]] = row["group"]
+            self.bases[row["recode"]] = row["variable"]
         self.pvalues = {(int(row["pcv"]), int(row["ckey"])): int(row["pvalue"])
                         for row in rows_of(f"{folder}/ptable.csv")}
         people = tuple(tuple(sorted(row.items())) for row in rows_of(f"{folder}/people.csv"))
@@ -347,9 +360,29 @@ class Model:
             lines.append(",".join([*cell, shown]))
         return "".join(line + "\n" for line in [*lines, "."])
 
+    def description(self, line):
+        """The reply to `describe`, or to `describe NAME`."""
+        name = line.removeprefix("describe").strip()
+        if not name:
+            rows = [("name", "kind", "categories")]
+            rows += [(it, "variable", len(codes)) for it, codes in self.codes.items()]
+            rows += [(it, f"recode of {self.bases[it]}", len(set(groups.values())))
+                     for it, groups in self.groups.items()]
+        elif name in self.codes:
+            rows = [("code", "label"), *zip(self.codes[name], self.labels[name])]
+        else:
+            codes = self.codes[self.bases[name]]
+            rows = [("group", "code"), *((self.groups[name][code], code) for code in codes)]
+        text = io.StringIO()
+        csv.writer(text, lineterminator="\n").writerows(rows)
+        return f"{line}\n{text.getvalue()}.\n"
+
     def reply(self, chain, line):
-        """The reply to a query, or to one behind `at N`, where these are the releases."""
+        """The reply to a query, or to one behind `at N`, where these are the releases, or to what
+        may be asked."""
         last = len(chain) - 1
+        if line.startswith("describe"):
+            return self.description(line)
         if not line.startswith("at "):
             return self.table(last, chain[last], line)
         _, number, query = line.split(" ", 2)
@@ -393,11 +426,11 @@ def edited_people(people, keys, word, person, *rest):
 
 
 def cut(text):
-    """The replies of a text: tables as a whole, others a line each."""
+    """The replies of a text: tables and lists as a whole, others a line each."""
     replies, table = [], ""
     for line in text.splitlines(keepends=True):
         table += line
-        if not table.startswith("release ") or line == ".\n":
+        if not table.startswith(("release ", "describe")) or line == ".\n":
             replies.append(table)
             table = ""
     return replies if not table else None
@@ -417,7 +450,7 @@ class Custodian:
         if reply == MEMORY:
             return True
         release, keys = self.chain[-1], dict(self.keys)
-        if line.startswith(("table ", "dwellings ", "at ")):
+        if line.startswith(("table ", "dwellings ", "at ", "describe")):
             return reply == self.model.reply(self.chain, line)
         if line.startswith("stats"):
             return reply.startswith(f"stats release {len(self.chain) - 1} looks ")

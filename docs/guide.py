@@ -2,11 +2,10 @@
 
 Usage: guide.py PROGRAM GUIDE FOLDER
 
-PROGRAM is the program's file; or `try`, for the one that `rt try` builds from crates/tablebuilder
-and of which nothing is proved. FOLDER has the small files; an example that names another folder, as
-`over=wide`, is run over the files of that one beside it. An example that names a file has the lines of
-that file. Journals are in a folder of their own, which is empty at first: the examples that name the
-same one, as `journal=revisions.journal`, are run over one file, in their order.
+FOLDER has the small files; an example that names another folder, as `over=wide`, is run over the files
+of that one beside it. An example that names a file has the lines of that file. Journals are in a folder
+of their own, which is empty at first: the examples that name the same one, as
+`journal=revisions.journal`, are run over one file, in their order.
 """
 
 import os
@@ -16,7 +15,6 @@ import sys
 import tempfile
 import typing
 
-CRATE = os.path.join(os.path.dirname(os.path.abspath(__file__)), "../crates/tablebuilder")
 FILES = ("classes.csv", "recodes.csv", "ptable.csv", "people.csv")
 UNITS = ("dwellings.csv", "links.csv")
 EXAMPLE = re.compile(
@@ -83,24 +81,6 @@ def wrong_by_program(program, folder, examples):
     return wrong
 
 
-def wrong_by_try(folder, examples):
-    """How many commands and folders have examples that the program of `rt try` doesn't print so; it
-    says which. It runs them in the order of their names."""
-    wrong = 0
-    kinds = {(example.command, *inputs_of(folder, example)) for example in examples}
-    for command, *inputs in sorted(kinds):
-        with tempfile.TemporaryDirectory() as scratch, tempfile.TemporaryDirectory() as journals:
-            for number, example in enumerate(examples):
-                if example.command == command and inputs_of(folder, example) == inputs:
-                    between = "\n".join(words_between(folder, example, journals))
-                    write(scratch, f"{number:02}", example.script)
-                    write(scratch, f"{number:02}.args", f"{between}\n{{}}\n")
-                    write(scratch, f"{number:02}.stdout", example.output)
-            words = ["rt", "try", "--cases", scratch, "--", command, *inputs]
-            wrong += 1 if subprocess.run(words, cwd=CRATE, check=False).returncode else 0
-    return wrong
-
-
 def unlike_files(folder, examples):
     """The examples that aren't their file's."""
     for example in examples:
@@ -116,10 +96,7 @@ def main():
     unlike = list(unlike_files(folder, examples))
     for what in unlike:
         print(f"differ: {what}")
-    if program == "try":
-        wrong = wrong_by_try(folder, examples)
-    else:
-        wrong = wrong_by_program(program, folder, examples)
+    wrong = wrong_by_program(program, folder, examples)
     print(f"{len(examples)} examples, {wrong} differ")
     return 1 if wrong or unlike or not examples else 0
 

@@ -5,7 +5,7 @@ Usage: quotes.py ROOT
 Each definition that docs/DEFINITIONS.md quotes must stand in a comment of some crate, word for word
 but for capital letters; each file that README.md, CONTRIBUTING.md, docs/ARCHITECTURE.md and
 docs/PROMISES.md name between backquotes must be there; the man page must have the forms of the commands that
-docs/REFERENCE.md has, and each unit a command of them; docs/SERVER.md must have each line of the
+docs/REFERENCE.md has, and each unit a command of them or of the relay; docs/SERVER.md must have each line of the
 examples under packaging; and each place that has the version must have that of VERSION.
 """
 
@@ -22,10 +22,12 @@ PAGES = ("README.md", "CONTRIBUTING.md", *(os.path.join("docs", page) for page i
 # Where the form of a command stands in a page.
 FORM = re.compile(r"^    (tablebuilder .*)$", re.M)
 MAN_FORM = re.compile(r"^\.B (tablebuilder .*)$", re.M)
-UNIT_COMMAND = re.compile(r"^ExecStart=\S+ (\w+)", re.M)
-EXAMPLES = ("haproxy.cfg", "stunnel.conf", "stunnel-client.conf")
+UNIT_COMMAND = re.compile(r"^ExecStart=\S+ (?:-B \S+/relay\.py )?(\w+)", re.M)
+RELAY_COMMAND = re.compile(r"^    relay\.py (\w+)", re.M)
+EXAMPLES = ("haproxy.cfg", "haproxy-mirrors.cfg", "stunnel.conf", "stunnel-client.conf")
 # Where the version stands beside VERSION.
 VERSIONS = {
+    "crates/tablebuilder/src/version.rt": re.compile(r'^pub const VERSION: &str = "(.*)";$', re.M),
     "clients/python/pyproject.toml": re.compile(r'^version = "(.*)"$', re.M),
     "clients/r/DESCRIPTION": re.compile(r"^Version: (.*)$", re.M),
     "CHANGELOG.md": re.compile(r"^## (\S+)$", re.M),
@@ -72,13 +74,19 @@ def read(root, *parts):
         return file.read()
 
 
+def forms_of(root):
+    """The forms of the commands that docs/REFERENCE.md has."""
+    page = read(root, "docs", "REFERENCE.md").partition("## The commands")[2].partition("\n| ")[0]
+    return FORM.findall(page)
+
+
 def wrong_forms(root):
     """What the man page and the units have other than docs/REFERENCE.md."""
-    page = read(root, "docs", "REFERENCE.md").partition("## The commands")[2].partition("\n| ")[0]
-    forms = FORM.findall(page)
+    forms = forms_of(root)
     if sorted(MAN_FORM.findall(read(root, "packaging", "tablebuilder.1"))) != sorted(forms):
         yield "packaging/tablebuilder.1 has other commands than docs/REFERENCE.md"
     commands = [form.split()[1] for form in forms]
+    commands += RELAY_COMMAND.findall(read(root, "clients", "relay", "relay.py"))
     for path in sorted(glob.glob(os.path.join(root, "packaging", "systemd", "*.service"))):
         if UNIT_COMMAND.search(read(path))[1] not in commands:
             yield f"{path} starts what is no command"

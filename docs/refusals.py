@@ -20,24 +20,53 @@ import time
 
 sys.dont_write_bytecode = True
 sys.path.insert(0, os.path.join(os.path.dirname(os.path.abspath(__file__)), "..", "bench"))
+from quotes import forms_of, read
 from serve import free_ports
 
-SMALL = os.path.join(os.path.dirname(os.path.abspath(__file__)), "..", "examples", "small")
+TOP = os.path.join(os.path.dirname(os.path.abspath(__file__)), "..")
+SMALL = os.path.join(TOP, "examples", "small")
 NAMES = ("classes.csv", "recodes.csv", "ptable.csv", "people.csv", "dwellings.csv", "links.csv", "script.txt")
 SCRIPT = "script classes.csv recodes.csv ptable.csv people.csv 0 script.txt"
 KEEP = "keep classes.csv recodes.csv ptable.csv people.csv 0"
 HOST = "host classes.csv recodes.csv ptable.csv people.csv 0"
 UNITS = "units classes.csv recodes.csv ptable.csv people.csv 0 dwellings.csv links.csv script.txt"
-USAGE = """\
-usage: tablebuilder script CLASSES RECODES PTABLE PEOPLE THRESHOLD SCRIPT
-       tablebuilder lanes CLASSES RECODES PTABLE PEOPLE THRESHOLD SCRIPT
-       tablebuilder keep CLASSES RECODES PTABLE PEOPLE THRESHOLD JOURNAL SCRIPT
-       tablebuilder follow CLASSES RECODES PTABLE PEOPLE THRESHOLD SCRIPT
-       tablebuilder units CLASSES RECODES PTABLE PEOPLE THRESHOLD DWELLINGS LINKS SCRIPT
-       tablebuilder host CLASSES RECODES PTABLE PEOPLE THRESHOLD JOURNAL PORT WORKERS SESSIONS
-       tablebuilder serve CLASSES RECODES PTABLE PEOPLE THRESHOLD PORT WORKERS SESSIONS
-       tablebuilder gen N START
-"""
+# What stands behind the first fault of arguments that are refused: the version, and the forms of docs/REFERENCE.md.
+FORMS = "\n       ".join(forms_of(TOP))
+USAGE = f"tablebuilder {read(TOP, 'VERSION').strip()}\nusage: {FORMS}\n"
+NAMED = "it must be the name of a file, which doesn't begin with `-`"
+DASHED = NAMED + ", or `-` where there are no recodes"
+COMMAND = "it must be a command, and there are no options"
+
+
+def numbered(least, most):
+    return f"it must be a number from {least} to {most}"
+
+
+FIVE = NAMES[:4] + ("0",)
+# Arguments, and what is said of the first that is wrong.
+ARGUMENTS = [
+    ([], "argument 1 is missing: it must be a command"),
+    (["--help"], f"argument 1 is `--help`: {COMMAND}"),
+    (["tables", *FIVE], f"argument 1 is `tables`: {COMMAND}"),
+    ([b"\xff"], "the arguments must be UTF-8"),
+    (["script"], f"argument 2, CLASSES, is missing: {NAMED}"),
+    (["script", *FIVE], f"argument 7, SCRIPT, is missing: {NAMED}"),
+    (["script", "", *FIVE], f"argument 2, CLASSES, is ``: {NAMED}"),
+    (["lanes", "-", *FIVE], f"argument 2, CLASSES, is `-`: {NAMED}"),
+    (["script", "classes.csv", "--", *FIVE], f"argument 3, RECODES, is `--`: {DASHED}"),
+    (["script", *FIVE, "script.txt", "more"], "argument 8 is `more`: it is one too many"),
+    (["script", *FIVE[:4], "1000001", "-"], f"argument 6, THRESHOLD, is `1000001`: {numbered(0, 1000000)}"),
+    (["follow", *FIVE[:4], "", "script.txt"], f"argument 6, THRESHOLD, is ``: {numbered(0, 1000000)}"),
+    (["keep", *FIVE, "-j", "script.txt"], f"argument 7, JOURNAL, is `-j`: {NAMED}"),
+    (["units", *FIVE, "dwellings.csv", "links.csv"], f"argument 9, SCRIPT, is missing: {NAMED}"),
+    (["units", *FIVE, "script.txt"], f"argument 8, LINKS, is missing: {NAMED}"),
+    (["host", *FIVE, "journal", "65520", "1", "1"], f"argument 8, PORT, is `65520`: {numbered(1, 65519)}"),
+    (["serve", *FIVE, "4000", "17", "0"], f"argument 8, WORKERS, is `17`: {numbered(1, 16)}"),
+    (["serve", *FIVE, "4000", "16", "0"], f"argument 9, SESSIONS, is `0`: {numbered(1, 1000000)}"),
+    (["gen", "0", "0"], f"argument 2, N, is `0`: {numbered(1, 1000000)}"),
+    (["gen", "1", "4294967296"], f"argument 3, START, is `4294967296`: {numbered(0, 4294967295)}"),
+    (["gen", "1", "1", "1"], "argument 4 is `1`: it is one too many"),
+]
 SPELLED = (
     "must be a letter followed by letters, digits or `_`, 1 to 32 bytes, and none of table, by, where, and, not, in,"
     " with, totals, labels, person, record_key"
@@ -363,8 +392,8 @@ def others(runs):
     """What comes of the arguments, the memory, the output and the ports."""
     runs.fill()
     words = SCRIPT.split()
-    for bad in ([], ["--help"], words[:-1], UNITS.split()[:-1], ["units", *words[1:]], [b"\xff"]):
-        runs.run(bad, "fault usage\n", USAGE, 2)
+    for bad, said in ARGUMENTS:
+        runs.run(bad, "fault usage\n", f"{said}\n{USAGE}", 2)
     here = [f"./{word}" if word == "people.csv" else word for word in words]
     runs.fill("people.csv", PEOPLE + "101,200,1,0-15,E1\n101,200,1,0-15,E1\n")
     said = "./people.csv, record 2: an earlier record has the same person\n"
@@ -373,6 +402,8 @@ def others(runs):
     runs.run(serve, "fault people 5 PersonTwice 2\n", said, 5)
     host = ["host", *here[1:6], "journal", "4000", "1", "1"]
     runs.run(host, "fault people 5 PersonTwice 2\n", said, 5)
+    mirror = ["mirror", *serve[1:]]
+    runs.run(mirror, "fault people 5 PersonTwice 2\n", said, 5)
     runs.run(["follow", *here[1:]], "fault people 5 PersonTwice 2\n", said, 5)
     with socket.socket() as taken:
         taken.bind(("127.0.0.1", 0))
@@ -382,9 +413,9 @@ def others(runs):
             runs.fill()
             said = (
                 f"cannot listen on 127.0.0.1:{port}: {system_error(errno.EADDRINUSE)}\n"
-                f"port {port} and the 2 after it must be free on this machine, and go on accepting clients\n"
+                f"port {port} and the 2 after it must be free on this machine, and memory suffice for their buffers\n"
             )
-            for each in (serve[:6], [*host[:6], "free"]):
+            for each in (serve[:6], mirror[:6], [*host[:6], "free"]):
                 runs.run([*each, str(port), "2", "1"], "fault net\n", said, 10)
     runs.fill("people.csv", LONG - 1)
     runs.run(words, "fault memory\n", "out of memory\n", 9, limit=less_memory)

@@ -3,9 +3,9 @@
     try.py CLASSES=FILE RECODES=FILE PTABLE=FILE PEOPLE=FILE THRESHOLD=NUMBER [DWELLINGS=FILE LINKS=FILE] SCRIPT=FILE
 
 All of it is tested before anything is built: that each file can be read, and that the threshold is
-one. RECODES may be `-`. The program is built by `rt try`, which checks as it goes and proves
-nothing, and runs it; it is kept in `out/try`, under the sum of the sources and the kit, so that the
-next look over the same tree begins at once. Names of files are those from the folder in which this
+one. RECODES may be `-`. The program is built by `rt try`, which proves nothing, so that it checks as
+it goes; it is kept in `out/try`, under the sum of the sources and the kit, so that the next look over
+the same tree begins at once. Names of files are those from the folder in which this
 is started.
 """
 
@@ -98,8 +98,9 @@ class Keeper(threading.Thread):
         self.join()
 
 
-def build_and_run(words, kept):
-    """Runs the words by `rt try`, and keeps the program that it builds. The status."""
+def build(kept):
+    """Keeps the program that `rt try` builds, which it runs with a word that is no command: that costs
+    nothing. What it said, where there is no program then."""
     for older in glob.glob(f"{KEPT}/*"):
         shutil.rmtree(older, ignore_errors=True)
     os.makedirs(os.path.dirname(kept))
@@ -108,13 +109,14 @@ def build_and_run(words, kept):
         keeper.start()
         try:
             environment = {**os.environ, "TMPDIR": folder}
-            tried = ["rt", "try", "--seconds", SECONDS, "--", *words]
-            status = subprocess.run(tried, cwd=CRATE, env=environment, check=False).returncode
+            tried = ["rt", "try", "--seconds", SECONDS, "--", "nothing"]
+            done = subprocess.run(tried, cwd=CRATE, env=environment, stdin=subprocess.DEVNULL,
+                                  stdout=subprocess.PIPE, stderr=subprocess.STDOUT, text=True, check=False)
         finally:
             keeper.end()
     with contextlib.suppress(OSError):
         os.rename(f"{kept}.new", kept)
-    return status
+    return None if os.access(kept, os.X_OK) else done.stdout
 
 
 def main():
@@ -125,15 +127,18 @@ def main():
         print("rt isn't on the path: it is of the Rattle kit, which this needs", file=sys.stderr)
         return 2
     kept = os.path.join(KEPT, sources_sum(), "program")
-    if os.access(kept, os.X_OK):
-        return subprocess.run([kept, *words], cwd=CRATE, check=False).returncode
-    print(
-        "building the program, without proving anything of it: it takes some two minutes of one"
-        " processor, and is kept, so that the next look begins at once",
-        file=sys.stderr,
-        flush=True,
-    )
-    return build_and_run(words, kept)
+    if not os.access(kept, os.X_OK):
+        print(
+            "building the program, without proving anything of it: it takes some two minutes of one"
+            " processor, and is kept, so that the next look begins at once",
+            file=sys.stderr,
+            flush=True,
+        )
+        told = build(kept)
+        if told is not None:
+            print(told, file=sys.stderr)
+            return 1
+    return subprocess.run([kept, *words], cwd=CRATE, check=False).returncode
 
 
 if __name__ == "__main__":

@@ -26,7 +26,8 @@
 #                     fault's `number` and `word`, its `position` (of a query: the token, from 1, or
 #                     the byte for NotText; for NoSuchRelease the number of the last release; else
 #                     NA) and, of tb_publish, the `edit` that can't be made (from 1; 0 for all of
-#                     them together; else NA). The session goes on.
+#                     them together; else NA). Of a query that ends too early or goes on otherwise
+#                     than it may the message says what was expected there. The session goes on.
 #     tb_memory       the server had no memory for the reply. Nothing has changed, and the same may
 #                     be tried again.
 #     tb_cannot_describe
@@ -297,12 +298,67 @@ tb_refuse <- function(session, line, reply) {
   if (length(parts) == 0) tb_expect_another(session, reply)
   # The server ends a session after a line that is too long.
   if (parts[5] == "TooLong") tb_close(session)
+  expected <- if (parts[5] == "Syntax" && parts[2] == "") tb_expected(line, as.integer(parts[7]))
+  why <- if (!is.null(expected)) paste0(": expected ", expected)
   tb_fail(
-    "tb_refused", paste0(reply, ": ", line),
+    "tb_refused", paste0(reply, why, ": ", line),
     line = line, number = as.integer(parts[4]), word = parts[5],
     position = as.integer(parts[7]), edit = as.integer(parts[3])
   )
 }
+
+# ---- what was expected in a query
+
+tb_query_words <- c("table", "by", "where", "and", "not", "in", "with", "totals", "labels")
+
+# What was read last, or what is to come; for each kind of token that may follow, where it leads.
+tb_steps <- list(
+  "start" = c("table" = "dimension"),
+  "dimension" = c("name" = "dimensions"),
+  "dimensions" = c("by" = "dimension", "where" = "name", "with" = "first with"),
+  "name" = c("name" = "test"),
+  "test" = c("not" = "negated", "in" = "opening"),
+  "negated" = c("in" = "opening"),
+  "opening" = c("(" = "code"),
+  "code" = c("code" = "codes"),
+  "codes" = c("," = "code", ")" = "filters"),
+  "filters" = c("and" = "name", "with" = "first with"),
+  "first with" = c("totals" = "totals", "labels" = "labels"),
+  "totals" = c("with" = "second with"),
+  "second with" = c("labels" = "labels"),
+  "labels" = character(0)
+)
+tb_end_steps <- c("dimensions", "filters", "totals", "labels")
+
+# The tokens of a query: a word's bytes stay together, and each other that is no blank stands by
+# itself. A line `at N QUERY` has them after the number.
+tb_tokens <- function(line) {
+  past <- "^[ \t]*at[ \t]+([0-9]{1,10})([ \t]+|$)"
+  number <- regmatches(line, regexec(past, line))[[1]]
+  if (length(number) > 0 && as.numeric(number[2]) <= 4294967295) line <- sub(past, "", line)
+  regmatches(line, gregexpr("[A-Za-z0-9_.+-]+|[^ \t]", line))[[1]]
+}
+
+# What may stand at the place of this token, in words. NULL where no query begins with those before.
+tb_expected <- function(line, position) {
+  stage <- "start"
+  for (token in utils::head(tb_tokens(line), position - 1)) {
+    steps <- tb_steps[[stage]]
+    is_word <- grepl("^[A-Za-z0-9_.+-]+$", token)
+    kind <- if (is_word && !(token %in% tb_query_words)) "name" else token
+    if (is_word && "code" %in% names(steps)) kind <- "code"
+    if (!(kind %in% names(steps))) return(NULL)
+    stage <- steps[[kind]]
+  }
+  kinds <- names(tb_steps[[stage]])
+  told <- ifelse(kinds %in% c("name", "code"), paste("a", kinds), paste0("`", kinds, "`"))
+  if (length(kinds) == 0) told <- character(0)
+  if (stage %in% tb_end_steps) told <- c(told, "the end")
+  last <- length(told)
+  if (last == 1) told else paste(paste(told[-last], collapse = ", "), "or", told[last])
+}
+
+# ---- the connection
 
 tb_exchange <- function(session, line) {
   if (is.null(session$connection)) tb_fail("tb_ended", "the session is closed")

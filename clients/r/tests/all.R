@@ -124,6 +124,11 @@ server_tests <- list(
     session <- analyst()
     expect_refused(tb_table(session, "AGE by AGE"), 5, "RepeatedDimension", 4)
     expect_refused(tb_table(session, "AGE by"), 2, "Syntax", 4)
+    fault <- fault_of("tb_refused", tb_table(session, "AGE with"))
+    expect(
+      conditionMessage(fault),
+      "refused 2 Syntax 4: expected `totals` or `labels`: table AGE with"
+    )
     expect_refused(tb_table(session, "AGE by FOO where SEX in (9)"), 3, "UnknownName", 4)
     expect_refused(tb_table(session, "AGE where SEX in (9)"), 4, "UnknownCode", 7)
     expect_refused(tb_table(session, "AGE;"), 2, "Syntax", 3)
@@ -487,6 +492,36 @@ own_tests <- list(
     ))
     expect(length(lines), 1L + 750L * 256L)
     expect(made$pvalue[2:65], c(rep(-1L, 63), 1L))
+  },
+  what_was_expected = function() {
+    for (row in list(
+      c("table SEX with", 4, "`totals` or `labels`"),
+      c("table SEX with labels with", 5, "the end"),
+      c("table SEX with totals with", 6, "`labels`"),
+      c("table SEX with totals by", 5, "`with` or the end"),
+      c("table", 2, "a name"),
+      c("table SEX,", 3, "`by`, `where`, `with` or the end"),
+      c("table SEX where", 4, "a name"),
+      c("table SEX where AGE", 5, "`not` or `in`"),
+      c("table SEX where AGE not", 6, "`in`"),
+      c("table SEX where AGE in", 6, "`(`"),
+      c("table SEX where AGE in (", 7, "a code"),
+      c("table SEX where AGE in (by by", 8, "`,` or `)`"),
+      c("table SEX where AGE in (by,", 9, "a code"),
+      c("table SEX where AGE in (by)", 9, "`and`, `with` or the end"),
+      c("tables SEX", 1, "`table`"),
+      c("at 4 tables SEX", 1, "`table`"),
+      c("at 4294967296 table SEX", 1, "`table`")
+    )) {
+      reply <- paste("refused 2 Syntax", row[2])
+      fault <- fault_of("tb_refused", tb_refuse(NULL, row[1], reply))
+      expect(conditionMessage(fault), paste0(reply, ": expected ", row[3], ": ", row[1]))
+    }
+    # Of an edit, and of another fault, nothing is.
+    for (reply in c("refused edit 1 Syntax", "refused 3 UnknownName 2")) {
+      fault <- fault_of("tb_refused", tb_refuse(NULL, "drop", reply))
+      expect(conditionMessage(fault), paste0(reply, ": drop"))
+    }
   },
   what_is_no_such_table = function() {
     good <- intervals_of(list(c("0" = 0.25, "2" = 0.75)))

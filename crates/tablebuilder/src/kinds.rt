@@ -9,53 +9,81 @@ use tb_schema::{ClassFile, SchemaKind};
 use tb_top::Input;
 use tb_units::{UnitsFile, UnitsKind};
 
-static SCHEMA_KINDS: [SchemaKind; 13] = [
-    SchemaKind::BadHeader,
-    SchemaKind::BadName,
-    SchemaKind::BadCode,
-    SchemaKind::RepeatedCode,
-    SchemaKind::UnknownVariable,
-    SchemaKind::UnknownCode,
-    SchemaKind::CodeTwice,
-    SchemaKind::CodeMissing,
-    SchemaKind::NameTwice,
-    SchemaKind::BadCsv,
-    SchemaKind::BadLabel,
-    SchemaKind::TooMany,
-    SchemaKind::BadKeys,
-];
+// More kinds than one file's faults have.
+const MOST_KINDS: u32 = 100;
 
-static PTABLE_KINDS: [PTableKind; 7] = [
-    PTableKind::BadHeader,
-    PTableKind::BadNumber,
-    PTableKind::OutOfRange,
-    PTableKind::Negative,
-    PTableKind::PairTwice,
-    PTableKind::ZeroRow,
-    PTableKind::BadCsv,
-];
+// A kind in a list of all of its type, which begins at `BadHeader`. Who adds a kind has to say here
+// where it stands: what has no place isn't compiled.
+trait Listed: FaultKind + Copy {
+    // The kind after this one, if there is one.
+    fn next(self) -> Option<Self>
+    where
+        Self: Sized;
+}
 
-static PEOPLE_KINDS: [PeopleKind; 7] = [
-    PeopleKind::BadHeader,
-    PeopleKind::BadPerson,
-    PeopleKind::BadKey,
-    PeopleKind::UnknownCode,
-    PeopleKind::PersonTwice,
-    PeopleKind::BadCsv,
-    PeopleKind::TooMany,
-];
+impl Listed for SchemaKind {
+    fn next(self) -> Option<SchemaKind> {
+        match self {
+            SchemaKind::BadHeader => Some(SchemaKind::BadName),
+            SchemaKind::BadName => Some(SchemaKind::BadCode),
+            SchemaKind::BadCode => Some(SchemaKind::RepeatedCode),
+            SchemaKind::RepeatedCode => Some(SchemaKind::UnknownVariable),
+            SchemaKind::UnknownVariable => Some(SchemaKind::UnknownCode),
+            SchemaKind::UnknownCode => Some(SchemaKind::CodeTwice),
+            SchemaKind::CodeTwice => Some(SchemaKind::CodeMissing),
+            SchemaKind::CodeMissing => Some(SchemaKind::NameTwice),
+            SchemaKind::NameTwice => Some(SchemaKind::BadCsv),
+            SchemaKind::BadCsv => Some(SchemaKind::BadLabel),
+            SchemaKind::BadLabel => Some(SchemaKind::TooMany),
+            SchemaKind::TooMany => Some(SchemaKind::BadKeys),
+            SchemaKind::BadKeys => None,
+        }
+    }
+}
 
-static UNITS_KINDS: [UnitsKind; 9] = [
-    UnitsKind::BadHeader,
-    UnitsKind::BadDwelling,
-    UnitsKind::BadKey,
-    UnitsKind::DwellingTwice,
-    UnitsKind::UnknownDwelling,
-    UnitsKind::PersonTwice,
-    UnitsKind::BadPerson,
-    UnitsKind::BadCsv,
-    UnitsKind::TooMany,
-];
+impl Listed for PTableKind {
+    fn next(self) -> Option<PTableKind> {
+        match self {
+            PTableKind::BadHeader => Some(PTableKind::BadNumber),
+            PTableKind::BadNumber => Some(PTableKind::OutOfRange),
+            PTableKind::OutOfRange => Some(PTableKind::Negative),
+            PTableKind::Negative => Some(PTableKind::PairTwice),
+            PTableKind::PairTwice => Some(PTableKind::ZeroRow),
+            PTableKind::ZeroRow => Some(PTableKind::BadCsv),
+            PTableKind::BadCsv => None,
+        }
+    }
+}
+
+impl Listed for PeopleKind {
+    fn next(self) -> Option<PeopleKind> {
+        match self {
+            PeopleKind::BadHeader => Some(PeopleKind::BadPerson),
+            PeopleKind::BadPerson => Some(PeopleKind::BadKey),
+            PeopleKind::BadKey => Some(PeopleKind::UnknownCode),
+            PeopleKind::UnknownCode => Some(PeopleKind::PersonTwice),
+            PeopleKind::PersonTwice => Some(PeopleKind::BadCsv),
+            PeopleKind::BadCsv => Some(PeopleKind::TooMany),
+            PeopleKind::TooMany => None,
+        }
+    }
+}
+
+impl Listed for UnitsKind {
+    fn next(self) -> Option<UnitsKind> {
+        match self {
+            UnitsKind::BadHeader => Some(UnitsKind::BadDwelling),
+            UnitsKind::BadDwelling => Some(UnitsKind::BadKey),
+            UnitsKind::BadKey => Some(UnitsKind::DwellingTwice),
+            UnitsKind::DwellingTwice => Some(UnitsKind::UnknownDwelling),
+            UnitsKind::UnknownDwelling => Some(UnitsKind::PersonTwice),
+            UnitsKind::PersonTwice => Some(UnitsKind::BadPerson),
+            UnitsKind::BadPerson => Some(UnitsKind::BadCsv),
+            UnitsKind::BadCsv => Some(UnitsKind::TooMany),
+            UnitsKind::TooMany => None,
+        }
+    }
+}
 
 /// A kind of fault, with its file where the same kinds are those of two.
 #[derive(Clone, Copy, Debug, PartialEq, Eq)]
@@ -66,28 +94,36 @@ pub enum Kind {
     Units(UnitsFile, UnitsKind),
 }
 
-// The kind that is printed with this word.
-fn kind_of<K: FaultKind + Copy>(kinds: &[K], word: &str) -> Option<K> {
-    for kind in kinds {
+// The kind that is printed with this word, of a list from its first kind on.
+fn kind_of<K: Listed>(first: K, word: &str) -> Option<K> {
+    let mut kind = first;
+    for _ in 0..MOST_KINDS {
         if kind.name().word() == word {
-            return Some(*kind);
+            return Some(kind);
         }
+        kind = kind.next()?;
     }
     None
+}
+
+fn schema_kind(word: &str) -> Option<SchemaKind> {
+    kind_of(SchemaKind::BadHeader, word)
+}
+
+fn units_kind(word: &str) -> Option<UnitsKind> {
+    kind_of(UnitsKind::BadHeader, word)
 }
 
 impl Kind {
     /// The kind of a file's fault that is printed with this word.
     pub fn of(file: Input, word: &str) -> Option<Kind> {
         match file {
-            Input::Classes => Some(Kind::Schema(ClassFile::Classes, kind_of(&SCHEMA_KINDS, word)?)),
-            Input::Recodes => Some(Kind::Schema(ClassFile::Recodes, kind_of(&SCHEMA_KINDS, word)?)),
-            Input::Ptable => Some(Kind::Ptable(kind_of(&PTABLE_KINDS, word)?)),
-            Input::People => Some(Kind::People(kind_of(&PEOPLE_KINDS, word)?)),
-            Input::Dwellings => {
-                Some(Kind::Units(UnitsFile::Dwellings, kind_of(&UNITS_KINDS, word)?))
-            }
-            Input::Links => Some(Kind::Units(UnitsFile::Links, kind_of(&UNITS_KINDS, word)?)),
+            Input::Classes => Some(Kind::Schema(ClassFile::Classes, schema_kind(word)?)),
+            Input::Recodes => Some(Kind::Schema(ClassFile::Recodes, schema_kind(word)?)),
+            Input::Ptable => Some(Kind::Ptable(kind_of(PTableKind::BadHeader, word)?)),
+            Input::People => Some(Kind::People(kind_of(PeopleKind::BadHeader, word)?)),
+            Input::Dwellings => { Some(Kind::Units(UnitsFile::Dwellings, units_kind(word)?)) }
+            Input::Links => Some(Kind::Units(UnitsFile::Links, units_kind(word)?)),
             Input::Script => None,
         }
     }

@@ -11,6 +11,10 @@ const ROOM: usize = 64;
 // How such a line begins, and no other text does.
 const BEGINNING: &[u8] = b"fault ";
 
+// How the first line of a report begins, which stands in front of such a line where sessions were
+// served.
+const REPORT: &[u8] = b"worker 0 ";
+
 // How a reply begins that tells of a publication.
 const PUBLISHED: &[u8] = b"published ";
 
@@ -23,12 +27,13 @@ fn first_of(line: &[u8]) -> [u8; ROOM] {
     first
 }
 
-/// The standard output, and the last line that it took, where that tells of a refusal. It waits in a
-/// buffer, but that a reply that tells of a publication may be written out at once.
+/// The standard output, the last line that it took, where that tells of a refusal, and whether it
+/// took a report. It waits in a buffer, but that a reply that tells of a publication may be written out at once.
 #[derive(Drop)]
 pub struct LastLine<'a, P: Print> {
     out: RealSink<'a, P>,
     line: [u8; ROOM],
+    reported: bool,
     at_once: bool,
 }
 
@@ -38,6 +43,7 @@ impl<'a, P: Print> LastLine<'a, P> {
         LastLine {
             out,
             line: [0; ROOM],
+            reported: false,
             at_once: false,
         }
     }
@@ -57,6 +63,11 @@ impl<'a, P: Print> LastLine<'a, P> {
         let end = self.line.iter().position(|byte| *byte == b'\n')?;
         str::from_utf8(self.line.get(..end)?).ok()
     }
+
+    /// Whether a line was taken that begins as a report of sessions does.
+    pub fn has_report(&self) -> bool {
+        self.reported
+    }
 }
 
 impl<'a, P: Print> Sink for LastLine<'a, P> {
@@ -67,6 +78,9 @@ impl<'a, P: Print> Sink for LastLine<'a, P> {
     fn write(&mut self, bytes: &[u8]) -> Wrote {
         if bytes.starts_with(BEGINNING) {
             self.line = first_of(bytes);
+        }
+        if bytes.starts_with(REPORT) {
+            self.reported = true;
         }
         match self.out.write(bytes) {
             Wrote::All if self.at_once && bytes.starts_with(PUBLISHED) => self.out.flush(),

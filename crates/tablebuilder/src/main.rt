@@ -4,7 +4,7 @@
 //! The program runs the top call of `tb_top`, whose contract tells what was written with each
 //! status, over the system's arguments, files, output, listeners and disk. It keeps the last line
 //! of a run that was refused (`last_line`), and says in words on the standard error what that means
-//! (`refusals`, and `kinds` for the records of files).
+//! (`refusals`; `kinds` for the records of files, and `usage` for the arguments).
 #![tactic(auto)]
 
 mod kinds;
@@ -12,11 +12,13 @@ mod last_line;
 mod ports;
 mod refusals;
 mod unbuffered;
+mod usage;
+mod version;
 
 ghost use Rattle.std.specs.Prelude.{◌≡◌, ◌<◌};
 
 use last_line::LastLine;
-use refusals::Refusal;
+use refusals::{Ending, Refusal};
 use std::alloc::AllocError;
 use std::fs::File;
 use std::io::ErrorKind;
@@ -27,6 +29,7 @@ use std::rt::{Env, Files as FileSystem};
 use std::sync::Wait;
 use std::sync::ledger::{Blank, Ledger};
 use std::thread::Threads;
+use std::time::Clock;
 use std::{env, io};
 use tb_base::{Status, Steps};
 use tb_io::{RealFiles, RealSink, Wrote};
@@ -65,6 +68,7 @@ fn run_words<
         + Threads
         + Wait
         + Net<Listener = TcpListener, Stream = TcpStream>
+        + Clock
         + Sync,
     L: Ledger,
 >(rt: &R, words: &[String], out: &mut LastLine<'_, R>, blank: Blank) -> Status
@@ -72,7 +76,7 @@ fn run_words<
     requires parts { blank.parts ≡ L.parts }
     requires some { 0 < L.parts }
 {
-    let Ok(mut net) = ports::real_ports(rt, rt.alloc()) else {
+    let Ok(mut net) = ports::real_ports(rt, rt.alloc(), sessions_of(words)) else {
         return end_by(&End::Memory, out);
     };
     let mut steps = Steps::<L>::new(blank);
@@ -88,12 +92,33 @@ fn run_words<
     )
 }
 
-// Says in words why a run of these arguments was refused, for whoever reads the standard error.
-fn explain(rt: &impl Eprint, words: &[String], status: Status, line: Option<&str>) {
-    let command = read_command(words);
-    if let Some(refusal) = Refusal::of(command.as_ref(), status, line) {
+// Says in words why a run of these arguments ended so, for whoever reads the standard error. There
+// are none where they couldn't be read.
+fn explain(rt: &impl Eprint, words: Option<&[String]>, ending: &Ending<'_>) {
+    let command = read_command(words.unwrap_or(&[]));
+    if let Some(refusal) = Refusal::of(words, command.as_ref(), ending) {
         // Where that can't be written nothing can be said of it either.
         let _ = rt.eprintln(refusal);
+    }
+}
+
+// How many sessions each port has by the command of these arguments.
+fn sessions_of(words: &[String]) -> u32 {
+    match read_command(words) {
+        Some(
+            Command::Host { service, .. }
+            | Command::Mirror { service, .. }
+            | Command::Serve { service, .. },
+        ) => service.sessions(),
+        Some(
+            Command::Script { .. }
+            | Command::Lanes { .. }
+            | Command::Keep { .. }
+            | Command::Follow { .. }
+            | Command::Units { .. }
+            | Command::Gen { .. },
+        )
+        | None => 0,
     }
 }
 
@@ -106,7 +131,7 @@ fn keeps(words: &[String]) -> bool {
 // Writes out what waits and explains how the run of these arguments ended, which is returned.
 fn finish<R: Print + Eprint>(
     rt: &R,
-    words: &[String],
+    words: Option<&[String]>,
     status: Status,
     out: &mut LastLine<'_, R>,
 ) -> Status {
@@ -114,7 +139,12 @@ fn finish<R: Print + Eprint>(
         Wrote::All => status,
         Wrote::Failed => Status::WriteFault,
     };
-    explain(rt, words, status, out.text());
+    let ending = Ending {
+        status,
+        line: out.text(),
+        reported: out.has_report(),
+    };
+    explain(rt, words, &ending);
     status
 }
 
@@ -128,11 +158,17 @@ fn run<
         + Threads
         + Wait
         + Net<Listener = TcpListener, Stream = TcpStream>
+        + Clock
         + Sync,
 >(rt: &R) -> Status {
     let Ok(out) = RealSink::new(rt, rt.alloc()) else {
         let status = end_by(&End::Memory, &mut Unbuffered::new(rt));
-        explain(rt, &[], status, None);
+        let ending = Ending {
+            status,
+            line: None,
+            reported: false,
+        };
+        explain(rt, None, &ending);
         return status;
     };
     let mut out = LastLine::new(out);
@@ -142,11 +178,11 @@ fn run<
                 out.acknowledge_at_once();
             }
             let status = run_words::<R, Brand>(rt, &words, &mut out, Blank::new(1));
-            finish(rt, &words, status, &mut out)
+            finish(rt, Some(words.as_slice()), status, &mut out)
         }
         Err(fault) => {
             let status = end_by(&end_of(&fault), &mut out);
-            finish(rt, &[], status, &mut out)
+            finish(rt, None, status, &mut out)
         }
     }
 }

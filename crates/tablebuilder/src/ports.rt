@@ -6,23 +6,25 @@ ghost use Rattle.tb_top.specs.declared.service.TheConstants.{MOST_WORKERS};
 
 use std::alloc::Global;
 use std::net::{Net, TcpListener, TcpStream};
+use std::time::Clock;
 use tb_base::Memory;
-use tb_io::RealListen;
+use tb_real_listen::RealListen;
 use tb_serve::Port;
 use tb_top::MOST_WORKERS;
 
 /// Ports of the system, as they are made: one for the custodian and one for each worker that there
-/// may be. It takes memory for their list.
-pub fn real_ports<R: Net<Listener = TcpListener, Stream = TcpStream> + Eprint>(
+/// may be, each of which is to have so many sessions. It takes memory for their list.
+pub fn real_ports<R: Net<Listener = TcpListener, Stream = TcpStream> + Eprint + Clock>(
     rt: &R,
     alloc: Global,
+    sessions: u32,
 ) -> Result<Vec<Port<RealListen<'_, R>>>, Memory>
     ensures ports { IfOk result (λ net. vec_len net ≡ MOST_WORKERS + 1) }
     ensures fresh { IfOk result (λ net. All IsFresh net.items) }
 {
     let mut net = Vec::new(alloc);
     for _ in 0..=MOST_WORKERS {
-        net.push(Port::of(RealListen::new(rt, alloc)))?;
+        net.push(Port::of(RealListen::new(rt, alloc, sessions)))?;
     }
     Ok(net)
 }

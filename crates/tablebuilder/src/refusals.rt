@@ -1,6 +1,7 @@
 // A refusal in words, for whoever reads the standard error.
 
 use crate::kinds::Kind;
+use crate::usage::{BadArgument, Usage};
 use tb_base::{Status, read_number};
 use tb_top::{Command, Input, Inputs, Service, most_bytes_of};
 use thiserror::Error;
@@ -8,16 +9,8 @@ use thiserror::Error;
 /// Why a run was refused, or couldn't be finished. A file has the name that the arguments gave it.
 #[derive(Debug, Drop, Error)]
 pub enum Refusal<'a> {
-    #[error("usage: tablebuilder script CLASSES RECODES PTABLE PEOPLE THRESHOLD SCRIPT\n       \
-        tablebuilder lanes CLASSES RECODES PTABLE PEOPLE THRESHOLD SCRIPT\n       \
-        tablebuilder keep CLASSES RECODES PTABLE PEOPLE THRESHOLD JOURNAL SCRIPT\n       \
-        tablebuilder follow CLASSES RECODES PTABLE PEOPLE THRESHOLD SCRIPT\n       \
-        tablebuilder units CLASSES RECODES PTABLE PEOPLE THRESHOLD DWELLINGS LINKS SCRIPT\n       \
-        tablebuilder host CLASSES RECODES PTABLE PEOPLE THRESHOLD JOURNAL PORT WORKERS \
-        SESSIONS\n       \
-        tablebuilder serve CLASSES RECODES PTABLE PEOPLE THRESHOLD PORT WORKERS SESSIONS\n       \
-        tablebuilder gen N START")]
-    Usage,
+    #[error("{0}")]
+    Usage(Usage<'a>),
     #[error("{file}: the file must have at most {most} bytes")]
     TooLong { file: &'a str, most: u64 },
     #[error("{file}: the file must be there, and this user must be allowed to read it")]
@@ -51,9 +44,22 @@ pub enum Refusal<'a> {
     Unwritten,
     #[error("out of memory")]
     Memory,
-    #[error("port {port} and the {workers} after it must be free on this machine, and go on \
-        accepting clients")]
-    Net { port: u16, workers: u32 },
+    #[error("port {port} and the {workers} after it must be free on this machine, and memory suffice \
+        for their buffers")]
+    Unbound { port: u16, workers: u32 },
+    #[error("each port must go on accepting clients until it has served its {sessions} sessions, \
+        and this machine have files and memory for them; one that could not was closed, so start \
+        anew")]
+    Unaccepted { sessions: u32 },
+}
+
+/// How a run ended: its status, its last line where that tells of a refusal, and whether a report of
+/// sessions stands in front of it.
+#[derive(Drop)]
+pub struct Ending<'a> {
+    pub status: Status,
+    pub line: Option<&'a str>,
+    pub reported: bool,
 }
 
 // The file of this name in a last line.
@@ -97,6 +103,7 @@ fn inputs_of<'c, 'a>(command: &'c Command<'a>) -> Option<&'c Inputs<'a>> {
             journal: _,
             service: _,
         } => Some(inputs),
+        Command::Mirror { inputs, service: _ } => Some(inputs),
         Command::Serve { inputs, service: _ } => Some(inputs),
         Command::Gen { .. } => None,
     }
@@ -133,7 +140,10 @@ fn name_of<'a>(command: &Command<'a>, file: Input) -> Option<&'a str> {
                 links: _,
                 script,
             } => Some(script.as_str()),
-            Command::Host { .. } | Command::Serve { .. } | Command::Gen { .. } => None,
+            Command::Host { .. }
+            | Command::Mirror { .. }
+            | Command::Serve { .. }
+            | Command::Gen { .. } => None,
         },
     }
 }
@@ -155,6 +165,7 @@ fn journal_of<'a>(command: &Command<'a>) -> Option<&'a str> {
         | Command::Lanes { .. }
         | Command::Follow { .. }
         | Command::Units { .. }
+        | Command::Mirror { .. }
         | Command::Serve { .. }
         | Command::Gen { .. } => None,
     }
@@ -204,9 +215,14 @@ fn of_journal<'a>(command: &Command<'a>, line: &str) -> Option<Refusal<'a>> {
     }
 }
 
-// Which ports a service must have.
-fn of_net<'a>(service: &Service) -> Refusal<'a> {
-    Refusal::Net {
+// What a service must have had: clients that could be accepted, where there is a report of sessions,
+// and its ports where there is none.
+fn of_net<'a>(service: &Service, reported: bool) -> Refusal<'a> {
+    if reported {
+        let sessions = service.sessions();
+        return Refusal::Unaccepted { sessions };
+    }
+    Refusal::Unbound {
         port: service.port(),
         workers: service.workers(),
     }
@@ -222,25 +238,24 @@ fn of_disk<'a>(command: &Command<'a>) -> Option<Refusal<'a>> {
 }
 
 impl<'a> Refusal<'a> {
-    /// Why a run of a command, of which there is none where the arguments are refused, ended with
-    /// this status and this last line. None where it was done.
+    /// Why a run of these arguments, of which there are none where they couldn't be read, and of their
+    /// command, of which there is none where they are refused, ended so. None where it was done.
     pub fn of(
+        words: Option<&'a [String]>,
         command: Option<&Command<'a>>,
-        status: Status,
-        line: Option<&str>,
+        ending: &Ending<'_>,
     ) -> Option<Refusal<'a>> {
-        match status {
+        match ending.status {
             Status::Done => None,
-            Status::Usage => Some(Refusal::Usage),
+            Status::Usage => Some(Refusal::Usage(Usage {
+                bad: BadArgument::of(words),
+            })),
             Status::WriteFault => Some(Refusal::Unwritten),
             Status::Memory => Some(Refusal::Memory),
             Status::NetFault => match command? {
-                Command::Serve { inputs: _, service } => Some(of_net(service)),
-                Command::Host {
-                    inputs: _,
-                    journal: _,
-                    service,
-                } => Some(of_net(service)),
+                Command::Serve { service, .. }
+                | Command::Host { service, .. }
+                | Command::Mirror { service, .. } => Some(of_net(service, ending.reported)),
                 Command::Script { .. }
                 | Command::Lanes { .. }
                 | Command::Keep { .. }
@@ -248,14 +263,14 @@ impl<'a> Refusal<'a> {
                 | Command::Units { .. }
                 | Command::Gen { .. } => None,
             },
-            Status::Journal => of_journal(command?, line?),
+            Status::Journal => of_journal(command?, ending.line?),
             Status::DiskFault => of_disk(command?),
             Status::Schema
             | Status::Perturbation
             | Status::Microdata
             | Status::Script
             | Status::Units
-            | Status::ReadFault => of_file(command?, line?),
+            | Status::ReadFault => of_file(command?, ending.line?),
         }
     }
 }

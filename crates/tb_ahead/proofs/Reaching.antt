@@ -14,7 +14,7 @@ use Rattle.tb_tables.specs.ReplyLines.{memory_line}
 use Rattle.tb_ahead.specs.Keepers.{IsAt, KeeperValue, LeadsBy, Reaches}
 use Rattle.tb_ahead.specs.Keeping.{IsKeptStep, KeptState, unkept_line}
 use Rattle.tb_ahead.specs.Publishing.{IsPublishReply, StateValue}
-use Rattle.tb_ahead.specs.Puts.{IsAdded, MayBeAdded, StaysAsItWas}
+use Rattle.tb_ahead.specs.Puts.{FileStands, IsAdded, MayBeAdded, Since, StaysAsItWas}
 use Rattle.tb_ahead.specs.Stages.{IsClosedUnlessNone, IsKeptBy}
 use Rattle.tb_ahead.specs.declared.ahead.Put.TheVariants as put
 
@@ -24,7 +24,7 @@ none_is None h = refl
 none_is (Some x) h = absurd (cc)
 
 module _ (Own : StateValue → List ℕ → ReplyValue → StateValue → Type 0) (base : ReleaseValue) (line : List ℕ) (old new : StateValue)
-    (standing standing' : List (List Edit) → Option (List Edit) → Type 0) (live live' : Bool) (f f' : ℕ) where
+    (standing standing' : FileStands) (live live' : Bool) (f f' : ℕ) where
   abbrev Was : KeptState → Type 0
   Was = IsAt standing live f old
 
@@ -33,19 +33,19 @@ module _ (Own : StateValue → List ℕ → ReplyValue → StateValue → Type 0
 
   -- the state is the party's
   from_here : (Step : KeptState → KeptState → Type 0)
-      → ((batches : List (List Edit)) (further : Option (List Edit)) → is_none further ≡ live → standing batches further → (last : KeptState) × Is last × Step (record { state = old; batches = batches; further = further; faults = f }) last)
+      → ((since : Since) (batches : List (List Edit)) (further : Option (List Edit)) → is_none further ≡ live → standing since batches further → (last : KeptState) × Is last × Step (record { state = old; batches = batches; further = further; faults = f; since = since }) last)
       → Reaches Was Is Step
   from_here Step h first at =
-      let same : record { state = old; batches = first.batches; further = first.further; faults = f } ≡ first = λ i. record { state = sym at.same i; batches = first.batches; further = first.further; faults = sym at.count i } in
-      subst (λ (k : KeptState). (last : KeptState) × Is last × Step k last) same (h first.batches first.further at.lives at.stands)
+      let same : record { state = old; batches = first.batches; further = first.further; faults = f; since = first.since } ≡ first = λ i. record { state = sym at.same i; batches = first.batches; further = first.further; faults = sym at.count i; since = first.since } in
+      subst (λ (k : KeptState). (last : KeptState) × Is last × Step k last) same (h first.since first.batches first.further at.lives at.stands)
 
   -- a line that doesn't ask to publish
   pub other_line : (asks : Bool) (reply : ReplyValue) → asks ≡ false → Own old line reply new → live' ≡ live → f' ≡ f → StaysAsItWas standing standing' → Reaches Was Is (λ first last. IsKeptStep asks Own base first line reply last)
-  other_line asks reply is own lives counts stays = from_here (λ first last. IsKeptStep asks Own base first line reply last) (λ batches further now stands.
-      let last : KeptState = record { state = new; batches = batches; further = further; faults = f } in (
+  other_line asks reply is own lives counts stays = from_here (λ first last. IsKeptStep asks Own base first line reply last) (λ since batches further now stands.
+      let last : KeptState = record { state = new; batches = batches; further = further; faults = f; since = since } in (
         last,
-        record { same = refl; count = sym counts; lives = now ∙ sym lives; stands = stays batches further stands },
-        subst (λ b. IsKeptStep b Own base (record { state = old; batches = batches; further = further; faults = f }) line reply last) (sym is) (own, refl),
+        record { same = refl; count = sym counts; lives = now ∙ sym lives; stands = stays since batches further stands },
+        subst (λ b. IsKeptStep b Own base (record { state = old; batches = batches; further = further; faults = f; since = since }) line reply last) (sym is) (own, refl),
       ))
 
   abbrev Publishes : ReplyValue → KeptState → KeptState → Type 0
@@ -58,17 +58,17 @@ module _ (Own : StateValue → List ℕ → ReplyValue → StateValue → Type 0
   never : (kind : EditFaultKind) (edit : ℕ) → batch_refusal release old.held ≡ Some (kind, edit) → CanFollow release old.held → ⊥
   never kind edit why can = let none : batch_refusal release old.held ≡ None = (can_follow_unless_refused release old.held can.few).1 can in absurd (cc)
 
-  module _ (batches : List (List Edit)) (further : Option (List Edit)) (now : is_none further ≡ live) (stands : standing batches further) where
+  module _ (since : Since) (batches : List (List Edit)) (further : Option (List Edit)) (now : is_none further ≡ live) (stands : standing since batches further) where
     abbrev before : KeptState
-    before = record { state = old; batches = batches; further = further; faults = f }
+    before = record { state = old; batches = batches; further = further; faults = f; since = since }
 
     -- memory was refused, and nothing was put
     still : live' ≡ live → f ≤ f' → StaysAsItWas standing standing' → new ≡ old → (reply : ReplyValue) → (reply.price ≡ 0) → (reply.text ≡ memory_line) → (last : KeptState) × Is last × Publishes reply before last
     still lives counts stays same reply free is =
-        let last : KeptState = record { state = new; batches = batches; further = further; faults = f' } in (
+        let last : KeptState = record { state = new; batches = batches; further = further; faults = f'; since = since } in (
           last,
-          record { same = refl; count = refl; lives = now ∙ sym lives; stands = stays batches further stands },
-          (free, (counts, inr (inr (inr (is, same, inl (refl, refl)))))),
+          record { same = refl; count = refl; lives = now ∙ sym lives; stands = stays since batches further stands },
+          (free, (counts, refl, inr (inr (inr (is, same, inl (refl, refl)))))),
         )
 
     -- the edits were refused
@@ -76,10 +76,10 @@ module _ (Own : StateValue → List ℕ → ReplyValue → StateValue → Type 0
         → (reply : ReplyValue) → (reply.price ≡ 0) → IsPublishReply release old reply.text new → (last : KeptState) × Is last × Publishes reply before last
     refused lives counts stays kind edit why reply free (inl (can, is, goes)) = absurd (never kind edit why can)
     refused lives counts stays kind edit why reply free (inr (inl is)) =
-        let last : KeptState = record { state = new; batches = batches; further = further; faults = f' } in (
+        let last : KeptState = record { state = new; batches = batches; further = further; faults = f'; since = since } in (
           last,
-          record { same = refl; count = refl; lives = now ∙ sym lives; stands = stays batches further stands },
-          (free, (omega (arith, counts), inr (inl (is, (refl, refl))))),
+          record { same = refl; count = refl; lives = now ∙ sym lives; stands = stays since batches further stands },
+          (free, (omega (arith, counts), refl, inr (inl (is, (refl, refl))))),
         )
     refused lives counts stays kind edit why reply free (inr (inr (is, same))) = still lives (omega (arith, counts)) stays same reply free is
 
@@ -87,10 +87,10 @@ module _ (Own : StateValue → List ℕ → ReplyValue → StateValue → Type 0
     closed_before : live ≡ false → live' ≡ live → f' ≡ f → StaysAsItWas standing standing' → CanFollow release old.held → new ≡ old
         → (last : KeptState) × Is last × Publishes (free_reply unkept_line) before last
     closed_before closed lives counts stays can same =
-        let last : KeptState = record { state = new; batches = batches; further = further; faults = f' } in (
+        let last : KeptState = record { state = new; batches = batches; further = further; faults = f'; since = since } in (
           last,
-          record { same = refl; count = refl; lives = now ∙ sym lives; stands = stays batches further stands },
-          (refl, (omega (arith, counts), inr (inr (inl (can, refl, same, inl (now ∙ closed, (refl, refl))))))),
+          record { same = refl; count = refl; lives = now ∙ sym lives; stands = stays since batches further stands },
+          (refl, (omega (arith, counts), refl, inr (inr (inl (can, refl, same, inl (now ∙ closed, (refl, refl))))))),
         )
 
     -- the disk failed
@@ -98,10 +98,10 @@ module _ (Own : StateValue → List ℕ → ReplyValue → StateValue → Type 0
         → (last : KeptState) × Is last × Publishes (free_reply unkept_line) before last
     failed was closes risen counts added can same =
         let none : further ≡ None = none_is further (now ∙ was) in
-        let last : KeptState = record { state = new; batches = batches; further = Some old.held; faults = f' } in (
+        let last : KeptState = record { state = new; batches = batches; further = Some old.held; faults = f'; since = since } in (
           last,
-          record { same = refl; count = refl; lives = sym closes; stands = added batches (subst (λ (o : Option (List Edit)). standing batches o) none stands) },
-          (refl, (counts, inr (inr (inl (can, refl, same, inr (risen, (none, refl, refl))))))),
+          record { same = refl; count = refl; lives = sym closes; stands = added since batches (subst (λ (o : Option (List Edit)). standing since batches o) none stands) },
+          (refl, (counts, refl, inr (inr (inl (can, refl, same, inr (risen, (none, refl, refl))))))),
         )
 
     -- the edits were put and published
@@ -109,10 +109,10 @@ module _ (Own : StateValue → List ℕ → ReplyValue → StateValue → Type 0
         → (reply : ReplyValue) → (reply.price ≡ 0) → IsPublishReply release old reply.text new → (last : KeptState) × Is last × Publishes reply before last
     kept was stays counts added can none reply free (inl is) =
         let open_still : further ≡ None = none_is further (now ∙ was) in
-        let last : KeptState = record { state = new; batches = batches ++ old.held ∷ []; further = None; faults = f' } in (
+        let last : KeptState = record { state = new; batches = batches ++ old.held ∷ []; further = None; faults = f'; since = since } in (
           last,
-          record { same = refl; count = refl; lives = sym stays; stands = added batches (subst (λ (o : Option (List Edit)). standing batches o) open_still stands) },
-          (free, (counts, inl (is, open_still, refl, refl))),
+          record { same = refl; count = refl; lives = sym stays; stands = added since batches (subst (λ (o : Option (List Edit)). standing since batches o) open_still stands) },
+          (free, (counts, refl, inl (is, open_still, refl, refl))),
         )
     kept was stays counts added can none reply free (inr (inl (kind, edit, why, is, goes))) = absurd (never kind edit why can)
     kept was stays counts added can none reply free (inr (inr (is, same))) =
@@ -126,48 +126,48 @@ module _ (Own : StateValue → List ℕ → ReplyValue → StateValue → Type 0
     kept_unpublished was closes counts added can left reply free (inr (inl (kind, edit, why, is, goes))) = absurd (never kind edit why can)
     kept_unpublished was closes counts added can left reply free (inr (inr (is, same))) =
         let open_still : further ≡ None = none_is further (now ∙ was) in
-        let last : KeptState = record { state = new; batches = batches; further = Some old.held; faults = f' } in (
+        let last : KeptState = record { state = new; batches = batches; further = Some old.held; faults = f'; since = since } in (
           last,
-          record { same = refl; count = refl; lives = sym closes; stands = added batches (subst (λ (o : Option (List Edit)). standing batches o) open_still stands) },
-          (free, (counts, inr (inr (inr (is, same, inr (can, (open_still, refl, refl))))))),
+          record { same = refl; count = refl; lives = sym closes; stands = added since batches (subst (λ (o : Option (List Edit)). standing since batches o) open_still stands) },
+          (free, (counts, refl, inr (inr (inr (is, same, inr (can, (open_still, refl, refl))))))),
         )
 
   -- the same from wherever the party stood
   pub by_memory : live' ≡ live → f ≤ f' → StaysAsItWas standing standing' → new ≡ old → Reaches Was Is (Publishes (free_reply memory_line))
-  by_memory lives counts stays same = from_here (Publishes (free_reply memory_line)) (λ batches further now stands. still batches further now stands lives counts stays same (free_reply memory_line) refl refl)
+  by_memory lives counts stays same = from_here (Publishes (free_reply memory_line)) (λ since batches further now stands. still since batches further now stands lives counts stays same (free_reply memory_line) refl refl)
 
   pub by_refusal : live' ≡ live → f' ≡ f → StaysAsItWas standing standing' → (kind : EditFaultKind) (edit : ℕ) → batch_refusal release old.held ≡ Some (kind, edit)
       → (reply : ReplyValue) → (reply.price ≡ 0) × IsPublishReply release old reply.text new → Reaches Was Is (Publishes reply)
-  by_refusal lives counts stays kind edit why reply (cost, is) = from_here (Publishes reply) (λ batches further now stands. refused batches further now stands lives counts stays kind edit why reply cost is)
+  by_refusal lives counts stays kind edit why reply (cost, is) = from_here (Publishes reply) (λ since batches further now stands. refused since batches further now stands lives counts stays kind edit why reply cost is)
 
   pub by_closed : live ≡ false → live' ≡ live → f' ≡ f → StaysAsItWas standing standing' → CanFollow release old.held → new ≡ old → Reaches Was Is (Publishes (free_reply unkept_line))
-  by_closed closed lives counts stays can same = from_here (Publishes (free_reply unkept_line)) (λ batches further now stands. closed_before batches further now stands closed lives counts stays can same)
+  by_closed closed lives counts stays can same = from_here (Publishes (free_reply unkept_line)) (λ since batches further now stands. closed_before since batches further now stands closed lives counts stays can same)
 
   pub by_fault : live ≡ true → live' ≡ false → HasRisen f f' → f ≤ f' → MayBeAdded old.held standing standing' → CanFollow release old.held → new ≡ old → Reaches Was Is (Publishes (free_reply unkept_line))
-  by_fault was closes risen counts added can same = from_here (Publishes (free_reply unkept_line)) (λ batches further now stands. failed batches further now stands was closes risen counts added can same)
+  by_fault was closes risen counts added can same = from_here (Publishes (free_reply unkept_line)) (λ since batches further now stands. failed since batches further now stands was closes risen counts added can same)
 
   pub by_publication : live ≡ true → live' ≡ true → f ≤ f' → IsAdded old.held standing standing' → CanFollow release old.held → length new.held ≤ 0
       → (reply : ReplyValue) → (reply.price ≡ 0) × IsPublishReply release old reply.text new → Reaches Was Is (Publishes reply)
-  by_publication was lives counts added can none reply (cost, is) = from_here (Publishes reply) (λ batches further now stands. kept batches further now stands was lives counts added can none reply cost is)
+  by_publication was lives counts added can none reply (cost, is) = from_here (Publishes reply) (λ since batches further now stands. kept since batches further now stands was lives counts added can none reply cost is)
 
   pub by_closing : live ≡ true → live' ≡ false → f ≤ f' → MayBeAdded old.held standing standing' → CanFollow release old.held → 0 < length new.held
       → (reply : ReplyValue) → (reply.price ≡ 0) × IsPublishReply release old reply.text new → Reaches Was Is (Publishes reply)
-  by_closing was closes counts added can left reply (cost, is) = from_here (Publishes reply) (λ batches further now stands. kept_unpublished batches further now stands was closes counts added can left reply cost is)
+  by_closing was closes counts added can left reply (cost, is) = from_here (Publishes reply) (λ since batches further now stands. kept_unpublished since batches further now stands was closes counts added can left reply cost is)
 
 -- ---- what the functions say
 -- what was put and isn't published may stand there
-added_closed : (held : List Edit) (a b c : List (List Edit) → Option (List Edit) → Type 0) → IsAdded held a b → StaysAsItWas b c
-    → ((batches : List (List Edit)) (last : List Edit) → c (batches ++ last ∷ []) None → c batches (Some last)) → MayBeAdded held a c
-added_closed held a b c added stays further batches stands = further batches held (stays (batches ++ held ∷ []) None (added batches stands))
+added_closed : (held : List Edit) (a b c : FileStands) → IsAdded held a b → StaysAsItWas b c
+    → ((since : Since) (batches : List (List Edit)) (last : List Edit) → c since (batches ++ last ∷ []) None → c since batches (Some last)) → MayBeAdded held a c
+added_closed held a b c added stays further since batches stands = further since batches held (stays since (batches ++ held ∷ []) None (added since batches stands))
 
-added_still : (held : List Edit) (a b c : List (List Edit) → Option (List Edit) → Type 0) → IsAdded held a b → StaysAsItWas b c → IsAdded held a c
-added_still held a b c added stays batches stands = stays (batches ++ held ∷ []) None (added batches stands)
+added_still : (held : List Edit) (a b c : FileStands) → IsAdded held a b → StaysAsItWas b c → IsAdded held a c
+added_still held a b c added stays since batches stands = stays since (batches ++ held ∷ []) None (added since batches stands)
 
 module _ (Own : StateValue → List ℕ → ReplyValue → StateValue → Type 0) (base : ReleaseValue) (line : List ℕ) (old new : StateValue)
-    (a b c : List (List Edit) → Option (List Edit) → Type 0) (live live' live'' : Bool) (f f' f'' : ℕ) where
+    (a b c : FileStands) (live live' live'' : Bool) (f f' f'' : ℕ) where
   -- the edits were put, and then published, or not and nothing is put any more
   pub by_kept : IsKeptBy old.held a b live live' f f' put.Kept → IsClosedUnlessNone new.held b c live' live'' → f'' ≡ f' → CanFollow (release_after base old.chain) old.held
-      → ((batches : List (List Edit)) (last : List Edit) → c (batches ++ last ∷ []) None → c batches (Some last))
+      → ((since : Since) (batches : List (List Edit)) (last : List Edit) → c since (batches ++ last ∷ []) None → c since batches (Some last))
       → (reply : ReplyValue) → (reply.price ≡ 0) × IsPublishReply (release_after base old.chain) old reply.text new
       → Reaches (IsAt a live f old) (IsAt c live'' f'' new) (λ first last. IsKeptStep true Own base first line reply last)
   by_kept (was, is, counts, added) (inl (none, same, stays)) even can further reply says =
@@ -176,7 +176,7 @@ module _ (Own : StateValue → List ℕ → ReplyValue → StateValue → Type 0
       by_closing Own base line old new a c live live'' f f'' was closes (omega (arith, counts, even)) (added_closed old.held a b c added stays further) can left reply says
 
 module _ (Own : StateValue → List ℕ → ReplyValue → StateValue → Type 0) (base : ReleaseValue) (line : List ℕ) (old new : StateValue)
-    (a b : List (List Edit) → Option (List Edit) → Type 0) (live live' : Bool) (f f' : ℕ) where
+    (a b : FileStands) (live live' : Bool) (f f' : ℕ) where
   -- they couldn't be kept
   pub by_unkept : IsKeptBy old.held a b live live' f f' put.DiskFault → CanFollow (release_after base old.chain) old.held → new ≡ old
       → Reaches (IsAt a live f old) (IsAt b live' f' new) (λ first last. IsKeptStep true Own base first line (free_reply unkept_line) last)
@@ -193,6 +193,6 @@ pub own_as : (Own : ReleaseValue → StateValue → List ℕ → ReplyValue → 
 own_as Own base base' s s' line reply new b e h = subst (λ (x : StateValue). Own base x line reply new) e (subst (λ (y : ReleaseValue). Own y s' line reply new) b h)
 
 -- a line that asks to publish leads so
-pub as_asked : {W : Type 0} (target : W → ℕ) (live : W → Bool) (faults : W → ℕ) (standing : W → List (List Edit) → Option (List Edit) → Type 0) (Own : ReleaseValue → StateValue → List ℕ → ReplyValue → StateValue → Type 0)
+pub as_asked : {W : Type 0} (target : W → ℕ) (live : W → Bool) (faults : W → ℕ) (standing : W → FileStands) (Own : ReleaseValue → StateValue → List ℕ → ReplyValue → StateValue → Type 0)
     (asks : Bool) (old : KeeperValue W) (line : List ℕ) (reply : ReplyValue) (new : KeeperValue W) → asks ≡ true → LeadsBy target live faults standing Own true old line reply new → LeadsBy target live faults standing Own asks old line reply new
 as_asked target live faults standing Own asks old line reply new is h = subst (λ (b : Bool). LeadsBy target live faults standing Own b old line reply new) (sym is) h

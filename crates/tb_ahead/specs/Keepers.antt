@@ -27,7 +27,7 @@ pub record IsAt (standing : FileStands) (live : Bool)
   pub same : at.state ≡ state
   pub count : at.faults ≡ faults
   pub lives : is_none at.further ≡ live
-  pub stands : standing at.batches at.further
+  pub stands : standing at.since at.batches at.further
 
 -- wherever it stood, a step leads to where it stands now
 abbrev pub Reaches : (old new : KeptState → Type 0) → (KeptState → KeptState → Type 0) → Type 0

@@ -10,16 +10,18 @@ use Rattle.tb_release.specs.Chains.{release_after}
 use Rattle.tb_release.specs.declared.edits.Edit.{Edit}
 use Rattle.tb_tables.specs.ReplyLines.{memory_line}
 use Rattle.tb_ahead.specs.Publishing.{IsBatchRefusal, IsPublished, StateValue}
+use Rattle.tb_ahead.specs.Puts.{Since}
 
 -- where such a party stands: its own state; the batches that it has written and published, with
 -- those from before, each as the list of its edits; one further batch that the file may stand for
--- besides, of which there is one exactly where nothing is put any more; and the disk's count of
--- faults
+-- besides, of which there is one exactly where nothing is put any more; the disk's count of faults;
+-- and since when it is watched what a stop may have left
 pub record KeptState : Type 0 where
   pub state : StateValue
   pub batches : List (List Edit)
   pub further : Option (List Edit)
   pub faults : ℕ
+  pub since : Since
 
 -- a batch that is asked for, follows, and can't be kept
 abbrev pub unkept_line : List ℕ
@@ -64,7 +66,7 @@ IsOutOfMemory release old text next =
 -- the reply to `publish`
 abbrev pub IsKeptPublish : ReleaseValue → KeptState → List ℕ → KeptState → Type 0
 IsKeptPublish release old text next =
-    (old.faults ≤ next.faults)
+    (old.faults ≤ next.faults) × (next.since ≡ old.since)
     × (IsPublishedAhead release old text next
     ⊎ (IsRefusedAhead release old text next
     ⊎ (IsUnkept release old text next

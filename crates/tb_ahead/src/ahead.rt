@@ -2,7 +2,7 @@
 
 ghost use Rattle.std.specs.Prelude.{◌≡◌, ◌≤◌, ◌++◌, ◌∷◌, ℕ, Bool, true, false, List, []};
 ghost use Rattle.std.specs.Prelude.{Option, None, Some};
-ghost use Rattle.tb_ahead.specs.Puts.{IsAdded, MayBeAdded, StaysAsItWas};
+ghost use Rattle.tb_ahead.specs.Puts.{IsAdded, MayBeAdded, Since, StaysAsItWas};
 ghost use Rattle.tb_ahead.specs.declared.ahead.Put.TheVariants as put;
 ghost use Rattle.tb_io.specs.Faults.{HasRisen};
 ghost use Rattle.tb_release.specs.declared.edits.Edit.{Edit};
@@ -24,7 +24,9 @@ pub enum Put {
 ///
 /// `StandsFor` is its meaning: each file that a stop now may leave stands for these batches, each
 /// as the list of its edits; or, where one further batch is given, for these, or for these and that
-/// one. Of a disk that tells nothing it is true of any. `faults` counts the disk's faults.
+/// one. What a stop since some moment may have left stands for a beginning of them that is never
+/// shorter than what `Since` gives. Of a disk that tells nothing it is true of any. `faults` counts
+/// the disk's faults.
 /// `IsReady` is the condition under which it puts, which every call keeps. `target` names what it
 /// writes into, by a number that no call changes, as the name of a borrow: so whoever lent it knows
 /// once the borrow is over that it is what the last call left.
@@ -37,7 +39,7 @@ pub trait WriteAhead {
 
     ghost IsReady: { Self → Type 0 };
 
-    ghost StandsFor: { Self → List (List Edit) → Option (List Edit) → Type 0 };
+    ghost StandsFor: { Self → Since → List (List Edit) → Option (List Edit) → Type 0 };
 
     /// Whether it is live.
     fn is_live(&self) -> bool
@@ -70,6 +72,7 @@ pub trait WriteAhead {
         ensures stays { StaysAsItWas (StandsFor self.old) (StandsFor self.new) };
 
     /// Where each such file stands for some batches, the last may be called a further one.
-    ghost further: { (ahead : Self) (batches : List (List Edit)) (last : List Edit)
-        → StandsFor ahead (batches ++ last ∷ []) None → StandsFor ahead batches (Some last) };
+    ghost further: { (ahead : Self) (since : Since) (batches : List (List Edit))
+        (last : List Edit) → StandsFor ahead since (batches ++ last ∷ []) None
+        → StandsFor ahead since batches (Some last) };
 }

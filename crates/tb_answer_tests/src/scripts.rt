@@ -24,7 +24,7 @@ struct Row {
     replies: &'static [u8],
 }
 
-static ROWS: [Row; 5] = [
+static ROWS: [Row; 7] = [
     Row {
         name: "cache_and_price",
         script: b"custodian cache 1\na table SEX\na table AREA\na table AREA\ncustodian drop 104\n\
@@ -71,6 +71,27 @@ static ROWS: [Row; 5] = [
             refused 2 Syntax 1\nrefused 2 Syntax 1\nrefused 2 Syntax 1\nrefused 2 Syntax 1\n\
             refused 2 Syntax 1\nrefused 2 Syntax 1\n\
             stats release 0 looks 2 hits 0 entries 1 capacity 64\n",
+    },
+    Row {
+        name: "what_can_be_asked",
+        script: b"a describe\na describe SEX\na describe NOSUCH\na describe SEX x\n",
+        replies: b"describe\nname,kind,categories\nSEX,variable,2\nAGE,variable,3\n\
+            AREA,variable,2\nAGE2,recode of AGE,2\n.\ndescribe SEX\ncode,label\n1,Male\n\
+            2,Female\n.\nrefused 3 UnknownName 2\nrefused 2 Syntax 3\n",
+    },
+    // The custodian asks so too; blanks alone part the words. It is no query, so it isn't asked of
+    // another release; and no cube is looked for, and what is held stays.
+    Row {
+        name: "descriptions_among_other_lines",
+        script: b"custodian drop 104\ncustodian \tdescribe  AGE2\t\na describe AREA\n\
+            custodian describe SEX x y\ncustodian publish\na at 0 describe\n\
+            custodian at 1 describe SEX\na Describe\na describes\na describe,SEX\n\
+            a describe (SEX)\ncustodian stats\n",
+        replies: b"held 1\ndescribe AGE2\ngroup,code\nyoung,0-15\nold,16-64\nold,65+\n.\n\
+            describe AREA\ncode,label\nE1,\"North, rural\"\nE2,South\n.\nrefused 2 Syntax 3\n\
+            published 1\nrefused 2 Syntax 1\nrefused 2 Syntax 1\nrefused 2 Syntax 1\n\
+            refused 2 Syntax 1\nrefused 2 Syntax 1\nrefused 3 UnknownName 2\n\
+            stats release 1 looks 0 hits 0 entries 0 capacity 64\n",
     },
 ];
 

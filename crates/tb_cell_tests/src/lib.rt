@@ -3,7 +3,7 @@
 //! worked by hand over the small setup. Their calls have ample memory.
 //!
 //! They call public functions alone. Tests stand in crates of their own since a crate that has
-//! tests is proved twice. Whole runs stand in `tablebuilder`.
+//! tests is proved twice. Whole runs stand in `tb_top_tests`.
 #![tactic(auto)]
 
 #[cfg(test)]

@@ -36,6 +36,9 @@ pub trait Disk {
     /// The bytes that each name has before it is attached, where they are told.
     ghost named: { Self → Option (List ℕ → List ℕ) };
 
+    /// What a stop could leave under each name before it is attached: no bytes where there is none.
+    ghost could_leave: { Self → List ℕ → List ℕ → Type 0 };
+
     /// What a read gives, where it is told.
     ghost content: { Self → Option (List ℕ) };
 
@@ -54,6 +57,9 @@ pub trait Disk {
         ensures attached { result ≡ done.All → attached self.new ≡ true }
         ensures found { result ≡ done.All →
             content self.new ≡ option_map (λ bytes_of. bytes_of name.now) (named self.old) }
+        // Whether it fails or not.
+        ensures left { (image : List ℕ) → may_leave self.new image
+            → could_leave self.old name.now image }
         ensures count { faults self.old ≤ faults self.new }
         ensures failed { result ≡ done.Failed → HasRisen (faults self.old) (faults self.new) };
 

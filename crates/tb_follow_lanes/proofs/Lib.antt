@@ -2,3 +2,4 @@ pub mod SomeReplies
 mod Analysts
 mod Asking
 mod Led
+mod Describing

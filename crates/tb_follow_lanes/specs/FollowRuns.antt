@@ -3,6 +3,7 @@
 -- program.
 use Rattle.std.specs.Prelude.{◌≡◌, if◌then◌else◌, ℕ, Bool, true, false, List, [], bytes_eq, codes}
 use Rattle.std.specs.Prelude.{length}
+use Rattle.tb_describe.specs.Descriptions.{IsDescription, is_description}
 use Rattle.tb_follow.specs.Chains.{release_at}
 use Rattle.tb_leader.specs.Lanes.{LaneValue}
 use Rattle.tb_leader.specs.LeaderReplies.{IsLeaderStep}
@@ -23,17 +24,23 @@ speaker_of lane = if bytes_eq lane (codes "leader") then speakers.Leader else sp
 abbrev pub release_of : LaneValue → ReleaseValue
 release_of lane = release_at lane.follower.chain
 
--- a reply to a line over a release, by whether the line is passed over: then there is none, and
--- else it is that to a query's line, at the price of all records
-abbrev pub IsReplyUnless : Bool → SetupValue → ReleaseValue → List ℕ → ReplyValue → Type 0
-IsReplyUnless true setup release line reply = reply ≡ free_reply []
-IsReplyUnless false setup release line reply =
+-- a reply to a line over a release, by whether `describe` begins it: then it is what may be asked,
+-- and else that to a query's line, at the price of all records
+abbrev pub IsDescriptionOr : Bool → SetupValue → ReleaseValue → List ℕ → ReplyValue → Type 0
+IsDescriptionOr true setup release line reply = IsDescription setup.schema line reply
+IsDescriptionOr false setup release line reply =
     IsAnswer setup release (λ query. length release.records) line reply
+
+-- the same, by whether the line is passed over, too: then there is none
+abbrev pub IsReplyUnless : Bool → Bool → SetupValue → ReleaseValue → List ℕ → ReplyValue → Type 0
+IsReplyUnless true describes setup release line reply = reply ≡ free_reply []
+IsReplyUnless false describes setup release line reply =
+    IsDescriptionOr describes setup release line reply
 
 -- a reply to an analyst's line over a release
 abbrev pub IsAnalystReply : SetupValue → ReleaseValue → List ℕ → ReplyValue → Type 0
 IsAnalystReply setup release line reply =
-    IsReplyUnless (is_passed_over line) setup release line reply
+    IsReplyUnless (is_passed_over line) (is_description line) setup release line reply
 
 -- a reply to a line of the leader's or of an analyst's, and where the lane stands then: an
 -- analyst's line is answered over the release that was reached, and changes nothing

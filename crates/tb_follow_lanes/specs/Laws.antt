@@ -1,11 +1,13 @@
--- The law of a script that is led.
-use Rattle.std.specs.Prelude.{◌≡◌, ◌≤◌, ℕ, List, length, take}
+-- The laws of a script that is led.
+use Rattle.std.specs.Prelude.{◌≡◌, ◌⊎◌, ◌≤◌, ℕ, List, false, length, take, true}
 use Rattle.std.specs.List.{AllZip}
 use Rattle.tb_ahead.specs.Publishing.{batch_refusal_line}
+use Rattle.tb_describe.specs.Descriptions.{is_description}
 use Rattle.tb_follow.specs.Leading.{CanLead, IsLed, chain_of}
 use Rattle.tb_leader.specs.Lanes.{LaneValue}
 use Rattle.tb_leader.specs.Laws.{IsGenuine}
 use Rattle.tb_leader.specs.LeaderAsks.{asks_of}
+use Rattle.tb_lines.specs.Lines.{is_passed_over}
 use Rattle.tb_lines.specs.Outputs.{Lead, ReplyValue}
 use Rattle.tb_model.specs.Releases.{ReleaseValue}
 use Rattle.tb_model.specs.Setups.{SetupValue}
@@ -13,6 +15,7 @@ use Rattle.tb_release.specs.Chains.{release_after}
 use Rattle.tb_release.specs.declared.edits.Edit.{Edit}
 use Rattle.tb_rows.specs.FaultNames.{FaultNameValue}
 use Rattle.tb_script.specs.Scripts.{ScriptLine}
+use Rattle.tb_tables.specs.ReplyLines.{memory_line}
 use Rattle.tb_follow_lanes.specs.FollowRuns.{IsAnalystReply, IsFollowReply, speaker_of}
 use Rattle.tb_follow_lanes.specs.declared.speaker.Speaker.{Speaker}
 use Rattle.tb_follow_lanes.specs.declared.speaker.Speaker.TheVariants as speakers
@@ -65,3 +68,15 @@ ScriptsAreLed =
     → CanLead lane.follower.chain.base lists → IsLed lists lane.follower
     → Lead (IsGenuineReply setup lists) lane lines replies last
     → StaysLed setup lane.follower.chain.base lists lines replies last
+
+-- in two worlds with equal schemas a line of an analyst's that `describe` begins gets the same
+-- reply, but where memory was refused, whatever the releases
+abbrev pub DescriptionsGoByTheSchema : Type 0
+DescriptionsGoByTheSchema =
+    (setup setup' : SetupValue) (release release' : ReleaseValue) (line : List ℕ)
+    (reply reply' : ReplyValue)
+    → setup.schema ≡ setup'.schema
+    → is_passed_over line ≡ false → is_description line ≡ true
+    → IsAnalystReply setup release line reply
+    → IsAnalystReply setup' release' line reply'
+    → (reply ≡ reply') ⊎ ((reply.text ≡ memory_line) ⊎ (reply'.text ≡ memory_line))

@@ -1,6 +1,8 @@
 // The answer to a line of a script that is led.
 
 ghost use Rattle.std.specs.Prelude.{◌≡◌, ◌≤◌, length};
+ghost use Rattle.tb_describe.specs.Descriptions.{Describes};
+ghost use Rattle.tb_describe.specs.Told.{description_text};
 ghost use Rattle.tb_follow_lanes.specs.FollowRuns.{IsFollowStep};
 ghost use Rattle.tb_follow_lanes.specs.declared.speaker.Speaker.TheVariants as speakers;
 ghost use Rattle.tb_io.specs.declared.limits.TheConstants.{MOST_LINE_BYTES};
@@ -14,6 +16,7 @@ use std::sync::ledger::Ledger;
 use std::thread::Threads;
 use tb_base::Steps;
 use tb_build::Open;
+use tb_describe::{Description, describe, is_description};
 use tb_follow::Follower;
 use tb_io::{Sink, Wrote};
 use tb_leader::{LeaderLane, answer};
@@ -28,6 +31,14 @@ pub(crate) struct Setting<'a, R: Threads + Sync> {
     pub(crate) setup: &'a Setup,
     pub(crate) rt: &'a R,
     pub(crate) alloc: Global,
+}
+
+// What may be asked. No release is looked at.
+fn describe_setup(alloc: Global, setup: &Setup, line: &[u8]) -> Description
+    requires { length line.now ≤ MOST_LINE_BYTES }
+    ensures { Describes setup.now.schema line.now (description_text result) }
+{
+    describe(alloc, &setup.schema, line)
 }
 
 // Answers an analyst's line, over the release that the follower has reached.
@@ -49,6 +60,9 @@ fn answer_analyst<R: Threads + Sync, K: Sink, L: Ledger>(
 {
     if is_passed_over(line) {
         return Wrote::All;
+    }
+    if is_description(line) {
+        return describe_setup(setting.alloc, setting.setup, line).write(sink);
     }
     let release = lane.follower.release();
     let reply = answer_at(

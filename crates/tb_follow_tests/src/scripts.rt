@@ -18,7 +18,7 @@ use tb_small_values::setup;
 use tb_text::Setup;
 
 // Scripts, and their replies.
-static ROWS: [(&'static str, &'static str); 13] = [
+static ROWS: [(&'static str, &'static str); 14] = [
     // The message of release 2 comes first, and waits; that of release 1 leads to both.
     (
         "leader begin 2\nleader add 105 30 SEX=2 AGE=0-15 AREA=E2\nleader end\na table SEX\n\
@@ -94,6 +94,14 @@ static ROWS: [(&'static str, &'static str); 13] = [
         "leader begin 2\nleader threshold 5\nleader end\nleader begin 2\nleader drop 999\n\
         leader end\nleader begin 1\nleader pvalue 1 7 5\nleader threshold 2\nleader end\n",
         "begun 2\nheld 1\nkept 0\nbegun 2\nheld 1\nkept 0\nbegun 1\nheld 1\nheld 2\nat 2\n",
+    ),
+    // Analysts are told what may be asked. It is no line of the leader's, whose open message stays.
+    (
+        "a describe AGE2\nleader describe\nleader begin 1\nleader describe SEX\n\
+        leader drop 104\nleader end\ncustodian describe x\na  describe SEX x\na at 0 describe\n",
+        "describe AGE2\ngroup,code\nyoung,0-15\nold,16-64\nold,65+\n.\nrefused leader\n\
+        begun 1\nrefused leader\nheld 1\nat 1\nrefused 3 UnknownName 2\nrefused 2 Syntax 3\n\
+        refused 2 Syntax 1\n",
     ),
     // Every lane but the leader's is an analyst's, and its lines are queries.
     (

@@ -1,10 +1,15 @@
 -- What analysts saw is on the disk.
-use Rattle.std.proofs.Common.{◌≡◌, sym, subst, refl, List, [], ◌∷◌, ◌++◌, inl, inr, ℕ}
-use Rattle.std.specs.Prelude.{◌⊎◌, Option, None, Some}
+use Rattle.std.proofs.Common.{◌≡◌, ◌∙◌, sym, subst, refl, Bool, List, [], ◌∷◌, ◌++◌, inl, inr, ℕ}
+use Rattle.std.specs.Prelude.{◌⊎◌, Option, None, Some, is_none}
+use Rattle.tb_ahead.specs.Keepers.{KeeperValue}
+use Rattle.tb_ahead.specs.Keeping.{KeptState}
 use Rattle.tb_ahead.specs.Publishing.{StateValue, let_go}
+use Rattle.tb_ahead.specs.Puts.{Since}
 use Rattle.tb_front.proofs.Prefixes.{prefix_more, prefix_self, prefix_trans}
-use Rattle.tb_host.specs.Laws.{HasAll, HasStood, IsDurable}
-use Rattle.tb_journal_file.specs.Files.{EachStandsFor, IsFileOf}
+use Rattle.tb_host.specs.Laws.{AreSessions, HasAll, HasStood, IsDurable, StayKept, StaysKept, standing}
+use Rattle.tb_host.proofs.Visits.{visits, visits_since}
+use Rattle.tb_journal_file.specs.Files.{EachStandsBetween, EachStandsFor, IsFileOf, all_of}
+use Rattle.tb_journal_file.proofs.Putting.{left_from_now}
 use Rattle.tb_keep.specs.Chains.{batches_of}
 use Rattle.tb_keep.proofs.Chains.{batches_of-more}
 use Rattle.tb_model.specs.Releases.{ReleaseValue}
@@ -50,3 +55,20 @@ pub is_durable : NumbersNeverFall → IsDurable
 is_durable never_fall setup base at here last file theirs stood ends stands =
     let begins = prefix_trans here.chain last.chain at.state.chain (seen_at_end never_fall setup base here last stood) ends in
     has_all base at.batches here.chain file (subst (λ (chain : List BatchValue). IsPrefix here.chain chain) theirs begins) at.further stands
+
+-- ---- what a session kept stays kept
+module _ {W D : Type 0} (disk : W → D) (content : D → Option (List ℕ)) (may_leave : D → List ℕ → Type 0) (moment : D → ℕ) (left_since : D → ℕ → List ℕ → Type 0)
+    (only : (d : D) (image : List ℕ) → left_since d (moment d) image → may_leave d image) (target : W → ℕ) (live : W → Bool) (faults : W → ℕ) where
+  pub stays_kept : StaysKept disk content may_leave moment left_since target live faults
+  stays_kept setup old new later batches further lives stands sessions =
+      let at = disk old.ahead in
+      let since : Since = record { moment = moment at; batches = batches } in
+      let first : KeptState = record { state = old.state; batches = batches; further = further; faults = faults old.ahead; since = since } in
+      let left = left_from_now (content at) (may_leave at) (moment at) (left_since at) (only at) batches further stands in
+      let (base, into, reaches) = visits target live faults (standing disk content may_leave moment left_since target live faults) setup old new later sessions in
+      let (last, here, lead) = reaches first (record { same = refl; count = refl; lives = lives; stands = left }) in
+      let watched = visits_since setup old.base first last later lead in record {
+        last = last;
+        stands = here;
+        ever = λ file told. subst (λ (s : Since). EachStandsBetween (left_since (disk new.ahead)) s (all_of last.batches last.further)) watched (here.stands.ever file told).each;
+      }

@@ -4,14 +4,15 @@ use Rattle.std.specs.Prelude.{Option, slice_index_or}
 use Rattle.tb_ahead.specs.Keepers.{IsAt, KeeperValue, KeepsTo, Reaches, at_start}
 use Rattle.tb_ahead.specs.Keeping.{KeptState}
 use Rattle.tb_ahead.specs.Publishing.{StateValue, after_seeing, let_go}
-use Rattle.tb_ahead.specs.Puts.{FileStands}
+use Rattle.tb_ahead.specs.Puts.{FileStands, Since}
 use Rattle.tb_base.specs.declared.status.Status.{Status}
 use Rattle.tb_board.specs.Custodians.{CustodianValue}
 use Rattle.tb_host.specs.Endings.{IsHostReported}
 use Rattle.tb_host.specs.Hosting.{HostsAll}
 use Rattle.tb_host.specs.Sessions.{AreHostedFrom, HostsFrom, IsHosted, IsLeftAt, at_session}
-use Rattle.tb_host.proofs.Visits.{visited, visits_counted, visits_theirs}
-use Rattle.tb_journal_file.specs.Files.{EachStandsFor}
+use Rattle.tb_host.proofs.Visits.{visited, visits_counted, visits_since, visits_theirs}
+use Rattle.tb_journal_file.specs.Files.{AreLeft, EachStandsBetween, EachStandsFor, all_of}
+use Rattle.tb_journal_file.proofs.Putting.{left_from_now}
 use Rattle.tb_keep.specs.Chains.{IsOwnKeptStep, batches_of}
 use Rattle.tb_keep.specs.JournalRuns.{after_playing}
 use Rattle.tb_keep.specs.Publishers.{IsOwnStep, asks_to_publish}
@@ -79,23 +80,28 @@ module _ (setup : SetupValue) (base : ReleaseValue) (most : ℕ) (first last : K
   pub counted_on : first.faults ≤ last.faults
   counted_on = visits_counted setup base first last own.visits own.lead
 
-module _ {D : Type 0} (content : D → Option (List ℕ)) (may_leave : D → List ℕ → Type 0) (faults : D → ℕ) (old now new : D) (same : new ≡ now) (setup : SetupValue) (custodian : CustodianValue)
+module _ {D : Type 0} (content : D → Option (List ℕ)) (may_leave : D → List ℕ → Type 0) (moment : D → ℕ) (left_since : D → ℕ → List ℕ → Type 0) (faults : D → ℕ)
+    (old now new : D) (only : (image : List ℕ) → left_since old (moment old) image → may_leave old image) (same : new ≡ now) (setup : SetupValue) (custodian : CustodianValue)
     (live later : Bool) (lives : live ≡ true) (state : StateValue) (most : ℕ) (a e : List PortValue) (some : 0 < length a)
-    (reaches : Reaches (IsAt (EachStandsFor (may_leave old)) live (faults old) (state_at custodian.writer [])) (IsAt (EachStandsFor (may_leave now)) later (faults now) state)
+    (reaches : Reaches (IsAt (AreLeft (content old) (may_leave old) (moment old) (left_since old)) live (faults old) (state_at custodian.writer [])) (IsAt (AreLeft (content now) (may_leave now) (moment now) (left_since now)) later (faults now) state)
     (λ first last. Each (IsHosted setup (base_of custodian) most first last) a e)) (out : Output) (ended : Status) (reported : IsHostReported later e (length state.chain) out ended) where
   pub hosted_from : (batches : List (List Edit)) → custodian.writer.list ≡ batches_of (base_of custodian) batches → EachStandsFor (may_leave old) batches None
-      → AreHostedFrom (after_playing (base_of custodian) batches (faults old)) setup (base_of custodian) most a e
-      (record { content = content old; could_leave = may_leave old; may_leave = may_leave new; faults = faults old; faults_after = faults new }) out ended
+      → AreHostedFrom (after_playing (base_of custodian) batches (moment old) (faults old)) setup (base_of custodian) most a e
+      (record { content = content old; content_after = content new; could_leave = may_leave old; may_leave = may_leave new; left_since = left_since new; faults = faults old; faults_after = faults new }) out ended
   hosted_from batches chain stands =
-      let first = after_playing (base_of custodian) batches (faults old) in
+      let first = after_playing (base_of custodian) batches (moment old) (faults old) in
       let stood : first.state ≡ state_at custodian.writer [] = ap after_seeing (sym chain) in
-      let (last, at, sessions) = reaches first (record { same = stood; count = refl; lives = sym lives; stands = stands }) in
+      let left = left_from_now (content old) (may_leave old) (moment old) (left_since old) only batches None stands in
+      let (last, at, sessions) = reaches first (record { same = stood; count = refl; lives = sym lives; stands = left }) in
       let lead = own setup (base_of custodian) most first last a e some sessions in
+      let watched = visits_since setup (base_of custodian) first last lead.visits lead.lead in
+      let stands_now = subst (λ (d : D). AreLeft (content d) (may_leave d) (moment d) (left_since d) last.since last.batches last.further) (sym same) at.stands in
       record {
         last = last;
         sessions = sessions;
         chain = visits_theirs setup (base_of custodian) first last lead.visits lead.lead refl;
-        left = subst (λ (d : D). EachStandsFor (may_leave d) last.batches last.further) (sym same) at.stands;
+        left = stands_now.now;
+        ever = λ file told. subst (λ (s : Since). EachStandsBetween (left_since new) s (all_of last.batches last.further)) watched (stands_now.ever file told).each;
         counted = at.count ∙ ap faults (sym same);
         reported = subst (λ (x : Bool × StateValue). IsHostReported x.0 e (length x.1.chain) out ended) (λ j. (sym at.lives j, sym at.same j)) reported;
       }
@@ -118,24 +124,33 @@ left_at : (port i : ℕ) (o p t : PortValue) → GetsReady port i o p → IsLeft
 left_at port i o p t ready left = record { port = left.port ∙ ready.bound.port; party = left.party; lines = left.lines }
 
 -- what is seen of a disk from one moment to another
-module _ {D : Type 0} (content : D → Option (List ℕ)) (may_leave : D → List ℕ → Type 0) (faults : D → ℕ) where
+module _ {D : Type 0} (content : D → Option (List ℕ)) (may_leave : D → List ℕ → Type 0) (moment : D → ℕ) (left_since : D → ℕ → List ℕ → Type 0) (faults : D → ℕ) where
   abbrev pub seen : D → D → JournalSeen
-  seen old after = record { content = content old; could_leave = may_leave old; may_leave = may_leave after; faults = faults old; faults_after = faults after }
+  seen old after = record {
+    content = content old;
+    content_after = content after;
+    could_leave = may_leave old;
+    may_leave = may_leave after;
+    left_since = left_since after;
+    faults = faults old;
+    faults_after = faults after;
+  }
 
   module _ (setup : SetupValue) (base : ReleaseValue) (before now new : D) (custodian : CustodianValue) (r : HasRecovered setup base (seen before now) custodian) (port most : ℕ) (o a e : List PortValue) (ready : Each (GetsReady port) o a) (out : Output) (ended : Status)
       (served : (batches : List (List Edit)) → custodian.writer.list ≡ batches_of (base_of custodian) batches → EachStandsFor (may_leave now) batches None
-      → AreHostedFrom (after_playing (base_of custodian) batches (faults now)) setup (base_of custodian) most a e (seen now new) out ended) where
-    hosted : AreHostedFrom (after_playing base r.batches (faults now)) setup base most a e (seen now new) out ended
+      → AreHostedFrom (after_playing (base_of custodian) batches (moment now) (faults now)) setup (base_of custodian) most a e (seen now new) out ended) where
+    hosted : AreHostedFrom (after_playing base r.batches (moment now) (faults now)) setup base most a e (seen now new) out ended
     hosted =
         let chain = r.chain ∙ sym (ap (λ (b : ReleaseValue). batches_of b r.batches) r.start) in
-        subst (λ (b : ReleaseValue). AreHostedFrom (after_playing b r.batches (faults now)) setup b most a e (seen now new) out ended) r.start (served r.batches chain r.left)
+        subst (λ (b : ReleaseValue). AreHostedFrom (after_playing b r.batches (moment now) (faults now)) setup b most a e (seen now new) out ended) r.start (served r.batches chain r.left)
 
     pub hosts_all : faults before ≤ faults now → Each (λ _. IsLeft) a e → HostsAll setup base port most o e (seen before new) out ended
     hosts_all since left =
-        let first = after_playing base r.batches (faults now) in
+        let first = after_playing base r.batches (moment now) (faults now) in
         record {
           batches = r.batches;
           recovered = r.recovered;
+          first_moment = moment now;
           first_faults = faults now;
           since = since;
           hosted = record {
@@ -144,6 +159,7 @@ module _ {D : Type 0} (content : D → Option (List ℕ)) (may_leave : D → Lis
                 (λ i d lt x y. ready_hosted setup base port most first hosted.last i _ _ _ x y);
             chain = hosted.chain;
             left = hosted.left;
+            ever = hosted.ever;
             counted = hosted.counted;
             reported = hosted.reported;
           };
@@ -152,5 +168,5 @@ module _ {D : Type 0} (content : D → Option (List ℕ)) (may_leave : D → Lis
 
     pub hosts_counted : 0 < length a → faults now ≤ faults new
     hosts_counted some =
-        let counts = counted_on setup base most (after_playing base r.batches (faults now)) hosted.last a e some hosted.sessions in
+        let counts = counted_on setup base most (after_playing base r.batches (moment now) (faults now)) hosted.last a e some hosted.sessions in
         omega (arith, counts, hosted.counted)

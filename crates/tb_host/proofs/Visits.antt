@@ -10,7 +10,7 @@ use Rattle.tb_keep.specs.Chains.{IsOwnKeptStep, IsTheirs}
 use Rattle.tb_keep.specs.KeptRuns.{StandsAt}
 use Rattle.tb_keep.specs.Publishers.{IsOwnStep, asks_to_publish}
 use Rattle.tb_keep.proofs.Chains.{lines-keep, stays_theirs}
-use Rattle.tb_keep.proofs.KeptRunning.{own_counts}
+use Rattle.tb_keep.proofs.KeptRunning.{own_counts, own_since}
 use Rattle.tb_lines.specs.Outputs.{Lead, ReplyValue}
 use Rattle.tb_lines.specs.Sessions.{IsSession}
 use Rattle.tb_lines.specs.declared.session_end.SessionEnd.{SessionEnd}
@@ -104,7 +104,7 @@ module _ {W : Type 0} (target : W → ℕ) (live : W → Bool) (faults : W → �
             (last, end, record { session = is; cause = h.cause }),
       )
 
-  visits : (old new : KeeperValue W) (vs : List Visit) → AreVisits Legal at_start old vs new → Says old new (λ first last. AreVisits (Kept old.base) at_session first vs last)
+  pub visits : (old new : KeeperValue W) (vs : List Visit) → AreVisits Legal at_start old vs new → Says old new (λ first last. AreVisits (Kept old.base) at_session first vs last)
   visits old new [] h = subst (λ (k : KeeperValue W). Says old k (λ first last. AreVisits (Kept old.base) at_session first [] last)) (sym h) (refl, refl, λ first at. (first, at, refl))
   visits old new (v ∷ vs) (next, one, others) =
       let (base, into, reaches) = visit old next v one in
@@ -154,3 +154,12 @@ module _ (setup : SetupValue) (base : ReleaseValue) where
       lines-keep (IsOwnKeptStep setup base) (λ (at : KeptState). first.faults ≤ at.faults)
       (λ old next line reply step so_far. omega (arith, so_far, own_counts setup base (asks_to_publish line) old next line reply step)) one other ls rs lead so)
       first last vs h (omega arith)
+
+  -- since when it is watched what a stop leaves stays
+  pub visits_since : (first last : KeptState) (vs : List Visit) → AreVisits Lines at_session first vs last → last.since ≡ first.since
+  visits_since first last vs h =
+      keep (λ (at : KeptState). at.since ≡ first.since) (λ at so. so)
+      (λ one other ls rs lead so.
+      lines-keep (IsOwnKeptStep setup base) (λ (at : KeptState). at.since ≡ first.since)
+      (λ old next line reply step so_far. own_since setup base (asks_to_publish line) old next line reply step ∙ so_far) one other ls rs lead so)
+      first last vs h refl

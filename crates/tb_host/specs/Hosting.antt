@@ -23,17 +23,18 @@ pub record IsRecovered (setup : SetupValue) (base : ReleaseValue) (saw : Journal
   pub all : AreRecovered setup base saw.content batches
   pub left : EachStandsFor saw.may_leave batches None
 
--- the batches of the journal's file were published; then all listeners were bound, and their ports
--- were served from there with a live journal
+-- the batches of the journal's file were published, at a moment before the first bind; then all
+-- listeners were bound, and their ports were served from there with a live journal
 pub record HostsAll (setup : SetupValue) (base : ReleaseValue) (first most : ℕ)
     (before after : List PortValue) (saw : JournalSeen) (out : Output) (ended : Status)
     : Type 0 where
   pub batches : List (List Edit)
   pub recovered : AreRecovered setup base saw.content batches
+  pub first_moment : ℕ
   pub first_faults : ℕ
   pub since : saw.faults ≤ first_faults
-  pub hosted : AreHostedFrom (after_playing base batches first_faults) setup base most before after
-      saw out ended
+  pub hosted : AreHostedFrom (after_playing base batches first_moment first_faults) setup base most
+      before after saw out ended
   pub bound : Each (λ i _. IsLeftAt first i) before after
 
 -- What a call wrote and did that ended by its last line: memory was refused, and the file is left

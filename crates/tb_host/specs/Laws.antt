@@ -1,11 +1,17 @@
--- What analysts saw is on the disk. Nothing here speaks of the program.
-use Rattle.std.specs.Prelude.{◌≡◌, ℕ, List}
+-- What analysts saw is on the disk, and what a session kept stays there. Nothing here speaks of the
+-- program.
+use Rattle.std.specs.Prelude.{◌≡◌, ℕ, Bool, List, Option, is_none}
 use mathlib.Core.List.{IsPrefix}
+use Rattle.tb_ahead.specs.Keepers.{IsAt, KeeperValue, KeepsTo, at_start}
 use Rattle.tb_ahead.specs.Keeping.{KeptState}
 use Rattle.tb_ahead.specs.Publishing.{StateValue, let_go}
-use Rattle.tb_journal_file.specs.Files.{EachStandsFor, IsFileOf}
+use Rattle.tb_ahead.specs.Puts.{FileStands, Since}
+use Rattle.tb_disk.specs.Images.{WhereTold}
+use Rattle.tb_journal_file.specs.Files.{AreLeft, EachStandsBetween, EachStandsFor, IsFileOf}
+use Rattle.tb_journal_file.specs.Files.{all_of}
 use Rattle.tb_keep.specs.Chains.{IsTheirs, batches_of}
-use Rattle.tb_lines.specs.Outputs.{ReplyValue}
+use Rattle.tb_keep.specs.Publishers.{IsOwnStep, asks_to_publish}
+use Rattle.tb_lines.specs.Outputs.{Lead, ReplyValue}
 use Rattle.tb_model.specs.Releases.{ReleaseValue}
 use Rattle.tb_model.specs.Setups.{SetupValue}
 use Rattle.tb_release.specs.Batches.{BatchValue}
@@ -39,3 +45,37 @@ IsDurable =
     (file : List ℕ) → IsTheirs base at → HasStood setup base here last
     → IsPrefix last.chain at.state.chain
     → EachStandsFor (λ image. image ≡ file) at.batches at.further → HasAll base here.chain file
+
+-- ---- a custodian, and the disk that its batches are written ahead on, by its ghost members
+module _ {W D : Type 0} (disk : W → D) (content : D → Option (List ℕ))
+    (may_leave : D → List ℕ → Type 0) (moment : D → ℕ) (left_since : D → ℕ → List ℕ → Type 0)
+    (target : W → ℕ) (live : W → Bool) (faults : W → ℕ) where
+  -- what the file stands for, now and since some moment
+  abbrev pub standing : W → FileStands
+  standing ahead = AreLeft (content (disk ahead)) (may_leave (disk ahead)) (moment (disk ahead))
+      (left_since (disk ahead))
+
+  -- sessions led a custodian from one place to another
+  abbrev pub AreSessions : SetupValue → KeeperValue W → List Visit → KeeperValue W → Type 0
+  AreSessions setup = AreVisits (Lead (KeepsTo target live faults standing (IsOwnStep setup)
+      asks_to_publish)) at_start
+
+  -- each file that a stop since the first place may have left stands for a beginning of the
+  -- batches at the second, and a further one, that has all these batches
+  pub record StayKept (batches : List (List Edit)) (old new : KeeperValue W) : Type 0 where
+    pub last : KeptState
+    pub stands : IsAt (standing new.ahead) (live new.ahead) (faults new.ahead) new.state last
+    pub ever : WhereTold (content (disk new.ahead))
+        (λ _. EachStandsBetween (left_since (disk new.ahead))
+        (record { moment = moment (disk old.ahead); batches = batches })
+        (all_of last.batches last.further))
+
+  -- what each file stands for that a stop may leave where a session of the custodian's returned, no
+  -- stop since takes back, whatever sessions come after
+  abbrev pub StaysKept : Type 0
+  StaysKept =
+      (setup : SetupValue) (old new : KeeperValue W) (later : List Visit)
+      (batches : List (List Edit)) (further : Option (List Edit))
+      → is_none further ≡ live old.ahead
+      → EachStandsFor (may_leave (disk old.ahead)) batches further
+      → AreSessions setup old later new → StayKept batches old new

@@ -6,7 +6,8 @@ use Rattle.tb_ahead.specs.Keeping.{KeptState}
 use Rattle.tb_ahead.specs.Publishing.{let_go}
 use Rattle.tb_ahead.specs.Puts.{FileStands}
 use Rattle.tb_base.specs.declared.status.Status.{Status}
-use Rattle.tb_journal_file.specs.Files.{EachStandsFor}
+use Rattle.tb_disk.specs.Images.{WhereTold}
+use Rattle.tb_journal_file.specs.Files.{EachStandsBetween, EachStandsFor, all_of}
 use Rattle.tb_keep.specs.Chains.{IsOwnKeptStep, IsTheirs}
 use Rattle.tb_keep.specs.KeptRuns.{StandsAt}
 use Rattle.tb_keep.specs.Recoveries.{JournalSeen}
@@ -46,7 +47,8 @@ HostsFrom target live faults standing setup most old new before after =
 
 -- All ports were served from where the custodian stood first, and that was reported. Each file that
 -- a stop now may leave stands for the batches to which its sessions led, whose chain the custodian
--- has, and at most one further batch.
+-- has, and at most one further batch; and what a stop since then may have left, for a beginning of
+-- them that has all that he had then.
 pub record AreHostedFrom (first : KeptState) (setup : SetupValue) (base : ReleaseValue) (most : ℕ)
     (before after : List PortValue) (saw : JournalSeen) (out : Output) (ended : Status)
     : Type 0 where
@@ -54,6 +56,8 @@ pub record AreHostedFrom (first : KeptState) (setup : SetupValue) (base : Releas
   pub sessions : Each (IsHosted setup base most first last) before after
   pub chain : IsTheirs base last
   pub left : EachStandsFor saw.may_leave last.batches last.further
+  pub ever : WhereTold saw.content_after
+      (λ _. EachStandsBetween saw.left_since first.since (all_of last.batches last.further))
   pub counted : last.faults ≡ saw.faults_after
   pub reported : IsHostReported (is_none last.further) after (length last.state.chain) out ended
 

@@ -110,11 +110,14 @@ fn serve_ready<
     ensures served { (batches : List (List Edit))
         → custodian.writer.list ≡ batches_of custodian.writer.start.base batches
         → EachStandsFor (D.may_leave disk.old) batches None
-        → AreHostedFrom (after_playing custodian.writer.start.base batches (D.faults disk.old))
+        → AreHostedFrom (after_playing custodian.writer.start.base batches (D.moment disk.old)
+        (D.faults disk.old))
         setting.now.setup.now custodian.writer.start.base sessions ports.old ports.new (record {
           content = D.content disk.old;
+          content_after = D.content disk.new;
           could_leave = D.may_leave disk.old;
           may_leave = D.may_leave disk.new;
+          left_since = D.left_since disk.new;
           faults = D.faults disk.old;
           faults_after = D.faults disk.new;
         }) (output (O.taken out.old) (O.taken out.new) (O.faults out.old) (O.faults out.new))
@@ -168,8 +171,10 @@ fn serve_ports<
     ensures hosts { Hosts setting.now.setup.now custodian.writer.start.base first sessions
         ports.old ports.new (record {
           content = D.content disk.old;
+          content_after = D.content disk.new;
           could_leave = D.may_leave disk.old;
           may_leave = D.may_leave disk.new;
+          left_since = D.left_since disk.new;
           faults = D.faults disk.old;
           faults_after = D.faults disk.new;
         }) (output (O.taken out.old) (O.taken out.new) (O.faults out.old) (O.faults out.new))
@@ -231,8 +236,10 @@ pub fn serve_with_journal<
     ensures hosts { Hosts setting.now.setup.now custodian.writer.start.base first sessions
         (take (workers + 1) net.old) (take (workers + 1) net.new) (record {
           content = D.content disk.old;
+          content_after = D.content disk.new;
           could_leave = D.may_leave disk.old;
           may_leave = D.may_leave disk.new;
+          left_since = D.left_since disk.new;
           faults = D.faults disk.old;
           faults_after = D.faults disk.new;
         }) (output (O.taken out.old) (O.taken out.new) (O.faults out.old) (O.faults out.new))

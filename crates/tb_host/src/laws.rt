@@ -1,7 +1,9 @@
 //! Laws of a server that keeps a journal. Each function does nothing, and its contract is a law.
 
-ghost use Rattle.tb_host.specs.Laws.{IsDurable};
+ghost use Rattle.std.specs.Prelude.{Bool, ℕ};
+ghost use Rattle.tb_host.specs.Laws.{IsDurable, StaysKept};
 
+use tb_disk::Disk;
 use tb_session::laws::numbers_never_fall;
 
 /// No table that an analyst's session printed is of a release that isn't on the disk: the batches
@@ -13,3 +15,12 @@ pub fn what_is_seen_is_durable()
     // What an analyst has seen it sees in all sessions after.
     numbers_never_fall();
 }
+
+/// What a session of the custodian's kept stays kept: each file that a stop since its return may
+/// have left stands for a list of batches that begins with those for which the files stood then,
+/// and is a beginning of those for which they stand now. What batches are written ahead into has
+/// a disk, and is told by it.
+pub fn what_is_kept_stays<W, D: Disk>()
+    ensures { (disk : W → D) (target : W → ℕ) (live : W → Bool) (faults : W → ℕ)
+        → StaysKept disk D.content D.may_leave D.moment D.left_since target live faults }
+{}

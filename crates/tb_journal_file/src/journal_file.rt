@@ -93,7 +93,7 @@ impl<'d, D: Disk> JournalFile<'d, D> {
 }
 
 impl<'d, D: Disk> WriteAhead for JournalFile<'d, D> {
-    ghost use Rattle.tb_journal_file.specs.Files.{CanPut, EachStandsFor};
+    ghost use Rattle.tb_journal_file.specs.Files.{AreLeft, CanPut};
     ghost use Rattle.std.proofs.Common.{inr};
 
     ghost target = { λ f. f.disk.ghost_name };
@@ -105,8 +105,8 @@ impl<'d, D: Disk> WriteAhead for JournalFile<'d, D> {
     ghost IsReady = { λ f. CanPut (D.attached f.disk.now) (D.content f.disk.now)
         (D.may_leave f.disk.now) f.journal };
 
-    ghost StandsFor = { λ f batches further.
-        EachStandsFor (D.may_leave f.disk.now) batches further };
+    ghost StandsFor = { λ f. AreLeft (D.content f.disk.now) (D.may_leave f.disk.now)
+        (D.moment f.disk.now) (D.left_since f.disk.now) };
 
     fn is_live(&self) -> bool {
         self.journal.live()
@@ -124,5 +124,8 @@ impl<'d, D: Disk> WriteAhead for JournalFile<'d, D> {
         self.journal.close();
     }
 
-    ghost further = { λ f batches last stands image left. inr (stands image left) };
+    ghost further = { λ f since batches last is. record {
+      now = λ image left. inr (is.now image left);
+      ever = is.ever;
+    } };
 }

@@ -29,18 +29,19 @@ chain_of s = s.chain
 
 -- a reply to `publish`
 by-publish : (base : ReleaseValue) (old next : KeptState) (text : List ℕ) → IsKeptPublish (release_after base old.state.chain) old text next → IsTheirs base old → IsTheirs base next
-by-publish base old next text (counts, inl ((can, is, goes), live, still, batches)) theirs =
+by-publish base old next text (counts, since, inl ((can, is, goes), live, still, batches)) theirs =
     ap chain_of goes ∙ ap (λ (c : List BatchValue). c ++ batch_of (release_after base c) old.state.held ∷ []) theirs ∙ sym (batches_of-more base old.batches old.state.held) ∙ sym (ap (batches_of base) batches)
-by-publish base old next text (counts, inr (inl ((kind, edit, why, is, goes), (batches, further)))) theirs = ap chain_of goes ∙ theirs ∙ sym (ap (batches_of base) batches)
-by-publish base old next text (counts, inr (inr (inl (can, is, same, inl (closed, (batches, further)))))) theirs = ap chain_of same ∙ theirs ∙ sym (ap (batches_of base) batches)
-by-publish base old next text (counts, inr (inr (inl (can, is, same, inr (risen, (none, batches, further)))))) theirs = ap chain_of same ∙ theirs ∙ sym (ap (batches_of base) batches)
-by-publish base old next text (counts, inr (inr (inr (is, same, inl (batches, further))))) theirs = ap chain_of same ∙ theirs ∙ sym (ap (batches_of base) batches)
-by-publish base old next text (counts, inr (inr (inr (is, same, inr (can, (none, batches, further)))))) theirs = ap chain_of same ∙ theirs ∙ sym (ap (batches_of base) batches)
+by-publish base old next text (counts, since, inr (inl ((kind, edit, why, is, goes), (batches, further)))) theirs = ap chain_of goes ∙ theirs ∙ sym (ap (batches_of base) batches)
+by-publish base old next text (counts, since, inr (inr (inl (can, is, same, inl (closed, (batches, further)))))) theirs = ap chain_of same ∙ theirs ∙ sym (ap (batches_of base) batches)
+by-publish base old next text (counts, since, inr (inr (inl (can, is, same, inr (risen, (none, batches, further)))))) theirs = ap chain_of same ∙ theirs ∙ sym (ap (batches_of base) batches)
+by-publish base old next text (counts, since, inr (inr (inr (is, same, inl (batches, further))))) theirs = ap chain_of same ∙ theirs ∙ sym (ap (batches_of base) batches)
+by-publish base old next text (counts, since, inr (inr (inr (is, same, inr (can, (none, batches, further)))))) theirs = ap chain_of same ∙ theirs ∙ sym (ap (batches_of base) batches)
 
 -- a reply to another line
 same-chain : (what : Asks) (setup : SetupValue) (base : ReleaseValue) (state : StateValue) (line : List ℕ) (reply : ReplyValue) (next : StateValue) → is_publish what ≡ false
     → IsReplyTo what setup base state line reply next → next.chain ≡ state.chain
 same-chain asks.Nothing setup base state line reply next h is = ap chain_of is.1
+same-chain asks.Description setup base state line reply next h is = ap chain_of is.1
 same-chain asks.Table setup base state line reply next h is = ap chain_of is.1
 same-chain (asks.At n) setup base state line reply next h is = ap chain_of is.1
 same-chain asks.Edit setup base state line reply next h is = is.1

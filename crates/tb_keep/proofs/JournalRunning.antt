@@ -4,6 +4,7 @@ use Rattle.std.specs.Prelude.{is_none}
 use Rattle.tb_ahead.specs.Keepers.{IsAt, Reaches}
 use Rattle.tb_ahead.specs.Keeping.{KeptState}
 use Rattle.tb_ahead.specs.Publishing.{StateValue, after_seeing}
+use Rattle.tb_ahead.specs.Puts.{FileStands, Since}
 use Rattle.tb_board.specs.Custodians.{CustodianValue}
 use Rattle.tb_board.specs.Holders.{release_seen}
 use Rattle.tb_board.specs.Starts.{StartValue}
@@ -16,7 +17,8 @@ use Rattle.tb_journal.specs.States.{JournalState}
 use Rattle.tb_journal.specs.Stops.{IsOn}
 use Rattle.tb_journal.proofs.Beginning.{as-one-opened, opened-long}
 use Rattle.tb_journal.proofs.Keeping.{ends-on}
-use Rattle.tb_journal_file.specs.Files.{EachStandsFor, IsFileOf}
+use Rattle.tb_journal_file.specs.Files.{AreLeft, AreLeftSince, EachStandsBetween, EachStandsFor, IsFileOf, all_of}
+use Rattle.tb_journal_file.proofs.Putting.{left_from_now}
 use Rattle.tb_journal_file.proofs.Recovering.{none-read, opened-begins}
 use Rattle.tb_lines.specs.Outputs.{Charged, charged}
 use Rattle.tb_model.specs.Releases.{ReleaseValue}
@@ -35,7 +37,7 @@ use Rattle.tb_keep.specs.JournalRuns.{AreKeptFrom, AreRecovered, ComesAfter, IsJ
 use Rattle.tb_keep.specs.KeptRuns.{IsKeptRun}
 use Rattle.tb_keep.specs.Recoveries.{HasRecovered, JournalSeen}
 use Rattle.tb_keep.specs.Playing.{ArePublished, CanAllFollow, DoesNotFollow, HasPlayed, IsNextRecord, LiesBehind}
-use Rattle.tb_keep.proofs.KeptRunning.{run_counts}
+use Rattle.tb_keep.proofs.KeptRunning.{run_counts, run_since}
 use Rattle.tb_keep.specs.declared.recovery.JournalFault.TheVariants as journal_fault
 use Rattle.tb_keep.specs.declared.journal_run.KeepEnd.TheVariants as keep_end
 use Rattle.tb_keep.specs.declared.playing.Played.TheVariants as played
@@ -136,35 +138,48 @@ module _ (setup : SetupValue) (before opened : Option (List ℕ)) (leads : Leads
       )
 
 -- ---- the lines, from where a custodian stands that published some batches
-module _ {D : Type 0} (may_leave : D → List ℕ → Type 0) (faults : D → ℕ) (old now new : D) (same : new ≡ now) (content : Option (List ℕ)) (setup : SetupValue) (lines : List ScriptLine) (end : RunEnd) (custodian : CustodianValue)
+module _ {D : Type 0} (content : D → Option (List ℕ)) (may_leave : D → List ℕ → Type 0) (moment : D → ℕ) (left_since : D → ℕ → List ℕ → Type 0) (faults : D → ℕ)
+    (old now new : D) (only : (image : List ℕ) → left_since old (moment old) image → may_leave old image) (same : new ≡ now) (had : Option (List ℕ)) (setup : SetupValue) (lines : List ScriptLine) (end : RunEnd) (custodian : CustodianValue)
     (one : Party) (is : one ≡ party.Custodian custodian []) (live later : Bool) (lives : live ≡ true) (state : StateValue) (before after : ℕ) (a b : Option (List ℕ))
-    (reaches : Reaches (IsAt (EachStandsFor (may_leave old)) live (faults old) (state_of one)) (IsAt (EachStandsFor (may_leave now)) later (faults now) state)
+    (reaches : Reaches (IsAt (AreLeft (content old) (may_leave old) (moment old) (left_since old)) live (faults old) (state_of one)) (IsAt (AreLeft (content now) (may_leave now) (moment now) (left_since now)) later (faults now) state)
     (λ first last. IsKeptRun setup (seen_by one).start.base lines end (charged first before) (charged last after) a b)) where
   pub lines-kept : (batches : List (List Edit)) → custodian.writer.list ≡ batches_of (base_of custodian) batches → EachStandsFor (may_leave old) batches None
-      → AreKeptFrom (after_playing (base_of custodian) batches (faults old)) setup (base_of custodian) lines end
-      (record { content = content; may_leave = may_leave new; faults = faults old; faults_after = faults new; steps = before; steps_after = after; taken = a; taken_after = b })
+      → AreKeptFrom (after_playing (base_of custodian) batches (moment old) (faults old)) setup (base_of custodian) lines end
+      (record { content = had; content_after = content new; may_leave = may_leave new; left_since = left_since new; faults = faults old; faults_after = faults new; steps = before; steps_after = after; taken = a; taken_after = b })
   lines-kept batches chain stands =
-      let first = after_playing (base_of custodian) batches (faults old) in
+      let first = after_playing (base_of custodian) batches (moment old) (faults old) in
       let stood : first.state ≡ state_of one = ap after_seeing (sym chain) ∙ ap state_of (sym is) in
-      let (last, at, run) = reaches first (record { same = stood; count = refl; lives = sym lives; stands = stands }) in
+      let left = left_from_now (content old) (may_leave old) (moment old) (left_since old) only batches None stands in
+      let (last, at, run) = reaches first (record { same = stood; count = refl; lives = sym lives; stands = left }) in
+      let watched = run_since setup (seen_by one).start.base (charged first before) (charged last after) lines end a b run in
+      let stands_now = subst (λ (d : D). AreLeft (content d) (may_leave d) (moment d) (left_since d) last.since last.batches last.further) (sym same) at.stands in
       record {
         last = last;
         run = subst (λ (p : Party). IsKeptRun setup (seen_by p).start.base lines end (charged first before) (charged last after) a b) is run;
-        left = subst (λ (d : D). EachStandsFor (may_leave d) last.batches last.further) (sym same) at.stands;
+        left = stands_now.now;
+        ever = λ file told. subst (λ (s : Since). EachStandsBetween (left_since new) s (all_of last.batches last.further)) watched (stands_now.ever file told).each;
         counted = at.count ∙ ap faults (sym same);
       }
 
 -- ---- the run, where all of the file's batches were published
-by-end : (setup : SetupValue) (base : ReleaseValue) (lines : List ScriptLine) (batches : List (List Edit)) (first_faults : ℕ) (saw : JournalRun) (end : RunEnd) → (end ≡ run_end.Memory → IsLeftAsItWas saw) → AreRecovered setup base saw.content batches → saw.faults ≤ first_faults
-    → AreKeptFrom (after_playing base batches first_faults) setup base lines end saw → IsJournalRun setup base lines (keep_end.Ran end) saw
-by-end setup base lines batches first_faults saw run_end.Done left are since kept = record { batches = batches; recovered = are; first_faults = first_faults; since = since; kept = kept }
-by-end setup base lines batches first_faults saw run_end.WriteFault left are since kept = record { batches = batches; recovered = are; first_faults = first_faults; since = since; kept = kept }
-by-end setup base lines batches first_faults saw run_end.Memory left are since kept = ((kept.run.0, ap (λ (c : Charged KeptState). c.steps) kept.run.1), left refl)
+by-end : (setup : SetupValue) (base : ReleaseValue) (lines : List ScriptLine) (batches : List (List Edit)) (first_moment first_faults : ℕ) (saw : JournalRun) (end : RunEnd) → (end ≡ run_end.Memory → IsLeftAsItWas saw) → AreRecovered setup base saw.content batches → saw.faults ≤ first_faults
+    → AreKeptFrom (after_playing base batches first_moment first_faults) setup base lines end saw → IsJournalRun setup base lines (keep_end.Ran end) saw
+by-end setup base lines batches first_moment first_faults saw run_end.Done left are since kept = record { batches = batches; recovered = are; first_moment = first_moment; first_faults = first_faults; since = since; kept = kept }
+by-end setup base lines batches first_moment first_faults saw run_end.WriteFault left are since kept = record { batches = batches; recovered = are; first_moment = first_moment; first_faults = first_faults; since = since; kept = kept }
+by-end setup base lines batches first_moment first_faults saw run_end.Memory left are since kept = ((kept.run.0, ap (λ (c : Charged KeptState). c.steps) kept.run.1), left refl)
 
 -- what is seen of a disk from one moment to another
-module _ {D : Type 0} (content : D → Option (List ℕ)) (may_leave : D → List ℕ → Type 0) (faults : D → ℕ) where
+module _ {D : Type 0} (content : D → Option (List ℕ)) (may_leave : D → List ℕ → Type 0) (left_since : D → ℕ → List ℕ → Type 0) (faults : D → ℕ) where
   abbrev pub seen : D → D → JournalSeen
-  seen old new = record { content = content old; could_leave = may_leave old; may_leave = may_leave new; faults = faults old; faults_after = faults new }
+  seen old new = record {
+    content = content old;
+    content_after = content new;
+    could_leave = may_leave old;
+    may_leave = may_leave new;
+    left_since = left_since new;
+    faults = faults old;
+    faults_after = faults new;
+  }
 
   -- a custodian that published all
   module _ (setup : SetupValue) (first last : CustodianValue) (none : first.writer.list ≡ []) (before opened played_by : D) (leads : Leads (content before) (content opened) IsOpened) (ours : WhereTold (content before) IsOurs)
@@ -182,28 +197,39 @@ module _ {D : Type 0} (content : D → Option (List ℕ)) (may_leave : D → Lis
 
   -- and the lines that are answered from there
   module _ (setup : SetupValue) (base : ReleaseValue) (custodian : CustodianValue) (before played_by new : D) (r : HasRecovered setup base (seen before played_by) custodian)
-      (lines : List ScriptLine) (end : RunEnd) (untouched : end ≡ run_end.Memory → new ≡ played_by) (steps steps_after : ℕ) (taken taken_after : Option (List ℕ))
+      (lines : List ScriptLine) (end : RunEnd) (untouched : end ≡ run_end.Memory → new ≡ played_by) (moment steps steps_after : ℕ) (taken taken_after : Option (List ℕ))
       (runs : (batches : List (List Edit)) → custodian.writer.list ≡ batches_of (base_of custodian) batches → EachStandsFor (may_leave played_by) batches None
-      → AreKeptFrom (after_playing (base_of custodian) batches (faults played_by)) setup (base_of custodian) lines end
-      (record { content = content played_by; may_leave = may_leave new; faults = faults played_by; faults_after = faults new; steps = steps; steps_after = steps_after; taken = taken; taken_after = taken_after })) where
+      → AreKeptFrom (after_playing (base_of custodian) batches moment (faults played_by)) setup (base_of custodian) lines end
+      (record { content = content played_by; content_after = content new; may_leave = may_leave new; left_since = left_since new; faults = faults played_by; faults_after = faults new; steps = steps; steps_after = steps_after; taken = taken; taken_after = taken_after })) where
     abbrev seen_since : D → JournalRun
-    seen_since old = record { content = content old; may_leave = may_leave new; faults = faults old; faults_after = faults new; steps = steps; steps_after = steps_after; taken = taken; taken_after = taken_after }
+    seen_since old = record {
+      content = content old;
+      content_after = content new;
+      may_leave = may_leave new;
+      left_since = left_since new;
+      faults = faults old;
+      faults_after = faults new;
+      steps = steps;
+      steps_after = steps_after;
+      taken = taken;
+      taken_after = taken_after;
+    }
 
     -- from where it stands that published them
-    kept : AreKeptFrom (after_playing base r.batches (faults played_by)) setup base lines end (seen_since played_by)
+    kept : AreKeptFrom (after_playing base r.batches moment (faults played_by)) setup base lines end (seen_since played_by)
     kept =
         let chain = r.chain ∙ sym (ap (λ (b : ReleaseValue). batches_of b r.batches) r.start) in
-        subst (λ (b : ReleaseValue). AreKeptFrom (after_playing b r.batches (faults played_by)) setup b lines end (seen_since played_by)) r.start (runs r.batches chain r.left)
+        subst (λ (b : ReleaseValue). AreKeptFrom (after_playing b r.batches moment (faults played_by)) setup b lines end (seen_since played_by)) r.start (runs r.batches chain r.left)
 
     pub all-ran : faults before ≤ faults played_by → IsJournalRun setup base lines (keep_end.Ran end) (seen_since before)
     all-ran since =
-        by-end setup base lines r.batches (faults played_by) (seen_since before) end
+        by-end setup base lines r.batches moment (faults played_by) (seen_since before) end
         (λ is. subst (λ (d : D). WhereTold (content before) (λ file. Only (opened_file file) (may_leave d))) (sym (untouched is)) r.same)
         r.recovered since
-        (record { last = kept.last; run = kept.run; left = kept.left; counted = kept.counted })
+        (record { last = kept.last; run = kept.run; left = kept.left; ever = kept.ever; counted = kept.counted })
 
     -- the disk's count didn't fall
     pub all-counted : faults played_by ≤ faults new
     all-counted =
-        let counts = run_counts setup base (charged (after_playing base r.batches (faults played_by)) steps) (charged kept.last steps_after) lines end taken taken_after kept.run in
+        let counts = run_counts setup base (charged (after_playing base r.batches moment (faults played_by)) steps) (charged kept.last steps_after) lines end taken taken_after kept.run in
         omega (arith, counts, kept.counted)

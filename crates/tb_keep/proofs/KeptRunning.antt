@@ -126,7 +126,7 @@ module _ {W : Type 0} (target : W → ℕ) (live : W → Bool) (faults : W → �
 -- ---- the disk's count doesn't fall
 module _ (setup : SetupValue) (base : ReleaseValue) where
   pub own_counts : (asks : Bool) (old next : KeptState) (line : List ℕ) (reply : ReplyValue) → IsKeptStep asks (IsOwnStep setup base) base old line reply next → old.faults ≤ next.faults
-  own_counts true old next line reply (price, (counts, is)) = counts
+  own_counts true old next line reply (price, (counts, since, is)) = counts
   own_counts false old next line reply (is, same) = omega (arith, ap (λ (s : KeptState). s.faults) same)
 
   role_counts : (who : Role) (old next : KeptState) (line : List ℕ) (reply : ReplyValue) → IsKeptStepOf who setup base old line reply next → old.faults ≤ next.faults
@@ -144,3 +144,25 @@ module _ (setup : SetupValue) (base : ReleaseValue) where
     run_counts lines run_end.Done a b h = lead_counts _ _ h.legal
     run_counts lines run_end.WriteFault a b h = lead_counts _ _ h.legal
     run_counts lines run_end.Memory a b (none, same) = omega (arith, ap (λ (c : Charged KeptState). c.at.faults) same)
+
+-- ---- since when it is watched what a stop leaves stays
+module _ (setup : SetupValue) (base : ReleaseValue) where
+  pub own_since : (asks : Bool) (old next : KeptState) (line : List ℕ) (reply : ReplyValue) → IsKeptStep asks (IsOwnStep setup base) base old line reply next → next.since ≡ old.since
+  own_since true old next line reply (price, (counts, since, is)) = since
+  own_since false old next line reply (is, same) = ap (λ (s : KeptState). s.since) same
+
+  role_since : (who : Role) (old next : KeptState) (line : List ℕ) (reply : ReplyValue) → IsKeptStepOf who setup base old line reply next → next.since ≡ old.since
+  role_since role.Custodian old next line reply step = own_since (asks_to_publish line) old next line reply step
+  role_since role.Analyst old next line reply (same, is) = ap (λ (s : KeptState). s.since) same
+
+  module _ (first last : Charged KeptState) where
+    lead_since : (lines : List ScriptLine) (replies : List ReplyValue) → Lead (AtPrice (IsKeptReply setup base)) first lines replies last → last.at.since ≡ first.at.since
+    lead_since lines replies lead =
+        lines-keep (AtPrice (IsKeptReply setup base)) (λ (c : Charged KeptState). c.at.since ≡ first.at.since)
+        (λ old next line reply step so_far. role_since (role_of_lane line.lane) old.at next.at line.line reply step.0 ∙ so_far)
+        first last lines replies lead refl
+
+    pub run_since : (lines : List ScriptLine) (end : RunEnd) (a b : Option (List ℕ)) → IsKeptRun setup base lines end first last a b → last.at.since ≡ first.at.since
+    run_since lines run_end.Done a b h = lead_since _ _ h.legal
+    run_since lines run_end.WriteFault a b h = lead_since _ _ h.legal
+    run_since lines run_end.Memory a b (none, same) = ap (λ (c : Charged KeptState). c.at.since) same

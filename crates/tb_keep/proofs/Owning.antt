@@ -72,6 +72,7 @@ none-held next chain goes = subst AreWritable (sym goes) (All-nil CanBeWritten)
 writable-after : (what : Asks) (setup : SetupValue) (base : ReleaseValue) (state : StateValue) (line : List ℕ) (reply : ReplyValue) (next : StateValue) → length setup.schema.variables ≤ MOST_PARTS
     → IsReplyTo what setup base state line reply next → AreWritable state → AreWritable next
 writable-after asks.Nothing setup base state line reply next few is held = subst AreWritable (sym is.1) held
+writable-after asks.Description setup base state line reply next few is held = subst AreWritable (sym is.1) held
 writable-after asks.Table setup base state line reply next few is held = subst AreWritable (sym is.1) held
 writable-after (asks.At n) setup base state line reply next few is held = subst AreWritable (sym is.1) held
 writable-after asks.Edit setup base state line reply next few (price, chain, inl (edit, reads, room, text, after)) held =

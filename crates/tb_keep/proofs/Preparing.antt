@@ -11,6 +11,7 @@ use Rattle.tb_keep.specs.Publishers.{CanWriteAhead, is_publish}
 -- what is to publish
 pub to_publish : (what : Asks) → is_publish what ≡ true → what ≡ asks.Publish
 to_publish asks.Nothing h = absurd cc
+to_publish asks.Description h = absurd cc
 to_publish asks.Table h = absurd cc
 to_publish (asks.At n) h = absurd cc
 to_publish asks.Edit h = absurd cc

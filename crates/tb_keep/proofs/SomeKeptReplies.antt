@@ -26,6 +26,7 @@ use Rattle.tb_keep.specs.Publishers.{IsOwnStep, asks_to_publish}
 stays_by : (what : Asks) (setup : SetupValue) (base : ReleaseValue) (state : StateValue) (line : List ℕ) (reply : ReplyValue) (next : StateValue) → IsReplyTo what setup base state line reply next
     → (other : ReplyValue) × IsReplyTo what setup base state line other state
 stays_by asks.Nothing setup base state line reply next (is, same) = (reply, (is, refl))
+stays_by asks.Description setup base state line reply next (is, same) = (reply, (is, refl))
 stays_by asks.Table setup base state line reply next (is, same) = (reply, (is, refl))
 stays_by (asks.At n) setup base state line reply next (is, same) = (reply, (is, refl))
 stays_by asks.Edit setup base state line reply next is = (free_reply memory_line, (refl, refl, inr (refl, inr (inr refl))))
@@ -41,7 +42,7 @@ module _ (setup : SetupValue) (base : ReleaseValue) where
 
   -- to `publish` of a custodian who writes ahead it is that memory was refused, and nothing put
   own_stays : (asks : Bool) (s : KeptState) (line : List ℕ) → (reply : ReplyValue) × IsKeptStep asks (IsOwnStep setup base) base s line reply s
-  own_stays true s line = (free_reply memory_line, (refl, (omega arith, inr (inr (inr (refl, refl, inl (refl, refl)))))))
+  own_stays true s line = (free_reply memory_line, (refl, (omega arith, refl, inr (inr (inr (refl, refl, inl (refl, refl)))))))
   own_stays false s line = let (reply, is) = stays role.Custodian s.state line in (reply, ((s.state, refl, is), refl))
 
   role_stays : (who : Role) (s : KeptState) (line : List ℕ) → (reply : ReplyValue) × IsKeptStepOf who setup base s line reply s

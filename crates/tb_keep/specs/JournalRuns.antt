@@ -7,7 +7,7 @@ use Rattle.tb_ahead.specs.Publishing.{after_seeing}
 use Rattle.tb_disk.specs.Images.{Only, WhereTold}
 use Rattle.tb_journal.specs.Opening.{IsForeign, header, opened_file}
 use Rattle.tb_journal.specs.Reading.{IsBad}
-use Rattle.tb_journal_file.specs.Files.{EachStandsFor, IsFileOf}
+use Rattle.tb_journal_file.specs.Files.{EachStandsBetween, EachStandsFor, IsFileOf, all_of}
 use Rattle.tb_keep.specs.Chains.{batches_of}
 use Rattle.tb_keep.specs.KeptRuns.{IsKeptRun}
 use Rattle.tb_keep.specs.Playing.{CanAllFollow, DoesNotFollow, HasRecord, IsNextRecord}
@@ -34,13 +34,15 @@ pub record AreRecovered (setup : SetupValue) (base : ReleaseValue) (content : Op
   pub each : WhereTold content (λ _. AllByRecursion HasRecord batches)
   pub follow : CanAllFollow setup base batches
 
--- where a custodian stands that has published them, with a live journal, and holds no edits
-abbrev pub after_playing : ReleaseValue → List (List Edit) → ℕ → KeptState
-after_playing base batches faults = record {
+-- where a custodian stands that has published them, with a live journal, and holds no edits: from
+-- this moment on it is watched what a stop leaves
+abbrev pub after_playing : ReleaseValue → List (List Edit) → (moment faults : ℕ) → KeptState
+after_playing base batches moment faults = record {
   state = after_seeing (batches_of base batches);
   batches = batches;
   further = None;
   faults = faults;
+  since = record { moment = moment; batches = batches };
 }
 
 -- the record of number r, from 1, is at this place of a journal's file: before it are these
@@ -66,12 +68,15 @@ IsJournalFault setup base file (journal_fault.DoesNotFollow r) =
     × IsNextRecord (opened_file file) place edits
     × DoesNotFollow setup (release_after base (batches_of base batches)) edits
 
--- what is seen of a run with a journal: what its file had, where that is told; what a stop at its
--- end may leave; and before and after it the disk's count of faults, how far the counter of steps
--- has come, and the bytes that the sink took, where it tells them
+-- what is seen of a run with a journal: what its file had, and what a read gives at the end, where
+-- they are told; what a stop at its end may leave, and what one since a moment may have left; and
+-- before and after it the disk's count of faults, how far the counter of steps has come, and the
+-- bytes that the sink took, where it tells them
 pub record JournalRun : Type 1 where
   pub content : Option (List ℕ)
+  pub content_after : Option (List ℕ)
   pub may_leave : List ℕ → Type 0
+  pub left_since : ℕ → List ℕ → Type 0
   pub faults : ℕ
   pub faults_after : ℕ
   pub steps : ℕ
@@ -81,13 +86,16 @@ pub record JournalRun : Type 1 where
 
 -- The lines of a script were answered, by how that ended, from where the custodian stood first.
 -- Each file that a stop now may leave stands for the batches to which the replies led, and at most
--- one further batch.
+-- one further batch; and what a stop since then may have left, for a beginning of them that has all
+-- that he had then.
 pub record AreKeptFrom (first : KeptState) (setup : SetupValue) (base : ReleaseValue)
     (lines : List ScriptLine) (end : RunEnd) (saw : JournalRun) : Type 0 where
   pub last : KeptState
   pub run : IsKeptRun setup base lines end (charged first saw.steps) (charged last saw.steps_after)
       saw.taken saw.taken_after
   pub left : EachStandsFor saw.may_leave last.batches last.further
+  pub ever : WhereTold saw.content_after
+      (λ _. EachStandsBetween saw.left_since first.since (all_of last.batches last.further))
   pub counted : last.faults ≡ saw.faults_after
 
 -- and first it had published the batches of the journal's file, and the journal was live
@@ -95,9 +103,11 @@ pub record AreLinesKept (setup : SetupValue) (base : ReleaseValue) (lines : List
     (end : RunEnd) (saw : JournalRun) : Type 0 where
   pub batches : List (List Edit)
   pub recovered : AreRecovered setup base saw.content batches
+  pub first_moment : ℕ
   pub first_faults : ℕ
   pub since : saw.faults ≤ first_faults
-  pub kept : AreKeptFrom (after_playing base batches first_faults) setup base lines end saw
+  pub kept : AreKeptFrom (after_playing base batches first_moment first_faults) setup base lines
+      end saw
 
 -- no line was answered
 abbrev pub IsNoneAnswered : JournalRun → Type 0

@@ -27,6 +27,7 @@ of_publish : (what : Asks) (setup : SetupValue) (base : ReleaseValue) (state : S
     → IsReplyTo what setup base state line reply next
     → (reply.price ≡ 0) × IsPublishReply (release_after base state.chain) state reply.text next
 of_publish asks.Nothing setup base state line reply next h is = absurd (never h)
+of_publish asks.Description setup base state line reply next h is = absurd (never h)
 of_publish asks.Table setup base state line reply next h is = absurd (never h)
 of_publish (asks.At n) setup base state line reply next h is = absurd (never h)
 of_publish asks.Edit setup base state line reply next h is = absurd (never h)

@@ -22,6 +22,7 @@ pub record CanWriteAhead (name : Name) (shape : List ℕ) (party : Party) : Type
 -- whether it is to publish
 abbrev pub is_publish : Asks → Bool
 is_publish asks.Nothing = false
+is_publish asks.Description = false
 is_publish asks.Table = false
 is_publish (asks.At n) = false
 is_publish asks.Edit = false

@@ -14,12 +14,15 @@ use Rattle.tb_model.specs.Releases.{ReleaseValue}
 use Rattle.tb_model.specs.Setups.{SetupValue}
 use Rattle.tb_release.specs.declared.edits.Edit.{Edit}
 
--- what is seen of a journal's disk: what its file had at first, where that is told; what a stop
--- could leave then, and what one may leave now; and its count of faults, then and now
+-- what is seen of a journal's disk: what its file had at first, and what a read gives now, where
+-- they are told; what a stop could leave then, what one may leave now, and what one since a moment
+-- may have left; and its count of faults, then and now
 pub record JournalSeen : Type 1 where
   pub content : Option (List ℕ)
+  pub content_after : Option (List ℕ)
   pub could_leave : List ℕ → Type 0
   pub may_leave : List ℕ → Type 0
+  pub left_since : ℕ → List ℕ → Type 0
   pub faults : ℕ
   pub faults_after : ℕ
 

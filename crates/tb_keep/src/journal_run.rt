@@ -63,10 +63,13 @@ fn run_played<B: Named, D: Disk, R: Threads + Wait + Sync, K: Sink, L: Ledger>(
     ensures run { (batches : List (List Edit))
         → custodian.writer.list ≡ batches_of custodian.writer.start.base batches
         → EachStandsFor (D.may_leave disk.old) batches None
-        → AreKeptFrom (after_playing custodian.writer.start.base batches (D.faults disk.old))
+        → AreKeptFrom (after_playing custodian.writer.start.base batches (D.moment disk.old)
+        (D.faults disk.old))
         setting.now.setup.now custodian.writer.start.base script.now.lines result (record {
           content = D.content disk.old;
+          content_after = D.content disk.new;
           may_leave = D.may_leave disk.new;
+          left_since = D.left_since disk.new;
           faults = D.faults disk.old;
           faults_after = D.faults disk.new;
           steps = steps.old;
@@ -132,7 +135,9 @@ pub fn run_with_journal<B: Named, D: Disk, R: Threads + Wait + Sync, K: Sink, L:
     ensures run { IsJournalRun setting.now.setup.now custodian.writer.start.base
         script.now.lines result (record {
           content = D.content disk.old;
+          content_after = D.content disk.new;
           may_leave = D.may_leave disk.new;
+          left_since = D.left_since disk.new;
           faults = D.faults disk.old;
           faults_after = D.faults disk.new;
           steps = steps.old;

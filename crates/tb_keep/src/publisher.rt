@@ -61,6 +61,7 @@ fn is_to_publish(line: &[u8]) -> bool
     match asks_of(Role::Custodian, line) {
         Asks::Publish => true,
         Asks::Nothing
+        | Asks::Description
         | Asks::Table
         | Asks::At(_)
         | Asks::Edit

@@ -53,8 +53,10 @@ pub fn recover<B: Named, D: Disk, R: Threads + Wait + Sync>(
         (D.may_leave disk.new) journal) }
     ensures recovered { IsRecovery setting.now.setup.now custodian.old.writer.start.base (record {
       content = D.content disk.old;
+      content_after = D.content disk.new;
       could_leave = D.may_leave disk.old;
       may_leave = D.may_leave disk.new;
+      left_since = D.left_since disk.new;
       faults = D.faults disk.old;
       faults_after = D.faults disk.new;
     }) custodian.new result }

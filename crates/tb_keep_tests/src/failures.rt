@@ -1,13 +1,14 @@
 // Calls of the disk that fail: one before the first line ends the run, and one in a publication
 // leaves it unkept.
 
-use super::running::{Left, ends_so, keep};
+use super::running::{Left, ends_so, is_left, keep};
 use super::worked::{AFTER, BEFORE, DROP_104, SEX};
 use std::alloc::Global;
 use std::sync::Wait;
 use std::test::Fail;
 use std::thread::Threads;
 use tb_base::Memory;
+use tb_comparison::{is_either_text, is_status};
 
 // How many calls one publication makes: two writes and two syncs.
 const OF_ONE: u32 = 4;
@@ -17,15 +18,18 @@ const UNKEPT: &[u8] = b"held 1\nunkept\nrelease 0\nSEX,count\n1,1\n2,2\n.\n";
 
 /// Whether a run over this file has no batch, or the one that drops a person: only that one where it
 /// was acknowledged.
-pub fn stands<R: Threads + Wait + Sync>(
+pub fn stands<R: Threads + Wait + Sync + Eprint>(
     rt: &R,
     alloc: Global,
     file: &[u8],
     acknowledged: bool,
 ) -> Result<bool, Memory> {
     let left = keep(rt, alloc, file, &[], SEX)?;
-    let text = left.text.as_slice();
-    Ok(left.status == 0 && (text == AFTER || (!acknowledged && text == BEFORE)))
+    if acknowledged {
+        return Ok(is_left(rt, &left, 0, AFTER));
+    }
+    let same = is_status(rt, left.status, 0);
+    Ok(is_either_text(rt, left.text.as_slice(), AFTER, BEFORE) && same)
 }
 
 // What becomes of edits whose publication isn't kept: the script, and what is written.
@@ -59,7 +63,7 @@ fn fourth_sync<R: Threads + Wait + Sync>(rt: &R, alloc: Global) -> Result<u32, M
 }
 
 // Whether the file that is left where this call fails has no batch or one.
-fn leaves_one_at_most<R: Threads + Wait + Sync>(
+fn leaves_one_at_most<R: Threads + Wait + Sync + Eprint>(
     rt: &R,
     alloc: Global,
     call: u32,
@@ -88,23 +92,23 @@ fn calls_of<R: Threads + Wait + Sync>(rt: &R, alloc: Global) -> Result<u32, Memo
 }
 
 // Whether a run of so many calls, this one of which failed, ended as it must.
-fn ended_so(left: &Left, call: u32, calls: u32) -> bool {
+fn ended_so(rt: &impl Eprint, left: &Left, call: u32, calls: u32) -> bool {
     if call.saturating_add(OF_ONE) <= calls {
-        left.status == 12 && left.text.as_slice() == b"fault disk\n".as_slice()
+        is_left(rt, left, 12, b"fault disk\n")
     } else {
-        left.status == 0 && left.text.as_slice() == UNKEPT
+        is_left(rt, left, 0, UNKEPT)
     }
 }
 
 // Whether the run ends as it must where this call fails, and its file has no batch or one.
-fn is_told<R: Threads + Wait + Sync>(
+fn is_told<R: Threads + Wait + Sync + Eprint>(
     rt: &R,
     alloc: Global,
     call: u32,
     calls: u32,
 ) -> Result<bool, Memory> {
     let left = keep(rt, alloc, b"", &[call], DROP_104)?;
-    Ok(ended_so(&left, call, calls) && stands(rt, alloc, left.file.as_slice(), false)?)
+    Ok(ended_so(rt, &left, call, calls) && stands(rt, alloc, left.file.as_slice(), false)?)
 }
 
 #[test]

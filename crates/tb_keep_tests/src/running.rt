@@ -1,86 +1,20 @@
 // Runs of `keep` over the small setup, with its journal in the file of a disk in memory.
 
-ghost use Rattle.std.specs.Prelude.{◌≡◌, ◌<◌, ◌+◌, All, IfOk, false, vec_len};
+ghost use Rattle.std.specs.Prelude.{◌≡◌, false};
 ghost use Rattle.tb_mem_disk.specs.HeldDisk.{HeldDisk};
-ghost use Rattle.tb_serve.specs.Stages.{IsFresh};
-ghost use Rattle.tb_top.specs.declared.service.TheConstants.{MOST_WORKERS};
 
 use std::alloc::Global;
-use std::marker::Brand;
 use std::sync::Wait;
-use std::sync::ledger::{Blank, Ledger};
 use std::thread::Threads;
-use tb_base::{Memory, Status, Steps};
-use tb_io::{MemListen, SureFiles, SureSink};
+use tb_base::{Memory, Status};
+use tb_comparison::{is_status, is_text};
+use tb_io::{SureFiles, SureSink};
 use tb_mem_disk::MemDisk;
-use tb_serve::Port;
-use tb_small::{CLASSES, PEOPLE, PTABLE, RECODES};
-use tb_top::MOST_WORKERS;
-use tb_top::laws::run_surely;
-
-// A listener to which no session is to come.
-fn quiet(alloc: Global) -> Result<Port<MemListen>, Memory>
-    ensures { IfOk result IsFresh }
-{
-    Ok(Port::of(MemListen::new(alloc, false, Vec::new(alloc), &[])?))
-}
-
-// As many as a run has ports.
-fn quiet_ports(alloc: Global) -> Result<Vec<Port<MemListen>>, Memory>
-    ensures ports { IfOk result (λ net. vec_len net ≡ MOST_WORKERS + 1) }
-    ensures fresh { IfOk result (λ net. All IsFresh net.items) }
-{
-    let mut net = Vec::new(alloc);
-    for _ in 0..=MOST_WORKERS {
-        net.push(quiet(alloc)?)?;
-    }
-    Ok(net)
-}
-
-// A run with a counter of its own.
-fn count_surely<R: Threads + Wait + Sync, L: Ledger>(
-    rt: &R,
-    alloc: Global,
-    words: &[String],
-    files: &mut SureFiles,
-    out: &mut SureSink,
-    net: &mut Vec<Port<MemListen>>,
-    disk: &mut MemDisk,
-    blank: Blank,
-) -> Status
-    requires ports { vec_len net.old ≡ MOST_WORKERS + 1 }
-    requires fresh { All IsFresh net.old.items }
-    requires attached { disk.old.attached ≡ false }
-    requires name { blank.name ≡ L.name }
-    requires parts { blank.parts ≡ L.parts }
-    requires some { 0 < L.parts }
-{
-    let mut steps = Steps::<L>::new(blank);
-    run_surely(rt, alloc, words, files, out, net, disk, &mut steps)
-}
-
-// A run with ports of its own.
-fn over_ports<R: Threads + Wait + Sync>(
-    rt: &R,
-    alloc: Global,
-    words: &[String],
-    files: &mut SureFiles,
-    out: &mut SureSink,
-    disk: &mut MemDisk,
-) -> Result<Status, Memory>
-    requires { disk.old.attached ≡ false }
-{
-    let mut net = quiet_ports(alloc)?;
-    Ok(count_surely::<R, Brand>(rt, alloc, words, files, out, &mut net, disk, Blank::new(1)))
-}
+use tb_small_runs::{run_with_disk, small_files, words_of};
 
 // The small setup, and a script.
 fn files_of(alloc: Global, script: &[u8]) -> Result<SureFiles, Memory> {
-    let mut files = SureFiles::new(alloc);
-    files.hold("classes", CLASSES)?;
-    files.hold("recodes", RECODES)?;
-    files.hold("ptable", PTABLE)?;
-    files.hold("people", PEOPLE)?;
+    let mut files = small_files(alloc)?;
     files.hold("script", script)?;
     Ok(files)
 }
@@ -97,15 +31,7 @@ fn over_files<R: Threads + Wait + Sync>(
     requires { disk.old.attached ≡ false }
 {
     let mut files = files_of(alloc, script)?;
-    over_ports(rt, alloc, words, &mut files, out, disk)
-}
-
-fn words_of(alloc: Global, arguments: &str) -> Result<Vec<String>, Memory> {
-    let mut words = Vec::new(alloc);
-    for word in arguments.split(' ') {
-        words.push(String::from_str(alloc, word)?)?;
-    }
-    Ok(words)
+    run_with_disk(rt, alloc, words, &mut files, out, disk)
 }
 
 // A run over this disk, which writes into `out`.
@@ -180,8 +106,16 @@ pub fn keep<R: Threads + Wait + Sync>(
     })
 }
 
-/// Whether a run ends with this status and writes this text.
-pub fn ends_so<R: Threads + Wait + Sync>(
+/// Whether a run ended with this status and wrote this text. Where it didn't, both are printed
+/// beside what came.
+pub fn is_left(rt: &impl Eprint, left: &Left, status: u8, text: &[u8]) -> bool {
+    let same = is_status(rt, left.status, status);
+    is_text(rt, left.text.as_slice(), text) && same
+}
+
+/// The same of a run with this script over a journal's file that has these bytes, where the disk's
+/// calls with these numbers fail.
+pub fn ends_so<R: Threads + Wait + Sync + Eprint>(
     rt: &R,
     alloc: Global,
     file: &[u8],
@@ -191,5 +125,5 @@ pub fn ends_so<R: Threads + Wait + Sync>(
     text: &[u8],
 ) -> Result<bool, Memory> {
     let left = keep(rt, alloc, file, fails, script)?;
-    Ok(left.status == status && left.text.as_slice() == text)
+    Ok(is_left(rt, &left, status, text))
 }

@@ -41,7 +41,11 @@ fn goes_on<R: Threads + Wait + Sync>(rt: &R, alloc: Global, file: &[u8]) -> Resu
 }
 
 // Whether a stop after that call leaves no batch, or the one that is asked for.
-fn stop_stands<R: Threads + Wait + Sync>(rt: &R, alloc: Global, last: u32) -> Result<bool, Memory> {
+fn stop_stands<R: Threads + Wait + Sync + Eprint>(
+    rt: &R,
+    alloc: Global,
+    last: u32,
+) -> Result<bool, Memory> {
     let left = stopped_after(rt, alloc, last)?;
     let file = left.file.as_slice();
     Ok(stands(rt, alloc, file, acknowledges(&left))? && goes_on(rt, alloc, file)?)
@@ -83,7 +87,7 @@ fn masks(old: &[u8], new: &[u8]) -> u32 {
 }
 
 // Whether what is torn so leaves no batch, or the one that is asked for.
-fn image_stands<R: Threads + Wait + Sync>(
+fn image_stands<R: Threads + Wait + Sync + Eprint>(
     rt: &R,
     alloc: Global,
     old: &[u8],
@@ -97,7 +101,7 @@ fn image_stands<R: Threads + Wait + Sync>(
 
 // The same of all that may be torn of a write that led from the old file to the new one: each of its
 // bytes is the old one or the new one, and of those past the old end there are any number.
-fn torn_stands<R: Threads + Wait + Sync>(
+fn torn_stands<R: Threads + Wait + Sync + Eprint>(
     rt: &R,
     alloc: Global,
     old: &[u8],
@@ -116,7 +120,7 @@ fn torn_stands<R: Threads + Wait + Sync>(
 }
 
 // The same of a stop in that call, after a run that stopped before it.
-fn next_stands<R: Threads + Wait + Sync>(
+fn next_stands<R: Threads + Wait + Sync + Eprint>(
     rt: &R,
     alloc: Global,
     before: &Left,
@@ -128,7 +132,7 @@ fn next_stands<R: Threads + Wait + Sync>(
 }
 
 // The same of a stop in the call after that one.
-fn stop_within_stands<R: Threads + Wait + Sync>(
+fn stop_within_stands<R: Threads + Wait + Sync + Eprint>(
     rt: &R,
     alloc: Global,
     last: u32,

@@ -1,11 +1,12 @@
 // Worked runs, each over a journal's file of given bytes, and two runs one after another.
 
-use super::running::{ends_so, keep};
+use super::running::{ends_so, is_left, keep};
 use std::alloc::Global;
 use std::sync::Wait;
 use std::test::Fail;
 use std::thread::Threads;
 use tb_base::Memory;
+use tb_comparison::is_text;
 
 /// A batch that drops one person, and a table.
 pub const DROP_104: &[u8] = b"custodian drop 104\ncustodian publish\na table SEX\n";
@@ -193,14 +194,16 @@ fn pairs() -> &'static [Pair] {
 
 // Whether a run with one publication leaves the journal of one batch, and one over that prints the
 // table after it.
-fn keeps_one_batch<R: Threads + Wait + Sync>(rt: &R, alloc: Global) -> Result<bool, Memory> {
+fn keeps_one_batch<R: Threads + Wait + Sync + Eprint>(
+    rt: &R,
+    alloc: Global,
+) -> Result<bool, Memory> {
     let left = keep(rt, alloc, b"", &[], DROP_104)?;
     let text = b"held 1\npublished 1\nrelease 1\nSEX,count\n1,1\n2,0\n.\n".as_slice();
     let file = left.file.as_slice();
     Ok(
-        left.status == 0
-            && left.text.as_slice() == text
-            && file == ONE_BATCH
+        is_left(rt, &left, 0, text)
+            && is_text(rt, file, ONE_BATCH)
             && ends_so(rt, alloc, file, &[], SEX, 0, AFTER)?,
     )
 }
@@ -221,7 +224,7 @@ fn worked_runs(rt: HostRuntime) -> Result<(), Fail> {
 }
 
 // Whether the second of two runs, over the file that the first left, writes this text.
-fn writes_then<R: Threads + Wait + Sync>(
+fn writes_then<R: Threads + Wait + Sync + Eprint>(
     rt: &R,
     alloc: Global,
     first: &[u8],
@@ -242,7 +245,7 @@ fn two_runs(rt: HostRuntime) -> Result<(), Fail> {
 }
 
 // Whether a run leaves this file.
-fn leaves<R: Threads + Wait + Sync>(
+fn leaves<R: Threads + Wait + Sync + Eprint>(
     rt: &R,
     alloc: Global,
     file: &[u8],
@@ -250,7 +253,7 @@ fn leaves<R: Threads + Wait + Sync>(
     wanted: &[u8],
 ) -> Result<bool, Memory> {
     let left = keep(rt, alloc, file, &[], script)?;
-    Ok(left.file.as_slice() == wanted)
+    Ok(is_text(rt, left.file.as_slice(), wanted))
 }
 
 #[test]

@@ -15,7 +15,8 @@ use Rattle.tb_lines.specs.Outputs.{ReplyValue, text_of}
 use Rattle.tb_ahead.specs.Publishing.{StateValue, after_seeing}
 use Rattle.tb_session.specs.Replies.{IsReplyTo}
 use Rattle.tb_session.specs.ReplyLines.{cleared_line, stats_line}
-use Rattle.tb_session.specs.Transcripts.{IsLegal, Sees}
+use Rattle.tb_session.specs.Transcripts.{IsLegal}
+use Rattle.tb_session.proofs.Analysts.{sees_itself}
 use Rattle.tb_session.specs.declared.party.Role.{Role}
 use Rattle.tb_session.specs.declared.party.Role.TheVariants as role
 use Rattle.tb_tables.specs.Answers.{free_reply}
@@ -25,6 +26,7 @@ use Rattle.tb_tables.specs.ReplyLines.{memory_line}
 reply_in_place : (what : Asks) (setup : SetupValue) (base : ReleaseValue) (state : StateValue) (line : List ℕ)
     → (reply : ReplyValue) × IsReplyTo what setup base state line reply state
 reply_in_place asks.Nothing setup base state line = (free_reply [], (refl, refl))
+reply_in_place asks.Description setup base state line = (free_reply memory_line, ((refl, inr refl), refl))
 reply_in_place asks.Table setup base state line = (free_reply memory_line, (inr (refl, inr refl), refl))
 reply_in_place (asks.At n) setup base state line = (free_reply memory_line, (inr (refl, inr refl), refl))
 reply_in_place asks.Edit setup base state line = (free_reply memory_line, (refl, refl, inr (refl, inr (inr refl))))
@@ -51,10 +53,6 @@ reply_in_place asks.Stats setup base state line =
 reply_in_place asks.Clear setup base state line = (free_reply cleared_line, (refl, refl))
 reply_in_place (asks.Cache capacity) setup base state line = (free_reply memory_line, (refl, inr refl, refl))
 
-sees_itself : (who : Role) (state : StateValue) → Sees who state state
-sees_itself role.Analyst state = (prefix_self state.chain, refl)
-sees_itself role.Custodian state = refl
-
 -- and replies to all lines
 stays : (who : Role) (setup : SetupValue) (base : ReleaseValue) (state : StateValue) (lines : List (List ℕ))
     → (replies : List ReplyValue) × IsLegal who setup base state lines replies state
@@ -62,7 +60,7 @@ stays who setup base state [] = ([], refl)
 stays who setup base state (line ∷ lines) =
     let (reply, is) = reply_in_place (asks_of who line) setup base state line in
     let (replies, others) = stays who setup base state lines in
-    (reply ∷ replies, (state, (state, sees_itself who state, is), others))
+    (reply ∷ replies, (state, (state, sees_itself who line state, is), others))
 
 -- where all stand after a phase in which all stay: each analyst has learnt what the custodian published
 after_staying : Standing → Standing

@@ -1,12 +1,14 @@
 //! Tests of lines and of their tables: queries, edits and scripts by their bytes, each fault with
-//! its place, plans and printed tables. Their calls have ample memory.
+//! its place, plans and printed tables, and what may be asked. Their calls have ample memory.
 //!
 //! They call public functions alone. Tests stand in crates of their own since a crate that has
-//! tests is proved twice. Whole runs stand in `tablebuilder`.
+//! tests is proved twice. Whole runs stand in `tb_top_tests`.
 #![tactic(auto)]
 
 #[cfg(test)]
 mod counting;
+#[cfg(test)]
+mod descriptions;
 #[cfg(test)]
 mod edit_lines;
 #[cfg(test)]

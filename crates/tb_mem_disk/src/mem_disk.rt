@@ -89,6 +89,8 @@ impl Disk for MemDisk {
 
     ghost named = { λ d. Some (λ name. bytes_of d.file) };
 
+    ghost could_leave = { λ d name image. image ≡ bytes_of d.file };
+
     ghost content = { λ d. Some (bytes_of d.file) };
 
     ghost may_leave = { λ d image. image ≡ bytes_of d.file };
@@ -111,6 +113,8 @@ impl Disk for MemDisk {
         ensures attached { result ≡ done.All → self.new.attached ≡ true }
         ensures found { result ≡ done.All →
             Some (bytes_of self.new.file) ≡ Some (bytes_of self.old.file) }
+        ensures left { (image : List ℕ) → image ≡ bytes_of self.new.file
+            → image ≡ bytes_of self.old.file }
         ensures count { self.old.log.faults ≤ self.new.log.faults }
         ensures failed { result ≡ done.Failed →
             HasRisen self.old.log.faults self.new.log.faults }

@@ -70,6 +70,8 @@ impl<'a, R: FileSystem<File = File> + Eprint> Disk for RealDisk<'a, R> {
 
     ghost named = { λ _. None };
 
+    ghost could_leave = { λ _ _ _. ⊥ };
+
     ghost content = { λ _. None };
 
     ghost may_leave = { λ _ _. ⊥ };

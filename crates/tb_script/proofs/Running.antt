@@ -31,7 +31,7 @@ use Rattle.tb_session.specs.declared.party.Party.{Party}
 use Rattle.tb_session.specs.declared.party.Party.TheVariants as party
 use Rattle.tb_session.specs.declared.party.Role.{Role}
 use Rattle.tb_session.specs.declared.party.Role.TheVariants as role
-use Rattle.tb_session.proofs.Analysts.{analyst_anywhere, analyst_stays}
+use Rattle.tb_session.proofs.Analysts.{analyst_anywhere, analyst_stays, seen_begins}
 use Rattle.tb_session.proofs.SomeReplies.{some_reply}
 
 -- ---- one line of an analyst
@@ -47,7 +47,8 @@ pub beside : (setup : SetupValue) (name : Name) (shape : List ℕ) (base : Relea
     → HasWritten name shape base chain writer → Learns writer first old → GoesOn old new
     → IsStep (role_of old) setup (seen_by old).start.base (state_of old) line reply (state_of new) → IsLater (seen_by new) writer
     → (held : List Edit) → IsReply role.Analyst setup base (standing chain held) line reply (standing chain held)
-beside setup name shape base chain writer (party.Analyst z) (party.Analyst a) (party.Analyst b) line reply written (own, knows) on (at, (begins, none), is) behind held =
+beside setup name shape base chain writer (party.Analyst z) (party.Analyst a) (party.Analyst b) line reply written (own, knows) on (at, sees, is) behind held =
+    let begins : IsPrefix a.list at.chain = seen_begins line (state_at a []) at sees in
     let state : StateValue = standing chain held in
     let stays : state_at b [] ≡ at = analyst_stays setup a.start.base at (state_at b []) line reply is in
     let reached : b.list ≡ at.chain = ap (λ (s : StateValue). s.chain) stays in

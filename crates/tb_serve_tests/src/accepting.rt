@@ -6,14 +6,23 @@ use super::tasks::{Served, Task, serves_two};
 use std::net::{Net, TcpListener, TcpStream};
 use std::thread::{Threads, join};
 use std::time::Clock;
-use tb_io::{Bound, Listen, RealListen};
+use tb_io::{Bound, Listen};
+use tb_real_listen::RealListen;
 
-// Serves two sessions of a port, and returns whether the first one ends so and the second one is
-// served.
+// How many sessions a listener is to have.
+const SESSIONS: u32 = 2;
+
+// Serves the two sessions of a port, and returns whether the first one ends so and the second one
+// is served.
 fn serves<
-    R: Net<Listener = TcpListener, Stream = TcpStream> + Eprint + AllocGlobal + Threads + Sync,
+    R: Net<Listener = TcpListener, Stream = TcpStream>
+        + Eprint
+        + AllocGlobal
+        + Clock
+        + Threads
+        + Sync,
 >(rt: &R, port: u16, task: Task, served: Served) -> bool {
-    let mut listener = RealListen::new(rt, rt.alloc());
+    let mut listener = RealListen::new(rt, rt.alloc(), SESSIONS);
     serves_two(rt, &mut listener, port, task, served)
 }
 
@@ -76,20 +85,20 @@ fn replies_leave_together<
 }
 
 // Whether a listener can be bound to a port.
-fn binds<R: Net<Listener = TcpListener, Stream = TcpStream> + Eprint + AllocGlobal>(
+fn binds<R: Net<Listener = TcpListener, Stream = TcpStream> + Eprint + AllocGlobal + Clock>(
     rt: &R,
     port: u16,
 ) -> bool {
-    let mut listener = RealListen::new(rt, rt.alloc());
+    let mut listener = RealListen::new(rt, rt.alloc(), SESSIONS);
     listener.bind(port) == Bound::Ready
 }
 
 // Whether a port is free for one listener, and then not for a second one.
-fn binds_once<R: Net<Listener = TcpListener, Stream = TcpStream> + Eprint + AllocGlobal>(
+fn binds_once<R: Net<Listener = TcpListener, Stream = TcpStream> + Eprint + AllocGlobal + Clock>(
     rt: &R,
     port: u16,
 ) -> bool {
-    let mut listener = RealListen::new(rt, rt.alloc());
+    let mut listener = RealListen::new(rt, rt.alloc(), SESSIONS);
     listener.bind(port) == Bound::Ready && !binds(rt, port)
 }
 
@@ -99,8 +108,8 @@ fn sessions_come_one_after_another(rt: HostRuntime) {
     assert!(&rt; ends_so(&rt, Task::Echo, Peer::OneByte, Served::Byte(b'a')));
 }
 
-// The first client sends more than the server reads, and still reads all that was written and the
-// end.
+// The first client sends more than the server reads, also after the end, and still reads all that
+// was written and the end.
 #[test]
 fn unread_bytes_keep_nothing_from_a_client(rt: HostRuntime) {
     assert!(&rt; ends_so(&rt, Task::Echo, Peer::ManyBytes, Served::Byte(b'a')));

@@ -7,7 +7,7 @@ ghost use Rattle.tb_serve.specs.Stages.{IsFresh};
 ghost use Rattle.tb_top.specs.declared.service.TheConstants.{MOST_WORKERS};
 
 use super::command::ends_over;
-use super::ports::{add_sessions, fill};
+use super::ports::{add_sessions, fill, is_told};
 use std::alloc::Global;
 use std::sync::Wait;
 use std::test::Fail;
@@ -158,26 +158,6 @@ fn ports(
     add_sessions(alloc, &mut net, analyst, ALL, 0)?;
     fill(alloc, &mut net, b"", 0, MOST_WORKERS as usize + 1)?;
     Ok(net)
-}
-
-// Whether as many sessions came back as there are parts, in order, and each was told its part.
-fn are_told(listener: &MemListen, replies: &str) -> bool {
-    let mut i = 0_usize;
-    for part in replies.split('|') {
-        if i >= listener.back() || listener.writer_at(i).taken() != part.as_bytes() {
-            return false;
-        }
-        i = i.saturating_add(1);
-    }
-    i == listener.back()
-}
-
-// Whether that is so of the port at this place.
-fn is_told(net: &[Port<MemListen>], place: usize, replies: &str) -> bool {
-    match net.get(place) {
-        Some(port) => are_told(&port.listener, replies),
-        None => false,
-    }
 }
 
 // Whether the run of a row over this disk ends so, with the right replies.

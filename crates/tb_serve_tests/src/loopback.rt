@@ -12,14 +12,14 @@ use std::sync::Wait;
 use std::thread::{Threads, join};
 use std::time::Clock;
 use tb_base::Memory;
-use tb_io::RealListen;
+use tb_real_listen::RealListen;
 use tb_serve::Port;
 
 // How many sessions each port has: two for each client.
 const SESSIONS: u32 = 10;
 
 // The custodian's port and an analyst's.
-fn ports<R: Net<Listener = TcpListener, Stream = TcpStream> + Eprint>(
+fn ports<R: Net<Listener = TcpListener, Stream = TcpStream> + Eprint + Clock>(
     rt: &R,
     alloc: Global,
 ) -> Result<Vec<Port<RealListen<'_, R>>>, Memory>
@@ -28,17 +28,15 @@ fn ports<R: Net<Listener = TcpListener, Stream = TcpStream> + Eprint>(
 {
     let mut net = Vec::new(alloc);
     for _ in 0..2_usize {
-        net.push(Port::of(RealListen::new(rt, alloc)))?;
+        net.push(Port::of(RealListen::new(rt, alloc, SESSIONS)))?;
     }
     Ok(net)
 }
 
 // Whether all sessions at two ports, from this one on, are served.
-fn serves_two<R: Net<Listener = TcpListener, Stream = TcpStream> + Eprint + Threads + Wait + Sync>(
-    rt: &R,
-    alloc: Global,
-    first: u16,
-) -> bool {
+fn serves_two<
+    R: Net<Listener = TcpListener, Stream = TcpStream> + Eprint + Clock + Threads + Wait + Sync,
+>(rt: &R, alloc: Global, first: u16) -> bool {
     let report = b"worker 0 sessions 10\nworker 1 sessions 10\nrelease 0\n";
     match ports(rt, alloc) {
         Ok(mut net) => serves(rt, alloc, first.min(60_000), 1, SESSIONS, &mut net, report),

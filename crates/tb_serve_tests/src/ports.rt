@@ -120,3 +120,24 @@ pub fn fill(
     }
     Ok(())
 }
+
+// Whether as many sessions came back as there are parts, in order, and each was told its part.
+fn are_told(listener: &MemListen, replies: &str) -> bool {
+    let mut i = 0_usize;
+    for part in replies.split('|') {
+        if i >= listener.back() || listener.writer_at(i).taken() != part.as_bytes() {
+            return false;
+        }
+        i = i.saturating_add(1);
+    }
+    i == listener.back()
+}
+
+/// Whether as many sessions came back at the port at this place as a text has parts, parted by `|`,
+/// in order, and each was told its part.
+pub fn is_told(net: &[Port<MemListen>], place: usize, replies: &str) -> bool {
+    match net.get(place) {
+        Some(port) => are_told(&port.listener, replies),
+        None => false,
+    }
+}

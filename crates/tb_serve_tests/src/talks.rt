@@ -25,6 +25,14 @@ pub enum Client {
     /// Two analysts, each of whom waits for the other's first table.
     One,
     Other,
+    /// A leader, whose second message comes before the first.
+    Leader,
+    /// An analyst, who waits for the reply to its last line.
+    Behind,
+    /// A leader, whose message comes after the analyst's first table.
+    LateLeader,
+    /// An analyst, who waits for the reply to that message between two tables.
+    LateBehind,
 }
 
 /// How many replies two clients got, and how many clients got just those that they are to get.
@@ -35,12 +43,23 @@ pub struct Replies {
     pub right: AtomicU32,
 }
 
+// A leader's lines, of which the second message is sent before the first.
+const OUT_OF_ORDER: &[u8] = b"where\nbegin 2\nadd 105 30 SEX=2 AGE=0-15 AREA=E2\nend\n\
+    begin 1\ndrop 104\nend\nwhere\n";
+
 // The part that a client sends next, and how many replies the other client must have got before.
 fn part(client: Client, step: u32) -> Option<(u32, &'static [u8])> {
     match (client, step) {
         (Client::Custodian, 0) => Some((1, b"drop 104\npublish\n")),
         (Client::Custodian, 1) => Some((2, b"stats\n")),
-        (Client::Late | Client::One | Client::Other, 0) => Some((0, b"table SEX\n")),
+        (Client::Leader, 0) => Some((0, OUT_OF_ORDER)),
+        (Client::LateLeader, 0) => Some((1, b"begin 1\ndrop 104\nend\n")),
+        (Client::LateLeader, 1) => Some((2, b"stats\n")),
+        (Client::Late | Client::One | Client::Other | Client::LateBehind, 0) => {
+            Some((0, b"table SEX\n"))
+        }
+        (Client::Behind, 0) => Some((8, b"table SEX\n")),
+        (Client::LateBehind, 1) => Some((3, b"table SEX\n")),
         (Client::Late, 1) => Some((2, b"table SEX\n")),
         (Client::One | Client::Other, 1) => Some((1, b"table SEX\n")),
         _ => None,
@@ -54,7 +73,14 @@ fn replies_to(client: Client) -> &'static [u8] {
         Client::Custodian => {
             b"held 1\npublished 1\nstats release 1 looks 2 hits 1 entries 1 capacity 64\n"
         }
-        Client::Late => b"release 0\nSEX,count\n1,1\n2,2\n.\nrelease 1\nSEX,count\n1,1\n2,0\n.\n",
+        Client::Leader => b"at 0\nbegun 2\nheld 1\nkept 0\nbegun 1\nheld 1\nat 2\nat 2\n",
+        Client::Behind => b"release 2\nSEX,count\n1,1\n2,1\n.\n",
+        Client::LateLeader => {
+            b"begun 1\nheld 1\nat 1\nstats release 1 looks 2 hits 1 entries 1 capacity 64\n"
+        }
+        Client::Late | Client::LateBehind => {
+            b"release 0\nSEX,count\n1,1\n2,2\n.\nrelease 1\nSEX,count\n1,1\n2,0\n.\n"
+        }
         Client::One | Client::Other => {
             b"release 0\nSEX,count\n1,1\n2,2\n.\nrelease 0\nSEX,count\n1,1\n2,2\n.\n"
         }
@@ -188,7 +214,9 @@ impl<'a> Talk<'a> {
     {
         let (first, second, right) = (&replies.first, &replies.second, &replies.right);
         match client {
-            Client::Late | Client::Other => Talk::with(client, second, first, right),
+            Client::Late | Client::Other | Client::Behind | Client::LateBehind => {
+                Talk::with(client, second, first, right)
+            }
             _ => Talk::with(client, first, second, right),
         }
     }

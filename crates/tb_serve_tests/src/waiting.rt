@@ -1,4 +1,4 @@
-// Sessions of the commands `serve` and `host` whose clients wait for each other.
+// Sessions of the commands `serve`, `host` and `mirror` whose clients wait for each other.
 
 ghost use Rattle.std.specs.Prelude.{◌≡◌, ◌<◌, ◌+◌, All, IfOk, vec_len};
 ghost use Rattle.tb_serve.specs.Stages.{IsFresh};
@@ -21,6 +21,9 @@ enum Run {
     Late,
     // Two workers, and one session at each port: two analysts'.
     Crossed,
+    // One worker, and one session at each port: a leader's and an analyst's.
+    Led,
+    LateLed,
 }
 
 // The client at the port of a number.
@@ -30,6 +33,10 @@ fn client_at(run: Run, number: u32) -> Client {
         (Run::Late, 1) => Client::Late,
         (Run::Crossed, 1) => Client::One,
         (Run::Crossed, 2) => Client::Other,
+        (Run::Led, 0) => Client::Leader,
+        (Run::Led, 1) => Client::Behind,
+        (Run::LateLed, 0) => Client::LateLeader,
+        (Run::LateLed, 1) => Client::LateBehind,
         _ => Client::None,
     }
 }
@@ -99,6 +106,9 @@ const LATE: &[u8] = b"worker 0 sessions 1\nworker 1 sessions 1\nrelease 1\n";
 const CROSSED: &[u8] =
     b"worker 0 sessions 0\nworker 1 sessions 1\nworker 2 sessions 1\nrelease 0\n";
 
+// What is written of one in which a leader brings two batches.
+const LED: &[u8] = b"worker 0 sessions 1\nworker 1 sessions 1\nrelease 2\n";
+
 #[test]
 fn sessions_share_cubes(rt: HostRuntime) {
     let command = "serve classes recodes ptable people 0 5000 1 1";
@@ -121,4 +131,16 @@ fn sessions_share_cubes_beside_a_journal(rt: HostRuntime) {
 fn sessions_run_at_the_same_time_beside_a_journal(rt: HostRuntime) {
     let command = "host classes recodes ptable people 0 journal 5000 2 1";
     assert!(&rt; both_get_theirs(&rt, rt.alloc(), Run::Crossed, command, CROSSED));
+}
+
+#[test]
+fn mirror_of_a_leader(rt: HostRuntime) {
+    let command = "mirror classes recodes ptable people 0 5000 1 1";
+    assert!(&rt; both_get_theirs(&rt, rt.alloc(), Run::Led, command, LED));
+}
+
+#[test]
+fn sessions_share_cubes_of_a_mirror(rt: HostRuntime) {
+    let command = "mirror classes recodes ptable people 0 5000 1 1";
+    assert!(&rt; both_get_theirs(&rt, rt.alloc(), Run::LateLed, command, LATE));
 }

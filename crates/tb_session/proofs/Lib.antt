@@ -15,6 +15,7 @@ mod PastCounts
 mod PastReplies
 mod Numbers
 mod Publishing
+mod Describing
 mod OwnCells
 mod RunSteps
 mod TakeRuns

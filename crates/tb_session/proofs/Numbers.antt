@@ -22,6 +22,7 @@ use Rattle.tb_lines.specs.Outputs.{ReplyValue}
 use Rattle.tb_ahead.specs.Publishing.{IsPublishReply, StateValue}
 use Rattle.tb_session.specs.Replies.{IsReplyTo}
 use Rattle.tb_session.specs.Transcripts.{IsLegal, IsStep, Sees}
+use Rattle.tb_session.proofs.Analysts.{seen_begins}
 use Rattle.tb_session.specs.declared.asks.Asks.{Asks}
 use Rattle.tb_session.specs.declared.asks.Asks.TheVariants as asks
 use Rattle.tb_session.specs.declared.party.Role.{Role}
@@ -47,6 +48,7 @@ publish_begins release state next text (inr (inr (is, goes))) = same_chain state
 
 reply_begins : (what : Asks) (setup : SetupValue) (base : ReleaseValue) (state : StateValue) (line : List ℕ) (reply : ReplyValue) (next : StateValue) → IsReplyTo what setup base state line reply next → IsPrefix state.chain next.chain
 reply_begins asks.Nothing setup base state line reply next (is, goes) = same_chain state next goes
+reply_begins asks.Description setup base state line reply next (is, goes) = same_chain state next goes
 reply_begins asks.Table setup base state line reply next (is, goes) = same_chain state next goes
 reply_begins (asks.At number) setup base state line reply next (is, goes) = same_chain state next goes
 reply_begins asks.Edit setup base state line reply next (free, same, is) = same_begins state.chain next.chain same
@@ -55,13 +57,13 @@ reply_begins asks.Stats setup base state line reply next (free, is, goes) = same
 reply_begins asks.Clear setup base state line reply next (is, goes) = same_chain state next goes
 reply_begins (asks.Cache capacity) setup base state line reply next (free, is, goes) = same_chain state next goes
 
-sees_begins : (who : Role) (before at : StateValue) → Sees who before at → IsPrefix before.chain at.chain
-sees_begins role.Analyst before at (begins, held) = begins
-sees_begins role.Custodian before at same = same_chain before at same
+sees_begins : (who : Role) (line : List ℕ) (before at : StateValue) → Sees who line before at → IsPrefix before.chain at.chain
+sees_begins role.Analyst line before at sees = seen_begins line before at sees
+sees_begins role.Custodian line before at same = same_chain before at same
 
 step_begins : (who : Role) (setup : SetupValue) (base : ReleaseValue) (before : StateValue) (line : List ℕ) (reply : ReplyValue) (after : StateValue) → IsStep who setup base before line reply after → IsPrefix before.chain after.chain
 step_begins who setup base before line reply after (at, sees, is) =
-    prefix_trans before.chain at.chain after.chain (sees_begins who before at sees) (reply_begins (asks_of who line) setup base at line reply after is)
+    prefix_trans before.chain at.chain after.chain (sees_begins who line before at sees) (reply_begins (asks_of who line) setup base at line reply after is)
 
 pub legal_begins : (who : Role) (setup : SetupValue) (base : ReleaseValue) (lines : List (List ℕ)) (replies : List ReplyValue) (first last : StateValue) → IsLegal who setup base first lines replies last → IsPrefix first.chain last.chain
 legal_begins who setup base [] [] first last e = same_chain first last e

@@ -22,6 +22,7 @@ use Rattle.tb_session.specs.declared.party.Role.TheVariants as role
 -- a line that doesn't ask to publish leaves the batches
 chain_stays : (what : Asks) (setup : SetupValue) (base : ReleaseValue) (state : StateValue) (line : List ℕ) (reply : ReplyValue) (next : StateValue) → what ≢ asks.Publish → IsReplyTo what setup base state line reply next → next.chain ≡ state.chain
 chain_stays asks.Nothing setup base state line reply next other (is, goes) = ap (λ (s : StateValue). s.chain) goes
+chain_stays asks.Description setup base state line reply next other (is, goes) = ap (λ (s : StateValue). s.chain) goes
 chain_stays asks.Table setup base state line reply next other (is, goes) = ap (λ (s : StateValue). s.chain) goes
 chain_stays (asks.At number) setup base state line reply next other (is, goes) = ap (λ (s : StateValue). s.chain) goes
 chain_stays asks.Edit setup base state line reply next other (free, same, is) = same

@@ -16,6 +16,7 @@ use Rattle.tb_tables.specs.ReplyLines.{memory_line}
 
 reply_to_any : (what : Asks) (setup : SetupValue) (base : ReleaseValue) (state : StateValue) (line : List ℕ) → (reply : ReplyValue) × (next : StateValue) × IsReplyTo what setup base state line reply next
 reply_to_any asks.Nothing setup base state line = (free_reply [], state, (refl, refl))
+reply_to_any asks.Description setup base state line = (free_reply memory_line, state, ((refl, inr refl), refl))
 reply_to_any asks.Table setup base state line = (free_reply memory_line, state, (inr (refl, inr refl), refl))
 reply_to_any (asks.At n) setup base state line = (free_reply memory_line, state, (inr (refl, inr refl), refl))
 reply_to_any asks.Edit setup base state line = (free_reply memory_line, state, (refl, refl, inr (refl, inr (inr refl))))

@@ -6,6 +6,7 @@ use Rattle.std.specs.Option.{option_map_or}
 use Rattle.tb_base.specs.Numbers.{number_of}
 use Rattle.tb_base.specs.Words.{words_of}
 use Rattle.tb_cache.specs.declared.TheConstants.{MOST_ENTRIES}
+use Rattle.tb_describe.specs.Descriptions.{is_description}
 use Rattle.tb_revise.specs.Grammar.{begins_edit}
 use Rattle.tb_session.specs.PastLines.{past_number}
 use Rattle.tb_session.specs.declared.asks.Asks.{Asks}
@@ -69,17 +70,20 @@ asks_by role.Custodian words = asks_of_words words
 abbrev pub asks_at_or : Option ℕ → Asks → Asks
 asks_at_or number other = option_map_or (λ n. asks.At n) number other
 
--- what a party's line asks for: nothing where it is of blanks alone or begins with `#`; a table at
--- release N where it is `at N QUERY`; the custodian's may be an edit, `publish`, `stats`, `clear`
--- or `cache K`; and every other asks for a table
+-- what a party's line asks for: nothing where it is of blanks alone or begins with `#`; what may be
+-- asked where its first word is `describe`; a table at release N where it is `at N QUERY`; the
+-- custodian's may be an edit, `publish`, `stats`, `clear` or `cache K`; and every other asks for a
+-- table
 abbrev pub asks_of : Role → List ℕ → Asks
 asks_of who line =
     if is_passed_over line then asks.Nothing
+    else if is_description line then asks.Description
     else asks_at_or (past_number (words_of line)) (asks_by who (words_of line))
 
 -- a capacity that is asked for is within its bounds
 abbrev pub IsWithin : Asks → Type 0
 IsWithin asks.Nothing = Unit {0}
+IsWithin asks.Description = Unit {0}
 IsWithin asks.Table = Unit {0}
 IsWithin (asks.At number) = Unit {0}
 IsWithin asks.Edit = Unit {0}

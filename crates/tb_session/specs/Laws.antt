@@ -1,7 +1,9 @@
 -- Laws of legal transcripts.
-use Rattle.std.specs.Prelude.{◌≡◌, ◌≢◌, ◌<◌, ◌≤◌, ◌^◌, ◌++◌, ◌∷◌, ℕ, List, [], All, codes, decimal}
+use Rattle.std.specs.Prelude.{◌≡◌, ◌≢◌, ◌⊎◌, ◌<◌, ◌≤◌, ◌^◌, ◌++◌, ◌∷◌, ℕ, List, [], All, codes}
+use Rattle.std.specs.Prelude.{decimal, false, true}
 use Rattle.std.specs.Prelude.{Option, length}
 use mathlib.Core.List.{IsPrefix}
+use Rattle.tb_describe.specs.Descriptions.{is_description}
 use Rattle.tb_model.specs.Queries.{QueryValue}
 use Rattle.tb_model.specs.Releases.{ReleaseValue}
 use Rattle.tb_model.specs.Setups.{SetupValue}
@@ -10,6 +12,7 @@ use Rattle.tb_model.specs.Units.{UnitsValue}
 use Rattle.tb_release.specs.Batches.{BatchValue}
 use Rattle.tb_release.specs.Chains.{release_after}
 use Rattle.tb_session.specs.Asks.{asks_of}
+use Rattle.tb_lines.specs.Lines.{is_passed_over}
 use Rattle.tb_lines.specs.Outputs.{ReplyValue}
 use Rattle.tb_session.specs.PastTables.{past_text}
 use Rattle.tb_session.specs.Replies.{whole_of}
@@ -18,6 +21,7 @@ use Rattle.tb_session.specs.Transcripts.{IsLegal, IsStep}
 use Rattle.tb_session.specs.declared.asks.Asks.TheVariants as asks
 use Rattle.tb_session.specs.declared.party.Role.{Role}
 use Rattle.tb_session.specs.declared.party.Role.TheVariants as role
+use Rattle.tb_tables.specs.ReplyLines.{memory_line}
 
 -- a legal transcript and a line more, with a legal reply, are one
 abbrev pub OneMoreLine : Type 0
@@ -76,3 +80,24 @@ PublishedStays =
     → IsLegal role.Custodian setup base after lines replies last
     → All (λ l. asks_of role.Custodian l ≢ asks.Publish) lines
     → (release_after base last.chain).number ≡ n
+
+-- in two worlds with equal schemas a line that `describe` begins gets the same reply, but where
+-- memory was refused: whoever asks, and whatever the records, the rules and the batches
+abbrev pub DescriptionsGoByTheSchema : Type 0
+DescriptionsGoByTheSchema =
+    (who who' : Role) (setup setup' : SetupValue) (base base' : ReleaseValue)
+    (before before' after after' : StateValue) (line : List ℕ) (reply reply' : ReplyValue)
+    → setup.schema ≡ setup'.schema
+    → is_passed_over line ≡ false → is_description line ≡ true
+    → IsStep who setup base before line reply after
+    → IsStep who' setup' base' before' line reply' after'
+    → (reply ≡ reply') ⊎ ((reply.text ≡ memory_line) ⊎ (reply'.text ≡ memory_line))
+
+-- and changes nothing, not even what was seen
+abbrev pub DescriptionsChangeNothing : Type 0
+DescriptionsChangeNothing =
+    (who : Role) (setup : SetupValue) (base : ReleaseValue) (before after : StateValue)
+    (line : List ℕ) (reply : ReplyValue)
+    → is_passed_over line ≡ false → is_description line ≡ true
+    → IsStep who setup base before line reply after
+    → after ≡ before

@@ -8,6 +8,7 @@ use Rattle.tb_model.specs.Units.{UnitsValue}
 use Rattle.tb_core.specs.Turns.{AreStats}
 use Rattle.tb_core.specs.Takes.{cube_price}
 use Rattle.tb_core.specs.declared.desk.Stats.{Stats}
+use Rattle.tb_describe.specs.Descriptions.{IsDescription}
 use Rattle.tb_plan.specs.Plans.{PlanValue, cube_cells_of, plan_of}
 use Rattle.tb_revise.specs.Faults as edits
 use Rattle.tb_revise.specs.FaultNames as edit_names
@@ -106,6 +107,8 @@ abbrev pub IsReplyTo : Asks → SetupValue → ReleaseValue → StateValue → L
     → StateValue → Type 0
 IsReplyTo asks.Nothing setup base state line reply next =
     (reply ≡ free_reply []) × (next ≡ state)
+IsReplyTo asks.Description setup base state line reply next =
+    IsDescription setup.schema line reply × (next ≡ state)
 IsReplyTo asks.Table setup base state line reply next =
     IsTableReply setup (release_after base state.chain) line reply × (next ≡ state)
 IsReplyTo (asks.At n) setup base state line reply next =

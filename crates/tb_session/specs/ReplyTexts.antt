@@ -1,6 +1,7 @@
 -- The text of a reply as the program keeps it.
 use Rattle.std.specs.Prelude.{ℕ, List, [], Result, Ok, Err}
 use Rattle.tb_base.specs.declared.memory.Memory.{Memory}
+use Rattle.tb_describe.specs.Told.{description_text}
 use Rattle.tb_ahead.specs.Publishing.{published_line, batch_refusal_line}
 use Rattle.tb_session.specs.ReplyLines.{held_line, edit_refusal_line, no_such_release_line}
 use Rattle.tb_session.specs.ReplyLines.{stats_line, cleared_line, capacity_line}
@@ -11,6 +12,7 @@ use Rattle.tb_tables.specs.ReplyTexts.{table_reply_text}
 
 abbrev pub reply_text : Reply → List ℕ
 reply_text replies.Nothing = []
+reply_text (replies.Description reply) = description_text reply
 reply_text (replies.Query reply) = table_reply_text reply
 reply_text (replies.NoSuchRelease last) = no_such_release_line last
 reply_text (replies.Held count) = held_line count

@@ -2,6 +2,7 @@ ghost use Rattle.std.specs.Prelude.{◌≡◌, ◌<◌, ◌≤◌, [], length};
 ghost use Rattle.tb_board.specs.Custodians.{IsWhole};
 ghost use Rattle.tb_board.specs.Holders.{release_seen};
 ghost use Rattle.tb_cache.specs.declared.TheConstants.{MOST_ENTRIES};
+ghost use Rattle.tb_describe.specs.Descriptions.{Describes};
 ghost use Rattle.tb_front.specs.Holders.{IsLater};
 ghost use Rattle.tb_io.specs.declared.limits.TheConstants.{MOST_LINE_BYTES};
 ghost use Rattle.tb_model.specs.Schemas.{shape_of};
@@ -31,6 +32,7 @@ use std::thread::Threads;
 use tb_base::{Memory, Steps};
 use tb_board::{Board, Custodian, Named, Step};
 use tb_build::Gate;
+use tb_describe::{describe, is_description};
 use tb_front::Pass;
 use tb_io::{Sink, Wrote};
 use tb_lines::is_passed_over;
@@ -48,6 +50,14 @@ fn resize<'a, B: Named>(rt: &impl Wait, board: &Board<B>, capacity: u32) -> Repl
         Ok(()) => Reply::Capacity(capacity),
         Err(Memory) => Reply::Memory,
     }
+}
+
+// What may be asked. No board is looked at, so nothing waits.
+fn describe_setup<'a>(alloc: Global, setup: &Setup, line: &[u8]) -> Reply<'a>
+    requires { length line.now ≤ MOST_LINE_BYTES }
+    ensures { Describes setup.now.schema line.now (reply_text result) }
+{
+    Reply::Description(describe(alloc, &setup.schema, line))
 }
 
 // Makes the board forget its cubes.
@@ -78,6 +88,9 @@ fn reply_to_analyst<'a, B: Named, R: Threads + Wait + Sync, G: Gate, L: Ledger>(
 {
     if is_passed_over(line) {
         return Reply::Nothing;
+    }
+    if is_description(line) {
+        return describe_setup(alloc, setup, line);
     }
     if let Some(number) = past_number(line) {
         return answer_past(rt, alloc, setup, board, pass, number, line, gate, steps);
@@ -159,6 +172,7 @@ fn reply_to_custodian<'a, B: Named, R: Threads + Wait + Sync, G: Gate, L: Ledger
 {
     match asks_of(Role::Custodian, line) {
         Asks::Nothing => Reply::Nothing,
+        Asks::Description => describe_setup(alloc, setup, line),
         Asks::Table => Reply::Query(answer_own(
             rt, alloc, setup, board, custodian, line, gate, steps,
         )),

@@ -9,15 +9,18 @@ use crate::party::Role;
 use crate::past_line::past_number;
 use tb_base::{first_word, read_number};
 use tb_cache::MOST_ENTRIES;
+use tb_describe::is_description;
 use tb_lines::is_passed_over;
 use tb_revise::begins_edit;
 
-/// What a party's line asks for: a table, one at a release that it names, an edit, to publish the
-/// edits that are held, the desk's numbers, to forget the cubes, or another capacity for them; or
-/// nothing.
+/// What a party's line asks for: what may be asked, a table, one at a release that it names, an
+/// edit, to publish the edits that are held, the desk's numbers, to forget the cubes, or another
+/// capacity for them; or nothing.
 #[derive(Clone, Copy, Debug, PartialEq, Eq)]
 pub enum Asks {
     Nothing,
+    /// What may be asked.
+    Description,
     Table,
     /// A table at the release of this number.
     At(u32),
@@ -102,14 +105,17 @@ fn asks_of_words(line: &[u8]) -> Asks
     asks_of_command(word, rest)
 }
 
-/// What a party's line asks for: an analyst's for a table alone, at the current release or at one
-/// that it names.
+/// What a party's line asks for: an analyst's for what may be asked, or for a table, at the current
+/// release or at one that it names.
 pub fn asks_of(role: Role, line: &[u8]) -> Asks
     ensures asks { result ≡ asks.asks_of role line.now }
     ensures within { asks.IsWithin result }
 {
     if is_passed_over(line) {
         return Asks::Nothing;
+    }
+    if is_description(line) {
+        return Asks::Description;
     }
     if let Some(number) = past_number(line) {
         return Asks::At(number);

@@ -1,6 +1,7 @@
 //! Laws of legal transcripts, and of what the replies of a run of events show. Each function does
 //! nothing, and its contract is a law over the definitions alone.
 
+ghost use Rattle.tb_session.specs.Laws.{DescriptionsChangeNothing, DescriptionsGoByTheSchema};
 ghost use Rattle.tb_session.specs.Laws.{MeetingTranscriptsJoin, NumbersNeverFall, OneMoreLine};
 ghost use Rattle.tb_session.specs.Laws.{PastTablesNameTheirRelease, PublishedStays};
 ghost use Rattle.tb_session.specs.Laws.{TablesNameTheirList};
@@ -35,6 +36,17 @@ pub fn past_tables_name_their_release()
 /// After the custodian's `published N`, its release is N until it asks to publish again.
 pub fn published_stays()
     ensures { PublishedStays }
+{}
+
+/// In two worlds with equal schemas a line that `describe` begins gets the same reply, but where
+/// memory was refused.
+pub fn descriptions_go_by_the_schema()
+    ensures { DescriptionsGoByTheSchema }
+{}
+
+/// Such a line changes nothing, not even what was seen.
+pub fn descriptions_change_nothing()
+    ensures { DescriptionsChangeNothing }
 {}
 
 /// In every run of events, each reply with cells answers a take.

@@ -2,7 +2,7 @@
 //! asks for; and a session, the lines that come from a source. Analysts, whose passes the custodian
 //! confirms.
 //!
-//! It stands on `tb_tables` (a query's line, its table and the reply to it, over a release),
+//! It stands on `tb_describe` (what may be asked), `tb_tables` (a query's line, its table and the reply to it, over a release),
 //! `tb_ahead` (the reply to `publish`), `tb_board` (the desk behind its lock), `tb_build` (a cube
 //! that isn't kept), `tb_core` (one that is), `tb_past` (one that is led to another release, and an
 //! earlier release), `tb_revise` (the custodian's edits), `tb_io` (where lines come from, and where
@@ -19,7 +19,7 @@
 //! QUERY`, `PastTexts` has what follows its number, `PastTaking` what was taken along a chain that
 //! goes on, `PastCubes` the cube of release n, `PastCounts` what is counted by it, `PastPrices` what
 //! it may cost and `PastReplies` its text; `Numbers` and
-//! `Publishing` prove the laws of transcripts. Those of runs are proved by `RunSteps` (what an
+//! `Publishing` and `Describing` prove the laws of transcripts. Those of runs are proved by `RunSteps` (what an
 //! event may do), `TakeRuns` (a reply's cells), `ReplyTakes` (the take that it answers), `OwnCells`
 //! (a table from a cube over its plan's variables) and `RunLaws`. For scripts, `SomeReplies` and
 //! `Analysts` have what a run of lines needs, and `LegalParties` leads from lines that were

@@ -9,6 +9,7 @@ ghost use Rattle.tb_session.specs.ReplyTexts.{reply_text, text_or_memory};
 use itoa::Buffer;
 use tb_base::{Memory, print_number};
 use tb_core::Stats;
+use tb_describe::Description;
 use tb_io::{Sink, Wrote, write_all};
 use tb_rows::FaultName;
 use tb_tables::{TableReply, write_fault, write_number};
@@ -18,6 +19,8 @@ use tb_tables::{TableReply, write_fault, write_number};
 pub(crate) enum Reply<'a> {
     /// There is none.
     Nothing,
+    /// What may be asked.
+    Description(Description),
     /// The reply to a query's line.
     Query(TableReply<'a>),
     /// A query is refused since there is no such release: the last one has this number.
@@ -110,6 +113,7 @@ impl<'a> Reply<'a> {
     {
         match self {
             Reply::Nothing => Wrote::All,
+            Reply::Description(reply) => reply.write(out),
             Reply::Query(reply) => reply.write(out),
             Reply::NoSuchRelease(last) => write_number(out, b"refused 10 NoSuchRelease ", last),
             Reply::Held(count) => write_number(out, b"held ", count),

@@ -8,6 +8,7 @@ use std::sync::Wait;
 use std::test::Fail;
 use std::thread::Threads;
 use tb_base::Memory;
+use tb_comparison::is_text;
 use tb_io::{MemSink, Read, Source};
 use tb_session::SessionEnd;
 use tb_small_values::setup;
@@ -56,7 +57,7 @@ impl Source for Cut {
 }
 
 // Whether a session over the stream with these cuts is as without.
-fn is_so<R: Threads + Wait + Sync>(
+fn is_so<R: Threads + Wait + Sync + Eprint>(
     rt: &R,
     alloc: Global,
     setup: &Setup,
@@ -70,11 +71,11 @@ fn is_so<R: Threads + Wait + Sync>(
     };
     let mut sink = MemSink::new(alloc, 100)?;
     let end = one_session(rt, alloc, setup, &mut source, &mut sink)?;
-    Ok(end == SessionEnd::Ended && sink.taken() == TEXT)
+    Ok(is_text(rt, sink.taken(), TEXT) && end == SessionEnd::Ended)
 }
 
 // The first two cuts of which it isn't.
-fn wrong_cuts<R: Threads + Wait + Sync>(
+fn wrong_cuts<R: Threads + Wait + Sync + Eprint>(
     rt: &R,
     alloc: Global,
     setup: &Setup,
@@ -89,7 +90,7 @@ fn wrong_cuts<R: Threads + Wait + Sync>(
     Ok(None)
 }
 
-fn wrong_cuts_over_small<R: Threads + Wait + Sync>(
+fn wrong_cuts_over_small<R: Threads + Wait + Sync + Eprint>(
     rt: &R,
     alloc: Global,
 ) -> Result<Option<(usize, usize)>, Memory> {

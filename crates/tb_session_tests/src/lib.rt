@@ -7,8 +7,6 @@ mod cuts;
 #[cfg(test)]
 mod lines;
 #[cfg(test)]
-mod making;
-#[cfg(test)]
 mod memory;
 #[cfg(test)]
 mod talking;

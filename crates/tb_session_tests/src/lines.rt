@@ -6,6 +6,7 @@ use std::sync::Wait;
 use std::test::Fail;
 use std::thread::Threads;
 use tb_base::Memory;
+use tb_comparison::is_text;
 use tb_io::{MemSink, SureSource};
 use tb_session::SessionEnd;
 use tb_small_values::setup;
@@ -117,7 +118,7 @@ fn source_of(alloc: Global, row: &LongStream) -> Result<SureSource, Memory> {
 }
 
 // Whether a session ends as a row says.
-fn ends_so<R: Threads + Wait + Sync>(
+fn ends_so<R: Threads + Wait + Sync + Eprint>(
     rt: &R,
     alloc: Global,
     setup: &Setup,
@@ -126,10 +127,10 @@ fn ends_so<R: Threads + Wait + Sync>(
 ) -> Result<bool, Memory> {
     let mut sink = MemSink::new(alloc, row.bound)?;
     let ended = one_session(rt, alloc, setup, source, &mut sink)?;
-    Ok(ended == row.ended && sink.taken() == row.text)
+    Ok(is_text(rt, sink.taken(), row.text) && ended == row.ended)
 }
 
-fn is_so<R: Threads + Wait + Sync>(
+fn is_so<R: Threads + Wait + Sync + Eprint>(
     rt: &R,
     alloc: Global,
     setup: &Setup,
@@ -140,7 +141,7 @@ fn is_so<R: Threads + Wait + Sync>(
 }
 
 // The place of the first row of which it isn't.
-fn wrong_row<R: Threads + Wait + Sync>(
+fn wrong_row<R: Threads + Wait + Sync + Eprint>(
     rt: &R,
     alloc: Global,
     setup: &Setup,
@@ -153,7 +154,7 @@ fn wrong_row<R: Threads + Wait + Sync>(
     Ok(None)
 }
 
-fn wrong_row_over_small<R: Threads + Wait + Sync>(
+fn wrong_row_over_small<R: Threads + Wait + Sync + Eprint>(
     rt: &R,
     alloc: Global,
 ) -> Result<Option<usize>, Memory> {

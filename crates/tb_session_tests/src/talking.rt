@@ -1,23 +1,24 @@
 // Sessions of the custodian of a new board over the small setup.
 
 ghost use Rattle.std.specs.Prelude.{◌≡◌, ◌<◌};
-ghost use Rattle.tb_board.specs.Custodians.{IsWhole};
 ghost use Rattle.tb_model.specs.Schemas.{shape_of};
 ghost use Rattle.tb_session.specs.Parties.{IsPartyOf};
 
-use super::making::opening;
 use std::alloc::Global;
 use std::marker::Brand;
 use std::sync::Wait;
 use std::sync::ledger::{Blank, Ledger};
 use std::thread::Threads;
 use tb_base::{Memory, Steps};
-use tb_board::{Board, Custodian, Named, Opening};
+use tb_board::{Board, Named, Opening};
 use tb_build::Open;
 use tb_io::{LineReader, MemSink, Source};
-use tb_release::Edits;
 use tb_session::{Party, SessionEnd, session};
+use tb_small_boards::{opening_for, owner};
 use tb_text::Setup;
+
+// How many cubes a board here keeps.
+const MOST_CUBES: u32 = 4;
 
 // A session with a counter and a line reader of its own.
 fn talk_with<L: Ledger, B: Named, R: Threads + Wait + Sync, S: Source>(
@@ -57,17 +58,6 @@ fn talk<B: Named, R: Threads + Wait + Sync, S: Source>(
     ensures own { IsPartyOf B.name (shape_of setup.now.schema) party.new }
 {
     talk_with::<Brand, B, R, S>(Blank::new(1), rt, alloc, setup, board, party, source, sink)
-}
-
-// The custodian, who holds no edits.
-fn owner<B: Named>(alloc: Global, setup: &Setup, custodian: Custodian) -> Party
-    requires front { custodian.writer.name ≡ B.name }
-    requires shape { custodian.writer.start.shape ≡ shape_of setup.now.schema }
-    requires whole { IsWhole custodian }
-    ensures party { IsPartyOf B.name (shape_of setup.now.schema) result }
-{
-    let _ = setup;
-    Party::Custodian(custodian, Edits::new(alloc))
 }
 
 fn talk_to_custodian<B: Named, R: Threads + Wait + Sync, S: Source>(
@@ -113,7 +103,7 @@ pub fn one_session<R: Threads + Wait + Sync, S: Source>(
     source: &mut S,
     sink: &mut MemSink,
 ) -> Result<SessionEnd, Memory> {
-    let opening = opening(alloc, &setup.schema)?;
+    let opening = opening_for(alloc, &setup.schema, MOST_CUBES)?;
     talk_to_custodian::<Brand, R, S>(rt, alloc, setup, opening, source, sink)
 }
 
@@ -127,6 +117,6 @@ pub fn two_sessions<R: Threads + Wait + Sync, S: Source>(
     next: &mut S,
     next_sink: &mut MemSink,
 ) -> Result<SessionEnd, Memory> {
-    let opening = opening(alloc, &setup.schema)?;
+    let opening = opening_for(alloc, &setup.schema, MOST_CUBES)?;
     talk_twice::<Brand, R, S>(rt, alloc, setup, opening, source, sink, next, next_sink)
 }

@@ -6,6 +6,7 @@ use std::sync::Wait;
 use std::test::Fail;
 use std::thread::Threads;
 use tb_base::Memory;
+use tb_comparison::is_text;
 use tb_io::{MOST_LINE_BYTES, MemSink, MemSource};
 use tb_session::SessionEnd;
 use tb_small_values::setup;
@@ -25,7 +26,7 @@ struct Talk {
 
 const TABLE: &[u8] = b"release 0\nSEX,count\n1,1\n2,2\n.\n";
 
-static TALKS: [Talk; 14] = [
+static TALKS: [Talk; 15] = [
     Talk {
         name: "bytes one at a time, and a last line without line feed",
         bytes: b"table SEX\ntable AREA",
@@ -117,6 +118,16 @@ static TALKS: [Talk; 14] = [
         text: b"refused 2 Syntax 1\nrelease 0\nSEX,count\n1,1\n2,2\n.\n",
     },
     Talk {
+        name: "what may be asked, with a carriage return, and a byte that is no text",
+        bytes: b"describe SEX\r\nat 0 describe\ndescribe SEX\xFF x\n",
+        most: 5,
+        fails: &[],
+        bound: 100,
+        end: SessionEnd::Ended,
+        text: b"describe SEX\ncode,label\n1,Male\n2,Female\n.\nrefused 2 Syntax 1\n\
+            refused 1 NotText 13\n",
+    },
+    Talk {
         name: "a table after a publication",
         bytes: b"drop 104\npublish\r\ntable SEX\n",
         most: 7,
@@ -160,7 +171,7 @@ fn talks() -> &'static [Talk] {
 }
 
 // Whether a session ends so, and its sink took this.
-fn ends_so<R: Threads + Wait + Sync>(
+fn ends_so<R: Threads + Wait + Sync + Eprint>(
     rt: &R,
     alloc: Global,
     setup: &Setup,
@@ -171,10 +182,10 @@ fn ends_so<R: Threads + Wait + Sync>(
 ) -> Result<bool, Memory> {
     let mut sink = MemSink::new(alloc, bound)?;
     let ended = one_session(rt, alloc, setup, source, &mut sink)?;
-    Ok(ended == end && sink.taken() == text)
+    Ok(is_text(rt, sink.taken(), text) && ended == end)
 }
 
-fn is_so<R: Threads + Wait + Sync>(
+fn is_so<R: Threads + Wait + Sync + Eprint>(
     rt: &R,
     alloc: Global,
     setup: &Setup,
@@ -186,7 +197,7 @@ fn is_so<R: Threads + Wait + Sync>(
 }
 
 // The place of the first row of which it isn't.
-fn wrong_talk<R: Threads + Wait + Sync>(
+fn wrong_talk<R: Threads + Wait + Sync + Eprint>(
     rt: &R,
     alloc: Global,
     setup: &Setup,
@@ -199,7 +210,7 @@ fn wrong_talk<R: Threads + Wait + Sync>(
     Ok(None)
 }
 
-fn wrong_talk_over_small<R: Threads + Wait + Sync>(
+fn wrong_talk_over_small<R: Threads + Wait + Sync + Eprint>(
     rt: &R,
     alloc: Global,
 ) -> Result<Option<usize>, Memory> {
@@ -228,7 +239,7 @@ fn more_after_quit(alloc: Global) -> Result<MemSource, Memory> {
 }
 
 // Whether a session ends by `quit`, and that much is left.
-fn leaves_the_rest<R: Threads + Wait + Sync>(
+fn leaves_the_rest<R: Threads + Wait + Sync + Eprint>(
     rt: &R,
     alloc: Global,
     setup: &Setup,
@@ -238,7 +249,7 @@ fn leaves_the_rest<R: Threads + Wait + Sync>(
     Ok(so && source.left().len() >= LEFT)
 }
 
-fn leaves_the_rest_over_small<R: Threads + Wait + Sync>(
+fn leaves_the_rest_over_small<R: Threads + Wait + Sync + Eprint>(
     rt: &R,
     alloc: Global,
 ) -> Result<bool, Memory> {
@@ -268,7 +279,7 @@ fn after_a_cut<R: Threads + Wait + Sync>(
 }
 
 // Whether the second prints a table of the release that the first published.
-fn batch_stands<R: Threads + Wait + Sync>(
+fn batch_stands<R: Threads + Wait + Sync + Eprint>(
     rt: &R,
     alloc: Global,
     setup: &Setup,
@@ -277,10 +288,10 @@ fn batch_stands<R: Threads + Wait + Sync>(
     let mut sink = MemSink::new(alloc, 100)?;
     let end = after_a_cut(rt, alloc, setup, &mut next, &mut sink)?;
     let text = b"release 1\nSEX,count\n1,1\n2,0\n.\n";
-    Ok(end == SessionEnd::Ended && sink.taken() == text.as_slice())
+    Ok(is_text(rt, sink.taken(), text) && end == SessionEnd::Ended)
 }
 
-fn batch_stands_over_small<R: Threads + Wait + Sync>(
+fn batch_stands_over_small<R: Threads + Wait + Sync + Eprint>(
     rt: &R,
     alloc: Global,
 ) -> Result<bool, Memory> {

@@ -103,9 +103,10 @@ module _ (census : CensusValue) (script : ScriptValue) (s : Status) (out : Outpu
   lines-earlier end h = record {
     batches = h.batches;
     recovered = h.recovered;
+    first_moment = h.first_moment;
     first_faults = h.first_faults;
     since = omega (arith, le, h.since);
-    kept = record { last = h.kept.last; run = h.kept.run; left = h.kept.left; counted = h.kept.counted };
+    kept = record { last = h.kept.last; run = h.kept.run; left = h.kept.left; ever = h.kept.ever; counted = h.kept.counted };
   }
 
   line-earlier : (final : Status) (text : List ℕ) → IsKeepLine census saw final text → IsKeepLine census earlier final text

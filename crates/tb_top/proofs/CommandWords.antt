@@ -2,7 +2,7 @@
 use Rattle.std.proofs.Common.{◌≡◌, ◌∙◌, ap, sym, refl, ℕ, ◌<◌, List, [], length, map, Bool, true, false, not}
 use Rattle.std.specs.Prelude.{bytes_eq, codes, get_or}
 use Rattle.std.proofs.lemmas.List.{get_or-map}
-use Rattle.tb_top.specs.Commands.{gen_named, gen_words, host_named, host_words, keep_named, keep_words, serve_named, serve_words, units_named, units_words, with_script, word_at, words_with_script}
+use Rattle.tb_top.specs.Commands.{gen_named, gen_words, host_named, host_words, keep_named, keep_words, units_named, units_words, with_script, with_service, word_at, words_with_script, words_with_service}
 
 pub word-read : {S : Type 0} (words : List S) (f : S → List ℕ) (i : ℕ) (s : S) (text : List ℕ) → i < length words → s ≡ get_or words i s
     → text ≡ f s → word_at (map f words) i ≡ text
@@ -24,11 +24,11 @@ pub keep-named : (words : List (List ℕ)) (a b c d e f g h : List ℕ) → leng
     → word_at words 7 ≡ h → keep_named b c d e f g h ≡ keep_words words
 keep-named words a b c d e f g h len first is h1 h2 h3 h4 h5 h6 h7 = rw (len, first, is, h1, h2, h3, h4, h5, h6, h7) refl
 
-pub serve-named : (words : List (List ℕ)) (a b c d e f g h i : List ℕ) → length words ≡ 9 → word_at words 0 ≡ a → bytes_eq a
-    (codes "serve") ≡ true
+pub with-service : (word : List ℕ) (words : List (List ℕ)) (a b c d e f g h i : List ℕ) → length words ≡ 9 → word_at words 0 ≡ a
+    → bytes_eq a word ≡ true
     → word_at words 1 ≡ b → word_at words 2 ≡ c → word_at words 3 ≡ d → word_at words 4 ≡ e → word_at words 5 ≡ f → word_at words 6 ≡ g
-    → word_at words 7 ≡ h → word_at words 8 ≡ i → serve_named b c d e f g h i ≡ serve_words words
-serve-named words a b c d e f g h i len first is h1 h2 h3 h4 h5 h6 h7 h8 = rw (len, first, is, h1, h2, h3, h4, h5, h6, h7, h8) refl
+    → word_at words 7 ≡ h → word_at words 8 ≡ i → with_service b c d e f g h i ≡ words_with_service word words
+with-service word words a b c d e f g h i len first is h1 h2 h3 h4 h5 h6 h7 h8 = rw (len, first, is, h1, h2, h3, h4, h5, h6, h7, h8) refl
 
 pub units-named : (words : List (List ℕ)) (a b c d e f g h i : List ℕ) → length words ≡ 9 → word_at words 0 ≡ a → bytes_eq a
     (codes "units") ≡ true

@@ -2,7 +2,7 @@
 use Rattle.std.proofs.Common.{◌≡◌, ◌⊎◌, ◌∙◌, sym, ap, subst, ℕ, List, Ok, inl, inr, true, false, true≢false}
 use Rattle.std.specs.Prelude.{IfSome}
 use Rattle.tb_base.specs.declared.status.Status.{Status}
-use Rattle.tb_top.specs.Asking.{AskedValue, Follow, Gen, Host, Keep, Lanes, Script, Serve, asked_of, is_keep, is_service}
+use Rattle.tb_top.specs.Asking.{AskedValue, Follow, Gen, Host, Keep, Lanes, Mirror, Script, Serve, asked_of, is_keep, is_service}
 use Rattle.tb_top.specs.Calls.{Call, journal_seen, output_of}
 use Rattle.tb_top.specs.Commands.{asks_to_keep, command_of}
 use Rattle.tb_top.specs.HostOutputs.{IsHostAnswered}
@@ -78,6 +78,7 @@ AreAnsweredFor call s (Script census script) = ⊥
 AreAnsweredFor call s (Lanes census script) = ⊥
 AreAnsweredFor call s (Follow census script) = ⊥
 AreAnsweredFor call s (Host census journal service) = ⊥
+AreAnsweredFor call s (Mirror census service) = ⊥
 AreAnsweredFor call s (Serve census service) = ⊥
 AreAnsweredFor call s (Gen population census script) = ⊥
 
@@ -99,6 +100,7 @@ AreServedFor call s (Keep census journal script) = ⊥
 AreServedFor call s (Script census script) = ⊥
 AreServedFor call s (Lanes census script) = ⊥
 AreServedFor call s (Follow census script) = ⊥
+AreServedFor call s (Mirror census service) = ⊥
 AreServedFor call s (Serve census service) = ⊥
 AreServedFor call s (Gen population census script) = ⊥
 

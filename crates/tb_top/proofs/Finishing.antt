@@ -11,7 +11,7 @@ use Rattle.tb_top.specs.declared.endings.End.TheVariants as end
 use Rattle.tb_top.specs.declared.command.Command.{Command}
 use Rattle.tb_top.specs.declared.command.Command.TheVariants as command
 use Rattle.tb_top.specs.declared.command.Inputs.{Inputs}
-use Rattle.tb_top.specs.Asking.{AskedValue, CensusValue, Follow, Gen, Host, Keep, Lanes, Script, Serve, asked_of, asked_over, contents_at, is_keep, is_service}
+use Rattle.tb_top.specs.Asking.{AskedValue, CensusValue, Follow, Gen, Host, Keep, Lanes, Mirror, Script, Serve, asked_of, asked_over, contents_at, is_keep, is_service}
 use Rattle.tb_top.specs.Calls.{Call, HasTaken, IsReadTo, NetFailed, ReadFailed, WriteFailed}
 use Rattle.tb_top.specs.Commands.{asks_to_generate, asks_to_keep, asks_to_serve, command_of, command_files, input_files, named}
 use Rattle.tb_top.specs.Endings.{IsEnded, IsLineWritten, last_line, status_of}
@@ -28,6 +28,7 @@ use Rattle.tb_top.proofs.Hosting.{keeps_by_host}
 use Rattle.tb_top.proofs.Keeping.{keeps_by_keep}
 use Rattle.tb_top.proofs.PortLemmas.{all-unserved, same-idle}
 use Rattle.tb_top.proofs.LanesRun.{keeps_by_lanes}
+use Rattle.tb_top.proofs.Mirroring.{keeps_by_mirror}
 use Rattle.tb_top.proofs.Serving.{keeps_by_service}
 use Rattle.tb_top.proofs.Telling.{always_told, where_told}
 use Rattle.tb_top.proofs.Writing.{keeps_by_written}
@@ -343,6 +344,8 @@ keeps_by_answer call command (Follow census script) s named serves keeps told fr
     (λ replies are. (refl, (replies, are, refl))) (λ replies some part. (some, part)) answered
 keeps_by_answer call command (Host census journal service) s named serves keeps told fresh (free, answered) =
     keeps_by_host call command census journal service s named (sym serves) (sym keeps) told free fresh answered
+keeps_by_answer call command (Mirror census service) s named serves keeps told fresh (still, free, answered) =
+    keeps_by_mirror call command census service s named (sym serves) told free fresh still answered
 keeps_by_answer call command (Serve census service) s named serves keeps told fresh (still, free, answered) =
     keeps_by_service call command census service s named (sym serves) told free fresh still answered
 keeps_by_answer call command (Gen population census script) s named serves keeps told fresh (same, still, answered) =
@@ -403,6 +406,7 @@ holds at (command.Keep inputs journal script) = holds-files at inputs.recodes in
 holds at (command.Follow inputs script) = holds-files at inputs.recodes inputs.classes inputs.ptable inputs.people script inputs.threshold
 holds at (command.Units inputs dwellings links script) = holds-counted at inputs.recodes inputs.classes inputs.ptable inputs.people dwellings links script inputs.threshold
 holds at (command.Host inputs journal service) = holds-inputs at inputs.recodes inputs.classes inputs.ptable inputs.people inputs.threshold
+holds at (command.Mirror inputs service) = holds-inputs at inputs.recodes inputs.classes inputs.ptable inputs.people inputs.threshold
 holds at (command.Serve inputs service) = holds-inputs at inputs.recodes inputs.classes inputs.ptable inputs.people inputs.threshold
 holds at (command.Gen population) = tt
 

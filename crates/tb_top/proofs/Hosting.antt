@@ -38,10 +38,11 @@ use Rattle.tb_top.proofs.Serving.{IsFinal, done_or_net, ending_of, final_is, kee
 -- ---- what was seen is told from an earlier moment on
 
 module _ (census : CensusValue) (service : Service) (before after : List PortValue) (saw : JournalSeen) (out : Output) (s : Status)
-    (faults : ℕ) (le : faults ≤ saw.faults) (up : saw.faults ≤ saw.faults_after) where
-  -- and what a stop could leave at first isn't
+    (faults : ℕ) (le : faults ≤ saw.faults) (up : saw.faults ≤ saw.faults_after)
+    (could_leave : List ℕ → Type 0) (could : (image : List ℕ) → saw.could_leave image → could_leave image) where
+  -- and what a stop could leave then
   abbrev earlier : JournalSeen
-  earlier = record saw { could_leave = λ image. Unit {0}; faults = faults }
+  earlier = record saw { could_leave = could_leave; faults = faults }
 
   pub run-earlier : IsHostRun census service before after saw out s → IsHostRun census service before after earlier out s
   run-earlier (inl refused) = inl refused
@@ -52,7 +53,7 @@ module _ (census : CensusValue) (service : Service) (before after : List PortVal
         HasRisen-earlier faults saw.faults saw.faults_after le rose up,
         λ file h image left.
             let one = stands file h image left in
-            record { first = one.first; left = tt; same = one.same; stands = one.stands },
+            record { first = one.first; left = could one.first one.left; same = one.same; stands = one.stands },
         ended,
       )))
   run-earlier (inr (inr (inr (inl unbound)))) =
@@ -60,6 +61,7 @@ module _ (census : CensusValue) (service : Service) (before after : List PortVal
   run-earlier (inr (inr (inr (inr all)))) = inr (inr (inr (inr (record {
     batches = all.batches;
     recovered = all.recovered;
+    first_moment = all.first_moment;
     first_faults = all.first_faults;
     since = omega (arith, le, all.since);
     hosted = record {
@@ -67,6 +69,7 @@ module _ (census : CensusValue) (service : Service) (before after : List PortVal
       sessions = all.hosted.sessions;
       chain = all.hosted.chain;
       left = all.hosted.left;
+      ever = all.hosted.ever;
       counted = all.hosted.counted;
       reported = all.hosted.reported;
     };
@@ -211,6 +214,7 @@ module _ (call : Call) (command : Command) (census : CensusValue) (journal : Lis
         (host_report (is_none last.further) ports (length last.state.chain))
     output_is = inl (
       all.batches,
+      all.first_moment,
       all.first_faults,
       last,
       all.recovered.follow,
@@ -232,7 +236,7 @@ module _ (call : Call) (command : Command) (census : CensusValue) (journal : Lis
     rises some =
         risen-whole n call.ports call.ports_after long all.bound.same_length rest
         (risen-by (take n call.ports) ports all.bound.same_length
-        (λ i d below. (hosted-enough census.setup (base_of census) service.sessions (after_playing (base_of census) all.batches all.first_faults)
+        (λ i d below. (hosted-enough census.setup (base_of census) service.sessions (after_playing (base_of census) all.batches all.first_moment all.first_faults)
         last i _ _ (all.hosted.sessions.at i d below)).risen) some)
 
     by_report : (live : Bool) → output_now (host_status live ports) (host_report live ports (length last.state.chain))

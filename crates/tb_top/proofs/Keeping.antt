@@ -34,6 +34,7 @@ keeps-alone (command.Keep inputs journal script) keeps generates = cc
 keeps-alone (command.Follow inputs script) keeps generates = cc
 keeps-alone (command.Units inputs dwellings links script) keeps generates = cc
 keeps-alone (command.Host inputs journal service) keeps generates = cc
+keeps-alone (command.Mirror inputs service) keeps generates = cc
 keeps-alone (command.Serve inputs service) keeps generates = cc
 keeps-alone (command.Gen population) keeps generates = cc
 
@@ -60,13 +61,13 @@ module _ (call : Call) (command : Command) (census : CensusValue) (journal : Lis
   by_lines : AreKeepLinesAnswered census script s (output_of call) saw → Keeps call s
   by_lines (inl (is, lines)) =
       let (replies, are, took, cost) = kept-all census.setup (base_of census) script.lines _ _ _ _ lines.kept.run in
-      let answers : AreKeepReplies census script replies = (lines.batches, lines.first_faults, lines.recovered.follow, are) in
+      let answers : AreKeepReplies census script replies = (lines.batches, lines.first_moment, lines.first_faults, lines.recovered.follow, are) in
       keeps_by_written call command asked s (text_of replies) named told (refl, (replies, answers, refl))
       (priced_by replies answers cost (λ m. cc, TookPart-all call.taken call.taken_after (text_of replies) took)) fresh same
       (answered-on-disk call asked s told refl asks (inl (is, lines))) (inl (is, took))
   by_lines (inr (is, rose, lines)) =
       let (replies, are, part, cost) = kept-part census.setup (base_of census) script.lines _ _ _ _ lines.kept.run in
-      let answers : AreKeepReplies census script replies = (lines.batches, lines.first_faults, lines.recovered.follow, are) in
+      let answers : AreKeepReplies census script replies = (lines.batches, lines.first_moment, lines.first_faults, lines.recovered.follow, are) in
       keeps_by_written call command asked s (text_of replies) named told (refl, (replies, answers, refl))
       (priced_by replies answers cost (λ m. cc, part)) fresh same
       (answered-on-disk call asked s told refl asks (inr (is, rose, lines))) (inr (is, rose, part))

@@ -9,6 +9,7 @@ pub mod Hosting
 pub mod Keeping
 pub mod LanesRun
 pub mod LoadSteps
+pub mod Mirroring
 pub mod PortLemmas
 pub mod Serving
 pub mod SummaryTexts

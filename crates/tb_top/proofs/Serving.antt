@@ -12,10 +12,11 @@ use Rattle.tb_serve.specs.Ports.{PortValue}
 use Rattle.tb_serve.specs.Reports.{memory_line, net_line, report, some_failed}
 use Rattle.tb_serve.specs.Serves.{IsEnded, IsPortServed, final_status}
 use Rattle.tb_serve.specs.Stages.{HasRisenSome, IsFresh, IsUntouched}
-use Rattle.tb_top.specs.Asking.{AskedValue, CensusValue, Serve, asked_of, base_of}
+use Rattle.tb_top.specs.Asking.{AskedValue, CensusValue, Serve, asked_of, base_of, is_keep}
 use Rattle.tb_top.specs.Calls.{Call, HasTaken, NetFailed, output_of}
 use Rattle.tb_top.specs.Commands.{asks_to_generate, asks_to_keep, asks_to_serve, command_of}
 use Rattle.tb_top.specs.KeepOutputs.{HasFailed, IsStill}
+use Rattle.tb_top.specs.Outputs.{IsOutput}
 use Rattle.tb_top.specs.ServicePorts.{Service}
 use Rattle.tb_top.specs.Promises.{IsAskedOutput, IsDefined, IsJournalText, IsTextOf, IsWhole, Keeps, defined_status}
 use Rattle.tb_top.specs.Services.{IsIdle, IsServiceAnswered}
@@ -168,11 +169,16 @@ failed_at : (ports : List PortValue) (i : ℕ) (x d : PortValue) → i < length 
 failed_at ports i x d below at failed =
     ap (λ (p : PortValue). p.failed) (get_or_default ports i d x below ∙ sym at) ∙ failed
 
+-- ports of each of which something is true by which it is idle
+pub idle-by : (R : ℕ → PortValue → PortValue → Type 0) (ports ports' : List PortValue) → ((i : ℕ) (p q : PortValue) → R i p q → IsIdle q)
+    → Each R ports ports' → All IsIdle ports'
+idle-by R ports ports' idle each = λ i d below. idle i _ _ (each.at i d (omega (arith, below, each.same_length)))
+
 served-idle : (census : CensusValue) (service : Service) (chain : List BatchValue) (ports ports' : List PortValue)
     → Each (IsPortServed census.setup (base_of census) service.port service.sessions chain) ports ports' → All IsIdle ports'
-served-idle census service chain ports ports' each = λ i d below.
-    let at = each.at i d (omega (arith, below, each.same_length)) in
-    record { party = at.party; lines = at.lines }
+served-idle census service chain ports ports' each =
+    idle-by (IsPortServed census.setup (base_of census) service.port service.sessions chain) ports ports'
+    (λ i p q at. record { party = at.party; lines = at.lines }) each
 
 -- some accept failed only where a count rose
 pub risen-by : (ports ports' : List PortValue) → length ports' ≡ length ports
@@ -184,10 +190,10 @@ risen-by ports ports' same rises some =
     let inside : i < length ports = omega (arith, below, same) in
     (i, inside, λ d. rises i d inside (failed_at ports' i x d below (sym at) failed))
 
-failed-risen : (call : Call) (census : CensusValue) (service : Service) (chain : List BatchValue) (ports ports' : List PortValue)
+failed-risen : (census : CensusValue) (service : Service) (chain : List BatchValue) (ports ports' : List PortValue)
     → Each (IsPortServed census.setup (base_of census) service.port service.sessions chain) ports ports' → some_failed ports' ≡ true
     → HasRisenSome ports ports'
-failed-risen call census service chain ports ports' each some =
+failed-risen census service chain ports ports' each some =
     risen-by ports ports' each.same_length (λ i d inside. (each.at i d inside).sessions.visited.enough.risen) some
 
 -- a command that asks for sessions asks for no generated population
@@ -198,13 +204,14 @@ serves-alone (command.Keep inputs journal script) serves generates = cc
 serves-alone (command.Follow inputs script) serves generates = cc
 serves-alone (command.Units inputs dwellings links script) serves generates = cc
 serves-alone (command.Host inputs journal service) serves generates = cc
+serves-alone (command.Mirror inputs service) serves generates = cc
 serves-alone (command.Serve inputs service) serves generates = cc
 serves-alone (command.Gen population) serves generates = cc
 
--- the ports of a service that was answered, and the others
-module _ (call : Call) (command : Command) (census : CensusValue) (service : Service) (s : Status)
-    (named : command_of call.words ≡ Some command) (serves : asks_to_serve (Some command) ≡ true)
-    (told : IfSome call.content (λ at. asked_of at call.words ≡ Ok (Serve census service))) (free : call.steps_after ≡ call.steps)
+-- the ports of a service without a journal that was answered, and the others
+module _ (call : Call) (command : Command) (task : AskedValue) (service : Service) (s : Status)
+    (named : command_of call.words ≡ Some command) (serves : asks_to_serve (Some command) ≡ true) (other : is_keep task ≡ false)
+    (told : IfSome call.content (λ at. asked_of at call.words ≡ Ok task)) (free : call.steps_after ≡ call.steps)
     (fresh : All IsFresh call.ports) (long : service.workers + 1 ≤ length call.ports)
     (rest : drop (service.workers + 1) call.ports_after ≡ drop (service.workers + 1) call.ports) (still : IsStill call.disk) where
   abbrev n : ℕ
@@ -222,47 +229,48 @@ module _ (call : Call) (command : Command) (census : CensusValue) (service : Ser
   not_generated final h = absurd (serves-alone command serves h)
 
   on_disk : KeepsDisk call s
-  on_disk = left-alone call (Serve census service) s refl told still
+  on_disk = left-alone call task s other told still
 
   -- nothing was accepted
   by_untouched : (text : List ℕ) (final : Status) → IsFinal final → Each (IsUntouched service.port) (take n call.ports) (take n call.ports_after)
       → (final ≡ status.NetFault → NetFailed call) → final ≢ status.DiskFault
-      → ((at : List ℕ → Option (List ℕ)) → asked_of at call.words ≡ Ok (Serve census service) → IsWhole call at final text)
+      → ((at : List ℕ → Option (List ℕ)) → asked_of at call.words ≡ Ok task → IsWhole call at final text)
       → IsEnded text final (output_of call) s → Keeps call s
   by_untouched text final is each net no_disk whole ended =
       let idle = idle-whole n call.ports call.ports_after long each.same_length rest fresh (each-idle service.port _ _ each ours) in
-      keeps_by_final call command (Serve census service) s final text named told free is net (λ h. absurd (no_disk h)) idle no_others
+      keeps_by_final call command task s final text named told free is net (λ h. absurd (no_disk h)) idle no_others
       (not_generated final) whole on_disk ended
 
-  by_memory : Each (IsUntouched service.port) (take n call.ports) (take n call.ports_after)
+  pub by_memory : Each (IsUntouched service.port) (take n call.ports) (take n call.ports_after)
       → IsEnded memory_line status.Memory (output_of call) s → Keeps call s
   by_memory each ended =
       let none = each-whole n call.ports call.ports_after long each.same_length rest _ unserved (each-unserved service.port _ _ each) in
       by_untouched memory_line status.Memory tt each (λ h. cc) (λ h. cc) (λ at asked. (inl refl, none)) ended
 
-  by_unbound : Each (IsUntouched service.port) (take n call.ports) (take n call.ports_after)
-      → HasRisenSome (take n call.ports) (take n call.ports_after) → IsEnded net_line status.NetFault (output_of call) s → Keeps call s
-  by_unbound each rose ended =
+  pub by_unbound : Each (IsUntouched service.port) (take n call.ports) (take n call.ports_after)
+      → HasRisenSome (take n call.ports) (take n call.ports_after)
+      → IsOutput task call.ports call.ports_after status.NetFault net_line → IsEnded net_line status.NetFault (output_of call) s → Keeps call s
+  by_unbound each rose out ended =
       by_untouched net_line status.NetFault tt each (λ h. risen-whole n call.ports call.ports_after long each.same_length rest rose) (λ h. cc)
-      (λ at asked. (Serve census service, asked, inr ((each, rest), rose, refl, refl))) ended
+      (λ at asked. (task, asked, out)) ended
 
-  by_sessions : (chain : List BatchValue)
-      → Each (IsPortServed census.setup (base_of census) service.port service.sessions chain) (take n call.ports) (take n call.ports_after)
-      → IsEnded (report (take n call.ports_after) (length chain)) (final_status (take n call.ports_after)) (output_of call) s → Keeps call s
-  by_sessions chain each ended =
+  -- all ports were served, and the number of this release was reported
+  pub by_sessions : (release : ℕ) → length (take n call.ports_after) ≡ length (take n call.ports) → All IsIdle (take n call.ports_after)
+      → (some_failed (take n call.ports_after) ≡ true → HasRisenSome (take n call.ports) (take n call.ports_after))
+      → IsOutput task call.ports call.ports_after (final_status (take n call.ports_after)) (report (take n call.ports_after) release)
+      → IsEnded (report (take n call.ports_after) release) (final_status (take n call.ports_after)) (output_of call) s → Keeps call s
+  by_sessions release same idle rises out ended =
       let ports = take n call.ports_after in
       let ending = ending_of ports in
-      let text = report ports (length chain) in
-      let idle = idle-whole n call.ports call.ports_after long each.same_length rest fresh (served-idle census service chain _ _ each) in
-      let whole = λ (at : List ℕ → Option (List ℕ)) (asked : asked_of at call.words ≡ Ok (Serve census service)).
-      whole_by_output call at (final_status ports) text (done_or_net ports ending)
-      (Serve census service, asked, inl (chain, (each, rest), refl, refl)) in
-      keeps_by_final call command (Serve census service) s (final_status ports) text named told free
+      let text = report ports release in
+      keeps_by_final call command task s (final_status ports) text named told free
       (final_is (final_status ports) (done_or_net ports ending))
-      (λ h. risen-whole n call.ports call.ports_after long each.same_length rest
-      (failed-risen call census service chain _ _ each (some_by ports ending h)))
-      (λ h. absurd (no_disk_by (final_status ports) (done_or_net ports ending) h)) idle no_others
-      (not_generated (final_status ports)) whole on_disk ended
+      (λ h. risen-whole n call.ports call.ports_after long same rest (rises (some_by ports ending h)))
+      (λ h. absurd (no_disk_by (final_status ports) (done_or_net ports ending) h))
+      (idle-whole n call.ports call.ports_after long same rest fresh idle) no_others
+      (not_generated (final_status ports))
+      (λ (at : List ℕ → Option (List ℕ)) (asked : asked_of at call.words ≡ Ok task).
+      whole_by_output call at (final_status ports) text (done_or_net ports ending) (task, asked, out)) on_disk ended
 
 -- a run that served sessions keeps all
 pub keeps_by_service : (call : Call) (command : Command) (census : CensusValue) (service : Service) (s : Status)
@@ -272,8 +280,10 @@ pub keeps_by_service : (call : Call) (command : Command) (census : CensusValue) 
     → IsServiceAnswered census service call.ports call.ports_after s call.write_faults call.write_faults_after call.taken call.taken_after
     → Keeps call s
 keeps_by_service call command census service s named serves told free fresh still (long, rest, inl (each, ended)) =
-    by_memory call command census service s named serves told free fresh long rest still each ended
+    by_memory call command (Serve census service) service s named serves refl told free fresh long rest still each ended
 keeps_by_service call command census service s named serves told free fresh still (long, rest, inr (inl (each, rose, ended))) =
-    by_unbound call command census service s named serves told free fresh long rest still each rose ended
+    by_unbound call command (Serve census service) service s named serves refl told free fresh long rest still each rose
+    (inr ((each, rest), rose, refl, refl)) ended
 keeps_by_service call command census service s named serves told free fresh still (long, rest, inr (inr (chain, each, ended))) =
-    by_sessions call command census service s named serves told free fresh long rest still chain each ended
+    by_sessions call command (Serve census service) service s named serves refl told free fresh long rest still (length chain) each.same_length
+    (served-idle census service chain _ _ each) (failed-risen census service chain _ _ each) (inl (chain, (each, rest), refl, refl)) ended

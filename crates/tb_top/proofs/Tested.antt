@@ -13,7 +13,7 @@ use Rattle.tb_top.specs.declared.command.Inputs.{Inputs}
 use Rattle.tb_base.specs.declared.people.TheConstants.{MOST_PERSONS}
 use Rattle.tb_base.specs.declared.limits.TheConstants.{MOST_THRESHOLD}
 use Rattle.tb_top.specs.declared.service.TheConstants.{MOST_PORT, MOST_SESSIONS, MOST_WORKERS}
-use Rattle.tb_top.specs.Commands.{command_of, follow_words, gen_named, gen_words, host_named, host_words, inputs_named, inputs_with, is_file_name, keep_named, keep_words, lanes_words, may_name_recodes, script_words, serve_named, serve_words, threshold_in, units_named, units_words, with_script, word_at, words_with_script}
+use Rattle.tb_top.specs.Commands.{command_of, follow_words, gen_named, gen_words, host_named, host_words, inputs_named, inputs_with, is_file_name, keep_named, keep_words, lanes_words, may_name_recodes, mirror_words, script_words, serve_words, threshold_in, units_named, units_words, with_script, with_service, word_at, words_with_script, words_with_service}
 use Rattle.tb_top.specs.Numbers.{number_within}
 use Rattle.tb_top.specs.Populations.{population_named, population_with}
 use Rattle.tb_top.specs.ServicePorts.{Service, service_named, service_with}
@@ -104,15 +104,15 @@ handed_at a b c rest = go (bytes_eq c (codes "-"))
     go true = refl
     go false = refl
 
--- the words after that of a command with a script pass, put on to the word
-abbrev AreTestedAfter : List ℕ → List (List ℕ) → Type 0
-AreTestedAfter word words =
-    (values : List (List ℕ)) × (handed_on words ≡ word ∷ values) × (length values ≡ 6) × (list_all is_plain values ≡ true)
+-- so many words after that of a command pass, put on to the word
+abbrev AreTestedAfter : ℕ → List ℕ → List (List ℕ) → Type 0
+AreTestedAfter count word words =
+    (values : List (List ℕ)) × (handed_on words ≡ word ∷ values) × (length values ≡ count) × (list_all is_plain values ≡ true)
 
 -- the words of each command, one by one
 with_script_list : (word : List ℕ) (words : List (List ℕ)) (named : Inputs × List ℕ) → length words ≡ 7 → bytes_eq (word_at words 0) word ≡ true
     → with_script (word_at words 1) (word_at words 2) (word_at words 3) (word_at words 4) (word_at words 5) (word_at words 6) ≡ Some named
-    → AreTestedAfter word words
+    → AreTestedAfter 6 word words
 with_script_list word [] k len name named = absurd (omega (arith, len))
 with_script_list word (a ∷ []) k len name named = absurd (omega (arith, len))
 with_script_list word (a ∷ b ∷ []) k len name named = absurd (omega (arith, len))
@@ -134,7 +134,7 @@ with_script_list word (a ∷ b ∷ c ∷ d ∷ e ∷ f ∷ g ∷ []) k len name 
     )
 with_script_list word (a ∷ b ∷ c ∷ d ∷ e ∷ f ∷ g ∷ x ∷ rest) k len name named = absurd (omega (arith, len))
 
-with_script_tested : (word : List ℕ) (words : List (List ℕ)) (named : Inputs × List ℕ) → words_with_script word words ≡ Some named → AreTestedAfter word words
+with_script_tested : (word : List ℕ) (words : List (List ℕ)) (named : Inputs × List ℕ) → words_with_script word words ≡ Some named → AreTestedAfter 6 word words
 with_script_tested word words k h =
     let (test, named) = if_some ((length words == 7) && bytes_eq (word_at words 0) word) (with_script (word_at words 1) (word_at words 2) (word_at words 3) (word_at words 4) (word_at words 5) (word_at words 6)) k h in
     let (len, name) = both (length words == 7) (bytes_eq (word_at words 0) word) test in
@@ -246,32 +246,32 @@ host_list (a ∷ b ∷ c ∷ d ∷ e ∷ f ∷ g ∷ h ∷ i ∷ j ∷ []) k len
     ))))))
 host_list (a ∷ b ∷ c ∷ d ∷ e ∷ f ∷ g ∷ h ∷ i ∷ j ∷ x ∷ rest) k len name named = absurd (omega (arith, len))
 
-serve_list : (words : List (List ℕ)) (k : Command) → length words ≡ 9 → bytes_eq (word_at words 0) (codes "serve") ≡ true
-    → serve_named (word_at words 1) (word_at words 2) (word_at words 3) (word_at words 4) (word_at words 5) (word_at words 6) (word_at words 7) (word_at words 8) ≡ Some k → AreTested words
-serve_list [] k len name named = absurd (omega (arith, len))
-serve_list (a ∷ []) k len name named = absurd (omega (arith, len))
-serve_list (a ∷ b ∷ []) k len name named = absurd (omega (arith, len))
-serve_list (a ∷ b ∷ c ∷ []) k len name named = absurd (omega (arith, len))
-serve_list (a ∷ b ∷ c ∷ d ∷ []) k len name named = absurd (omega (arith, len))
-serve_list (a ∷ b ∷ c ∷ d ∷ e ∷ []) k len name named = absurd (omega (arith, len))
-serve_list (a ∷ b ∷ c ∷ d ∷ e ∷ f ∷ []) k len name named = absurd (omega (arith, len))
-serve_list (a ∷ b ∷ c ∷ d ∷ e ∷ f ∷ g ∷ []) k len name named = absurd (omega (arith, len))
-serve_list (a ∷ b ∷ c ∷ d ∷ e ∷ f ∷ g ∷ h ∷ []) k len name named = absurd (omega (arith, len))
-serve_list (a ∷ b ∷ c ∷ d ∷ e ∷ f ∷ g ∷ h ∷ i ∷ []) k len name named =
-    let (inputs, read, more) = then_some (λ (inputs : Inputs). option_map (command.Serve inputs) (service_named g h i)) (inputs_named b c d e f) k named in
-    let (service, served) = map_some (command.Serve inputs) (service_named g h i) k more in
+with_service_list : (word : List ℕ) (words : List (List ℕ)) (named : Inputs × Service) → length words ≡ 9 → bytes_eq (word_at words 0) word ≡ true
+    → with_service (word_at words 1) (word_at words 2) (word_at words 3) (word_at words 4) (word_at words 5) (word_at words 6) (word_at words 7) (word_at words 8) ≡ Some named
+    → AreTestedAfter 8 word words
+with_service_list word [] k len name named = absurd (omega (arith, len))
+with_service_list word (a ∷ []) k len name named = absurd (omega (arith, len))
+with_service_list word (a ∷ b ∷ []) k len name named = absurd (omega (arith, len))
+with_service_list word (a ∷ b ∷ c ∷ []) k len name named = absurd (omega (arith, len))
+with_service_list word (a ∷ b ∷ c ∷ d ∷ []) k len name named = absurd (omega (arith, len))
+with_service_list word (a ∷ b ∷ c ∷ d ∷ e ∷ []) k len name named = absurd (omega (arith, len))
+with_service_list word (a ∷ b ∷ c ∷ d ∷ e ∷ f ∷ []) k len name named = absurd (omega (arith, len))
+with_service_list word (a ∷ b ∷ c ∷ d ∷ e ∷ f ∷ g ∷ []) k len name named = absurd (omega (arith, len))
+with_service_list word (a ∷ b ∷ c ∷ d ∷ e ∷ f ∷ g ∷ h ∷ []) k len name named = absurd (omega (arith, len))
+with_service_list word (a ∷ b ∷ c ∷ d ∷ e ∷ f ∷ g ∷ h ∷ i ∷ []) k len name named =
+    let (inputs, read, more) = then_some (λ (inputs : Inputs). option_map (λ (service : Service). (inputs, service)) (service_named g h i)) (inputs_named b c d e f) k named in
+    let (service, served) = map_some (λ (service : Service). (inputs, service)) (service_named g h i) k more in
     let ports = plain_service g h i service served in
     let plain = plain_inputs b c d e f inputs read in
     let values = b ∷ handed c ∷ d ∷ e ∷ f ∷ g ∷ h ∷ i ∷ [] in
-    let first : a ≡ codes "serve" = (bytes_eq-Decides a (codes "serve")).0 name in
-    inr (inr (inr (inr (inr (inr (inl (
+    let first : a ≡ word = (bytes_eq-Decides a word).0 name in (
       values,
-      handed_at a b c (d ∷ e ∷ f ∷ g ∷ h ∷ i ∷ []) ∙ ap (λ (word : List ℕ). word ∷ values) first,
+      handed_at a b c (d ∷ e ∷ f ∷ g ∷ h ∷ i ∷ []) ∙ ap (λ (one : List ℕ). one ∷ values) first,
       refl,
       all_true _ _ plain.classes (all_true _ _ (plain_handed c plain.recodes) (all_true _ _ plain.ptable (all_true _ _ plain.people
           (all_true _ _ plain.threshold (all_true _ _ ports.port (all_true _ _ ports.workers (all_true _ _ ports.sessions refl))))))),
-    )))))))
-serve_list (a ∷ b ∷ c ∷ d ∷ e ∷ f ∷ g ∷ h ∷ i ∷ x ∷ rest) k len name named = absurd (omega (arith, len))
+    )
+with_service_list word (a ∷ b ∷ c ∷ d ∷ e ∷ f ∷ g ∷ h ∷ i ∷ x ∷ rest) k len name named = absurd (omega (arith, len))
 
 plain_either : (word : List ℕ) → is_plain word ≡ true → is_plain (handed word) ≡ true
 plain_either word plain = go (bytes_eq word (codes "-"))
@@ -291,17 +291,17 @@ gen_list (a ∷ b ∷ c ∷ []) k len name named =
     let (start, is_start) = map_some (population_with p) (number_of c) population more in
     let values = b ∷ handed c ∷ [] in
     let first : a ≡ codes "gen" = (bytes_eq-Decides a (codes "gen")).0 name in
-    inr (inr (inr (inr (inr (inr (inr (
+    inr (inr (inr (inr (inr (inr (inr (inr (
       values,
       handed_at a b c [] ∙ ap (λ (word : List ℕ). word ∷ values) first,
       refl,
       all_true _ _ (plain_within 1 MOST_PERSONS p b persons) (all_true _ _ (plain_either c (plain_number c start is_start)) refl),
-    )))))))
+    ))))))))
 gen_list (a ∷ b ∷ c ∷ x ∷ rest) k len name named = absurd (omega (arith, len))
 
 -- so do those of a command that is made of its inputs and its script's name
 made_tested : (word : List ℕ) (make : Inputs × List ℕ → Command) (words : List (List ℕ)) (k : Command)
-    → option_map make (words_with_script word words) ≡ Some k → AreTestedAfter word words
+    → option_map make (words_with_script word words) ≡ Some k → AreTestedAfter 6 word words
 made_tested word make words k h =
     let (named, is) = map_some make (words_with_script word words) k h in
     with_script_tested word words named is
@@ -312,11 +312,18 @@ keep_tested words k h =
     let (len, name) = both (length words == 8) (bytes_eq (word_at words 0) (codes "keep")) test in
     keep_list words k (eqb-true (length words) 8 len) name named
 
-serve_tested : (words : List (List ℕ)) (k : Command) → serve_words words ≡ Some k → AreTested words
-serve_tested words k h =
-    let (test, named) = if_some ((length words == 9) && bytes_eq (word_at words 0) (codes "serve")) (serve_named (word_at words 1) (word_at words 2) (word_at words 3) (word_at words 4) (word_at words 5) (word_at words 6) (word_at words 7) (word_at words 8)) k h in
-    let (len, name) = both (length words == 9) (bytes_eq (word_at words 0) (codes "serve")) test in
-    serve_list words k (eqb-true (length words) 9 len) name named
+with_service_tested : (word : List ℕ) (words : List (List ℕ)) (named : Inputs × Service) → words_with_service word words ≡ Some named → AreTestedAfter 8 word words
+with_service_tested word words k h =
+    let (test, named) = if_some ((length words == 9) && bytes_eq (word_at words 0) word) (with_service (word_at words 1) (word_at words 2) (word_at words 3) (word_at words 4) (word_at words 5) (word_at words 6) (word_at words 7) (word_at words 8)) k h in
+    let (len, name) = both (length words == 9) (bytes_eq (word_at words 0) word) test in
+    with_service_list word words k (eqb-true (length words) 9 len) name named
+
+-- and those of a command that is made of its inputs and its service
+served_tested : (word : List ℕ) (make : Inputs × Service → Command) (words : List (List ℕ)) (k : Command)
+    → option_map make (words_with_service word words) ≡ Some k → AreTestedAfter 8 word words
+served_tested word make words k h =
+    let (named, is) = map_some make (words_with_service word words) k h in
+    with_service_tested word words named is
 
 units_tested : (words : List (List ℕ)) (k : Command) → units_words words ≡ Some k → AreTested words
 units_tested words k h =
@@ -345,7 +352,8 @@ either P None other x h one two = two h
 pub tested : (words : List (List ℕ)) (k : Command) → command_of words ≡ Some k → AreTested words
 tested words k h =
     let served = option_or (serve_words words) (gen_words words) in
-    let hosted = option_or (host_words words) served in
+    let mirrored = option_or (mirror_words words) served in
+    let hosted = option_or (host_words words) mirrored in
     let counted = option_or (units_words words) hosted in
     let followed = option_or (follow_words words) counted in
     let kept = option_or (keep_words words) followed in
@@ -357,5 +365,9 @@ tested words k h =
     (λ rest. either (AreTested words) (follow_words words) counted k rest
     (λ is. inr (inr (inr (inl (made_tested (codes "follow") (λ named. command.Follow named.0 named.1) words k is)))))
     (λ other. either (AreTested words) (units_words words) hosted k other (units_tested words k)
-    (λ further. either (AreTested words) (host_words words) served k further (host_tested words k)
-    (λ last. either (AreTested words) (serve_words words) (gen_words words) k last (serve_tested words k) (gen_tested words k)))))))
+    (λ further. either (AreTested words) (host_words words) mirrored k further (host_tested words k)
+    (λ next. either (AreTested words) (mirror_words words) served k next
+    (λ is. inr (inr (inr (inr (inr (inr (inl (served_tested (codes "mirror") (λ named. command.Mirror named.0 named.1) words k is))))))))
+    (λ last. either (AreTested words) (serve_words words) (gen_words words) k last
+    (λ is. inr (inr (inr (inr (inr (inr (inr (inl (served_tested (codes "serve") (λ named. command.Serve named.0 named.1) words k is)))))))))
+    (gen_tested words k))))))))

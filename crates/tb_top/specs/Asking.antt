@@ -168,14 +168,16 @@ counted_in inputs contents =
     units_in census.setup.schema.keys contents >>= (λ units. Ok (with_units census units)))
 
 -- what is asked for over a census: replies to the lines of a script, one after another, of its
--- lanes at the same time, with a journal under a name, or by a follower; sessions, with a journal
--- or without; or, over that of a generated population, a summary of such replies
+-- lanes at the same time, with a journal under a name, or by a follower; sessions, with a journal,
+-- as a mirror of a leader, or with neither; or, over that of a generated population, a summary of
+-- such replies
 pub data AskedValue : Type 0 where
   Script : CensusValue → ScriptValue → AskedValue
   Lanes : CensusValue → ScriptValue → AskedValue
   Keep : CensusValue → (journal : List ℕ) → ScriptValue → AskedValue
   Follow : CensusValue → ScriptValue → AskedValue
   Host : CensusValue → (journal : List ℕ) → Service → AskedValue
+  Mirror : CensusValue → Service → AskedValue
   Serve : CensusValue → Service → AskedValue
   Gen : Population → CensusValue → ScriptValue → AskedValue
 
@@ -186,6 +188,7 @@ is_service (Lanes census script) = false
 is_service (Keep census journal script) = false
 is_service (Follow census script) = false
 is_service (Host census journal service) = true
+is_service (Mirror census service) = true
 is_service (Serve census service) = true
 is_service (Gen population census script) = false
 
@@ -196,6 +199,7 @@ is_keep (Lanes census script) = false
 is_keep (Keep census journal script) = true
 is_keep (Follow census script) = false
 is_keep (Host census journal service) = true
+is_keep (Mirror census service) = false
 is_keep (Serve census service) = false
 is_keep (Gen population census script) = false
 
@@ -237,6 +241,8 @@ asked_over (command.Follow inputs name) contents = script_over Follow inputs con
 asked_over (command.Units inputs dwellings links script) contents =
     counted_script_in inputs contents >>= (λ read. Ok (Script read.0 read.1))
 asked_over (command.Host inputs journal service) contents = host_in inputs journal service contents
+asked_over (command.Mirror inputs service) contents =
+    census_in inputs contents >>= (λ census. Ok (Mirror census service))
 asked_over (command.Serve inputs service) contents =
     census_in inputs contents >>= (λ census. Ok (Serve census service))
 asked_over (command.Gen population) contents = generated_asked population

@@ -7,7 +7,7 @@ use Rattle.tb_top.specs.declared.command.Inputs.{Inputs}
 use Rattle.tb_base.specs.declared.limits.TheConstants.{MOST_THRESHOLD}
 use Rattle.tb_top.specs.Numbers.{number_within}
 use Rattle.tb_top.specs.Populations.{population_named}
-use Rattle.tb_top.specs.ServicePorts.{service_named}
+use Rattle.tb_top.specs.ServicePorts.{Service, service_named}
 use Rattle.tb_top.specs.declared.endings.Input.{Input}
 use Rattle.tb_top.specs.declared.endings.Input.TheVariants as input
 
@@ -52,12 +52,12 @@ with_script classes recodes ptable people threshold script =
     (inputs_named classes recodes ptable people threshold)
     else None
 
--- a command of the inputs and the service
-abbrev pub serve_named : (classes recodes ptable people threshold port workers sessions : List ℕ)
-    → Option Command
-serve_named classes recodes ptable people threshold port workers sessions =
+-- the inputs and the service that eight arguments name, the last three being the service's
+abbrev pub with_service : (classes recodes ptable people threshold port workers sessions : List ℕ)
+    → Option (Inputs × Service)
+with_service classes recodes ptable people threshold port workers sessions =
     option_and_then (λ inputs.
-    option_map (command.Serve inputs) (service_named port workers sessions))
+    option_map (λ service. (inputs, service)) (service_named port workers sessions))
     (inputs_named classes recodes ptable people threshold)
 
 -- a command over a generated population
@@ -143,13 +143,25 @@ host_words words =
     (word_at words 5) (word_at words 6) (word_at words 7) (word_at words 8) (word_at words 9)
     else None
 
--- what `serve CLASSES RECODES PTABLE PEOPLE THRESHOLD PORT WORKERS SESSIONS` asks for
-abbrev pub serve_words : List (List ℕ) → Option Command
-serve_words words =
-    if (length words == 9) && bytes_eq (word_at words 0) (codes "serve")
-    then serve_named (word_at words 1) (word_at words 2) (word_at words 3) (word_at words 4)
+-- the inputs and the service after a command's word,
+-- `CLASSES RECODES PTABLE PEOPLE THRESHOLD PORT WORKERS SESSIONS`
+abbrev pub words_with_service : List ℕ → List (List ℕ) → Option (Inputs × Service)
+words_with_service word words =
+    if (length words == 9) && bytes_eq (word_at words 0) word
+    then with_service (word_at words 1) (word_at words 2) (word_at words 3) (word_at words 4)
     (word_at words 5) (word_at words 6) (word_at words 7) (word_at words 8)
     else None
+
+-- what `mirror` asks for, whose batches are a leader's; and `serve`, whose custodian publishes
+abbrev pub mirror_words : List (List ℕ) → Option Command
+mirror_words words =
+    option_map (λ named. command.Mirror named.0 named.1)
+    (words_with_service (codes "mirror") words)
+
+abbrev pub serve_words : List (List ℕ) → Option Command
+serve_words words =
+    option_map (λ named. command.Serve named.0 named.1)
+    (words_with_service (codes "serve") words)
 
 -- what `gen N START` asks for
 abbrev pub gen_words : List (List ℕ) → Option Command
@@ -166,7 +178,8 @@ command_of words =
     (option_or (keep_words words)
     (option_or (follow_words words)
     (option_or (units_words words)
-    (option_or (host_words words) (option_or (serve_words words) (gen_words words)))))))
+    (option_or (host_words words)
+    (option_or (mirror_words words) (option_or (serve_words words) (gen_words words))))))))
 
 -- an input and the name of its file
 pub record NamedFile : Type 0 where
@@ -211,6 +224,7 @@ command_files (command.Follow inputs script) = scripted_files inputs script
 command_files (command.Units inputs dwellings links script) =
     counted_files inputs dwellings links ++ (named input.Script script ∷ [])
 command_files (command.Host inputs journal service) = input_files inputs
+command_files (command.Mirror inputs service) = input_files inputs
 command_files (command.Serve inputs service) = input_files inputs
 command_files (command.Gen population) = []
 
@@ -218,6 +232,7 @@ command_files (command.Gen population) = []
 abbrev pub asks_to_serve : Option Command → Bool
 asks_to_serve (Some (command.Serve inputs service)) = true
 asks_to_serve (Some (command.Host inputs journal service)) = true
+asks_to_serve (Some (command.Mirror inputs service)) = true
 asks_to_serve (Some (command.Script inputs script)) = false
 asks_to_serve (Some (command.Lanes inputs script)) = false
 asks_to_serve (Some (command.Keep inputs journal script)) = false
@@ -235,6 +250,7 @@ asks_to_generate (Some (command.Keep inputs journal script)) = false
 asks_to_generate (Some (command.Follow inputs script)) = false
 asks_to_generate (Some (command.Units inputs dwellings links script)) = false
 asks_to_generate (Some (command.Host inputs journal service)) = false
+asks_to_generate (Some (command.Mirror inputs service)) = false
 asks_to_generate (Some (command.Serve inputs service)) = false
 asks_to_generate None = false
 
@@ -246,6 +262,7 @@ asks_to_keep (Some (command.Script inputs script)) = false
 asks_to_keep (Some (command.Lanes inputs script)) = false
 asks_to_keep (Some (command.Follow inputs script)) = false
 asks_to_keep (Some (command.Units inputs dwellings links script)) = false
+asks_to_keep (Some (command.Mirror inputs service)) = false
 asks_to_keep (Some (command.Serve inputs service)) = false
 asks_to_keep (Some (command.Gen population)) = false
 asks_to_keep None = false

@@ -45,10 +45,10 @@ AreSessionsHosted census service first last =
 abbrev pub IsHostOutput : CensusValue → Service → (before after : List PortValue) → Status
     → List ℕ → Type 0
 IsHostOutput census service before after s text =
-    ((batches : List (List Edit)) × (faults : ℕ) × (last : KeptState)
+    ((batches : List (List Edit)) × (moment : ℕ) × (faults : ℕ) × (last : KeptState)
     × CanAllFollow census.setup (base_of census) batches
-    × AreSessionsHosted census service (after_playing (base_of census) batches faults) last before
-    after
+    × AreSessionsHosted census service (after_playing (base_of census) batches moment faults) last
+    before after
     × (s ≡ host_status (is_none last.further) (ports_of service after))
     × (text
     ≡ host_report (is_none last.further) (ports_of service after) (length last.state.chain)))
@@ -56,13 +56,14 @@ IsHostOutput census service before after s text =
     × HasRisenSome (ports_of service before) (ports_of service after)
     × (s ≡ status.NetFault) × (text ≡ net_line))
 
--- what is seen of the file of this name on a disk; what a stop could leave of it at first isn't, so
--- that may be anything
+-- what is seen of the file of this name on a disk
 abbrev pub file_seen : DiskSeen → (journal : List ℕ) → JournalSeen
 file_seen disk journal = record {
   content = option_map (λ named. named journal) disk.named;
-  could_leave = λ image. Unit {0};
+  content_after = disk.content;
+  could_leave = disk.could_leave journal;
   may_leave = disk.may_leave;
+  left_since = disk.left_since;
   faults = disk.faults;
   faults_after = disk.faults_after;
 }

@@ -20,22 +20,31 @@ use Rattle.tb_top.specs.Asking.{CensusValue, base_of}
 use Rattle.tb_top.specs.Endings.{fault_line, last_line}
 use Rattle.tb_top.specs.declared.endings.End.TheVariants as end
 
--- what is seen of a disk: what each name had before it was attached, where that is told; whether it
--- is attached at the end, and what a stop then may leave; and its count of faults, before and after
+-- what is seen of a disk: what each name had before it was attached, where that is told, and what a
+-- stop could leave under it; whether it is attached at the end, and what a read then gives, where
+-- that is told; what a stop then may leave, and what one since a moment may have left; and its count
+-- of faults, before and after
 pub record DiskSeen : Type 1 where
   pub named : Option (List ℕ → List ℕ)
+  pub could_leave : List ℕ → List ℕ → Type 0
   pub attached : Bool
+  pub content : Option (List ℕ)
   pub may_leave : List ℕ → Type 0
+  pub left_since : ℕ → List ℕ → Type 0
   pub faults : ℕ
   pub faults_after : ℕ
 
 -- the same of a disk by its ghost members, before and after a call
-abbrev pub disk_seen : {D : Type 0} → (D → Option (List ℕ → List ℕ)) → (D → Bool)
-    → (D → List ℕ → Type 0) → (D → ℕ) → D → D → DiskSeen
-disk_seen named attached may_leave faults disk disk' = record {
+abbrev pub disk_seen : {D : Type 0} → (D → Option (List ℕ → List ℕ))
+    → (D → List ℕ → List ℕ → Type 0) → (D → Bool) → (D → Option (List ℕ))
+    → (D → List ℕ → Type 0) → (D → ℕ → List ℕ → Type 0) → (D → ℕ) → D → D → DiskSeen
+disk_seen named could_leave attached content may_leave left_since faults disk disk' = record {
   named = named disk;
+  could_leave = could_leave disk;
   attached = attached disk';
+  content = content disk';
   may_leave = may_leave disk';
+  left_since = left_since disk';
   faults = faults disk;
   faults_after = faults disk';
 }
@@ -72,7 +81,9 @@ disk_line = codes "fault disk\n"
 abbrev pub kept_seen : DiskSeen → (journal : List ℕ) → (steps steps' : ℕ) → Output → JournalRun
 kept_seen disk journal steps steps' out = record {
   content = option_map (λ named. named journal) disk.named;
+  content_after = disk.content;
   may_leave = disk.may_leave;
+  left_since = disk.left_since;
   faults = disk.faults;
   faults_after = disk.faults_after;
   steps = steps;
@@ -94,10 +105,10 @@ IsKeepLine census saw s text =
 -- these are replies to the lines of a script, from some batches on that can all follow
 abbrev pub AreKeepReplies : CensusValue → ScriptValue → List ReplyValue → Type 0
 AreKeepReplies census script replies =
-    (batches : List (List Edit)) × (faults : ℕ)
+    (batches : List (List Edit)) × (moment : ℕ) × (faults : ℕ)
     × CanAllFollow census.setup (base_of census) batches
     × AreReplies (IsKeptReply census.setup (base_of census))
-    (after_playing (base_of census) batches faults) script.lines replies
+    (after_playing (base_of census) batches moment faults) script.lines replies
 
 -- The lines of a script were answered from the recovered batches on: all of them, or, where a write
 -- failed, up to the one whose reply was cut short. Each file that a stop now may leave stands for

@@ -11,6 +11,7 @@ pub mod Services
 pub mod LaneOutputs
 pub mod KeepOutputs
 pub mod HostOutputs
+pub mod MirrorOutputs
 pub mod Outputs
 pub mod Calls
 pub mod Promises

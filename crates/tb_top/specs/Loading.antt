@@ -13,7 +13,7 @@ use Rattle.tb_top.specs.declared.load.Asked.TheVariants as asked
 use Rattle.tb_top.specs.declared.load.Census.{Census}
 use Rattle.tb_top.specs.declared.load.Scripted.{Scripted}
 use Rattle.tb_script.specs.Scripts.{ScriptValue}
-use Rattle.tb_top.specs.Asking.{AskedValue, CensusValue, Contents, Follow, Gen, Host, Keep, Lanes, Script, Serve, contents_for, input_place}
+use Rattle.tb_top.specs.Asking.{AskedValue, CensusValue, Contents, Follow, Gen, Host, Keep, Lanes, Mirror, Script, Serve, contents_for, input_place}
 use Rattle.tb_top.specs.Calls.{IsReadTo, readings_more}
 use Rattle.tb_top.specs.Commands.{NamedFile}
 
@@ -96,6 +96,7 @@ asked_value (asked.Keep census journal script) =
 asked_value (asked.Follow census script) = Follow (census_value census) script
 asked_value (asked.Host census journal service) =
     Host (census_value census) (string_bytes journal) service
+asked_value (asked.Mirror census service) = Mirror (census_value census) service
 asked_value (asked.Serve census service) = Serve (census_value census) service
 asked_value (asked.Gen population census script) = Gen population (census_value census) script
 
@@ -115,5 +116,6 @@ AskedIsFirst (asked.Lanes census script) = IsFirst census
 AskedIsFirst (asked.Keep census journal script) = IsFirst census
 AskedIsFirst (asked.Follow census script) = IsFirst census
 AskedIsFirst (asked.Host census journal service) = IsFirst census
+AskedIsFirst (asked.Mirror census service) = IsFirst census
 AskedIsFirst (asked.Serve census service) = IsFirst census
 AskedIsFirst (asked.Gen population census script) = IsFirst census

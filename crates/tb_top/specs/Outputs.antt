@@ -14,12 +14,13 @@ use Rattle.tb_serve.specs.Serves.{output}
 use Rattle.tb_ahead.specs.Publishing.{after_seeing}
 use Rattle.tb_lines.specs.Outputs.{AreReplies, ReplyValue, price_of, text_of}
 use Rattle.tb_top.specs.declared.endings.End.TheVariants as end
-use Rattle.tb_top.specs.Asking.{AskedValue, CensusValue, Follow, Gen, Host, Keep, Lanes, Script, Serve, base_of}
+use Rattle.tb_top.specs.Asking.{AskedValue, CensusValue, Follow, Gen, Host, Keep, Lanes, Mirror, Script, Serve, base_of}
 use Rattle.tb_top.specs.Endings.{IsEnded, IsLineWritten, last_line}
 use Rattle.tb_top.specs.KeepOutputs.{AreKeepReplies, DiskSeen, IsKeepAnswered, IsStill}
 use Rattle.tb_top.specs.KeepOutputs.{kept_seen}
 use Rattle.tb_top.specs.HostOutputs.{IsHostAnswered, IsHostOutput}
 use Rattle.tb_top.specs.LaneOutputs.{AreLanesAnswered, IsTextOfPhases, IsTextToMemory}
+use Rattle.tb_top.specs.MirrorOutputs.{IsMirrorAnswered, IsMirrorOutput}
 use Rattle.tb_top.specs.Populations.{Population}
 use Rattle.tb_top.specs.Services.{IsServiceAnswered, IsServiceOutput}
 use Rattle.tb_top.specs.Summaries.{summary_line}
@@ -47,6 +48,7 @@ AreAnswers (Lanes census script) replies = ⊥
 AreAnswers (Keep census journal script) replies = AreKeepReplies census script replies
 AreAnswers (Follow census script) replies = AreFollowReplies census script replies
 AreAnswers (Host census journal service) replies = ⊥
+AreAnswers (Mirror census service) replies = ⊥
 AreAnswers (Serve census service) replies = ⊥
 AreAnswers (Gen population census script) replies = AreScriptReplies census script replies
 
@@ -69,6 +71,8 @@ IsOutput (Follow census script) ports ports' s text =
     × (text ≡ text_of replies))
 IsOutput (Host census journal service) ports ports' s text =
     IsHostOutput census service ports ports' s text
+IsOutput (Mirror census service) ports ports' s text =
+    IsMirrorOutput census service ports ports' s text
 IsOutput (Serve census service) ports ports' s text =
     IsServiceOutput census service ports ports' s text
 IsOutput (Gen population census script) ports ports' s text =
@@ -89,6 +93,7 @@ IsBegun (Keep census journal script) s replies taken taken' =
 IsBegun (Follow census script) s replies taken taken' =
     (s ≢ status.Memory) × TookPart taken taken' (text_of replies)
 IsBegun (Host census journal service) s replies taken taken' = ⊥
+IsBegun (Mirror census service) s replies taken taken' = ⊥
 IsBegun (Serve census service) s replies taken taken' = ⊥
 IsBegun (Gen population census script) s replies taken taken' =
     ((s ≢ status.Memory) × TookPart taken taken' (summary_line population (text_of replies)))
@@ -101,6 +106,7 @@ IsOutputToMemory (Lanes census script) text = IsTextToMemory census script text
 IsOutputToMemory (Keep census journal script) text = ⊥
 IsOutputToMemory (Follow census script) text = ⊥
 IsOutputToMemory (Host census journal service) text = ⊥
+IsOutputToMemory (Mirror census service) text = ⊥
 IsOutputToMemory (Serve census service) text = ⊥
 IsOutputToMemory (Gen population census script) text = ⊥
 
@@ -159,6 +165,9 @@ IsAnswered (Host census journal service) ports ports' disk s faults faults' take
     steps' =
     (steps' ≡ steps)
     × IsHostAnswered census service journal ports ports' s (output taken taken' faults faults') disk
+IsAnswered (Mirror census service) ports ports' disk s faults faults' taken taken' steps steps' =
+    IsStill disk × (steps' ≡ steps)
+    × IsMirrorAnswered census service ports ports' s (output taken taken' faults faults')
 IsAnswered (Serve census service) ports ports' disk s faults faults' taken taken' steps steps' =
     IsStill disk × (steps' ≡ steps)
     × IsServiceAnswered census service ports ports' s faults faults' taken taken'

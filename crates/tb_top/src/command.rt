@@ -5,9 +5,10 @@ ghost use Rattle.tb_top.specs.Commands.{command_of, follow_words, gen_named, gen
 ghost use Rattle.tb_top.specs.Commands.{host_named, host_words, inputs_named};
 ghost use Rattle.tb_top.specs.Commands.{is_file_name as names_a_file};
 ghost use Rattle.tb_top.specs.Commands.{keep_named, keep_words, lanes_words, may_name_recodes};
-ghost use Rattle.tb_top.specs.Commands.{recodes_name as name_of_recodes, script_words};
-ghost use Rattle.tb_top.specs.Commands.{serve_named, serve_words, units_named, units_words};
-ghost use Rattle.tb_top.specs.Commands.{with_script, words_with_script};
+ghost use Rattle.tb_top.specs.Commands.{mirror_words, recodes_name as name_of_recodes};
+ghost use Rattle.tb_top.specs.Commands.{script_words, serve_words, units_named, units_words};
+ghost use Rattle.tb_top.specs.Commands.{with_script, with_service, words_with_script};
+ghost use Rattle.tb_top.specs.Commands.{words_with_service};
 ghost use Rattle.tb_top.specs.GeneratedFiles.{generated_inputs as inputs_of_generated};
 
 use crate::endings::Input;
@@ -48,8 +49,9 @@ pub struct Inputs<'a> {
 /// A command: one of several, each with its inputs and its task. `Script` answers the lines of the
 /// script of that name, `Lanes` its lanes at the same time, `Keep` as `Script`, with a journal
 /// under a name of its own, `Follow` with a follower in place of a board, and `Units` with tables
-/// of dwellings too; `Serve` serves sessions, and `Host` does so with a journal; `Gen` reads no
-/// files, and sums up what `Script` would write over those of a generated population.
+/// of dwellings too; `Serve` serves sessions, `Host` does so with a journal, and `Mirror` as a
+/// mirror of a leader; `Gen` reads no files, and sums up what `Script` would write over those of a
+/// generated population.
 #[derive(Drop)]
 pub enum Command<'a> {
     Script {
@@ -78,6 +80,10 @@ pub enum Command<'a> {
     Host {
         inputs: Inputs<'a>,
         journal: FileName<'a>,
+        service: Service,
+    },
+    Mirror {
+        inputs: Inputs<'a>,
         service: Service,
     },
     Serve {
@@ -270,9 +276,9 @@ fn read_host<'a>(
     }
 }
 
-// The command that the arguments `CLASSES RECODES PTABLE PEOPLE THRESHOLD PORT WORKERS SESSIONS`
-// name.
-fn read_serve<'a>(
+// The inputs and the service that the arguments `CLASSES RECODES PTABLE PEOPLE THRESHOLD PORT
+// WORKERS SESSIONS` name.
+fn read_service_inputs<'a>(
     classes: &'a str,
     recodes: &'a str,
     ptable: &'a str,
@@ -281,13 +287,14 @@ fn read_serve<'a>(
     port: &str,
     workers: &str,
     sessions: &str,
-) -> Option<Command<'a>>
-    ensures { result ≡ serve_named classes.now recodes.now ptable.now people.now threshold.now
-        port.now workers.now sessions.now }
+) -> Option<(Inputs<'a>, Service)>
+    ensures { result
+        ≡ with_service classes.now recodes.now ptable.now people.now threshold.now port.now
+        workers.now sessions.now }
 {
     match read_inputs(classes, recodes, ptable, people, threshold) {
         Some(inputs) => match read_service(port, workers, sessions) {
-            Some(service) => Some(Command::Serve { inputs, service }),
+            Some(service) => Some((inputs, service)),
             None => None,
         },
         None => None,
@@ -455,9 +462,9 @@ fn read_host_words(words: &[String]) -> Option<Command<'_>>
     )
 }
 
-// What the arguments `serve CLASSES RECODES PTABLE PEOPLE THRESHOLD PORT WORKERS SESSIONS` ask for.
-fn read_serve_words(words: &[String]) -> Option<Command<'_>>
-    ensures { result ≡ serve_words (map string_bytes words.now) }
+// The inputs and the service after this word of a command.
+fn read_with_service<'a>(word: &str, words: &'a [String]) -> Option<(Inputs<'a>, Service)>
+    ensures { result ≡ words_with_service word.now (map string_bytes words.now) }
 {
     let [
         command,
@@ -473,10 +480,10 @@ fn read_serve_words(words: &[String]) -> Option<Command<'_>>
     else {
         return None;
     };
-    if command.as_str() != "serve" {
+    if command.as_str() != word {
         return None;
     }
-    read_serve(
+    read_service_inputs(
         classes.as_str(),
         recodes.as_str(),
         ptable.as_str(),
@@ -486,6 +493,27 @@ fn read_serve_words(words: &[String]) -> Option<Command<'_>>
         workers.as_str(),
         sessions.as_str(),
     )
+}
+
+// What the arguments `mirror CLASSES RECODES PTABLE PEOPLE THRESHOLD PORT WORKERS SESSIONS` ask
+// for.
+fn read_mirror_words(words: &[String]) -> Option<Command<'_>>
+    ensures { result ≡ mirror_words (map string_bytes words.now) }
+{
+    match read_with_service("mirror", words) {
+        Some((inputs, service)) => Some(Command::Mirror { inputs, service }),
+        None => None,
+    }
+}
+
+// What the arguments `serve` with the same after it ask for.
+fn read_serve_words(words: &[String]) -> Option<Command<'_>>
+    ensures { result ≡ serve_words (map string_bytes words.now) }
+{
+    match read_with_service("serve", words) {
+        Some((inputs, service)) => Some(Command::Serve { inputs, service }),
+        None => None,
+    }
 }
 
 // What the arguments `gen N START` ask for.
@@ -516,9 +544,9 @@ pub fn generated_inputs<'a>() -> Inputs<'a>
 
 /// What the arguments ask for: `script CLASSES RECODES PTABLE PEOPLE THRESHOLD SCRIPT`, `lanes` or
 /// `follow` with the same after it, `keep` with JOURNAL before SCRIPT, `units` with DWELLINGS and
-/// LINKS there, or `serve CLASSES RECODES PTABLE PEOPLE THRESHOLD PORT WORKERS SESSIONS`, or `host`
-/// with JOURNAL before PORT, RECODES being a file's name or `-`; or `gen N START`. None at all
-/// other arguments.
+/// LINKS there, or `serve CLASSES RECODES PTABLE PEOPLE THRESHOLD PORT WORKERS SESSIONS`, `mirror`
+/// with the same after it, or `host` with JOURNAL before PORT, RECODES being a file's name or `-`;
+/// or `gen N START`. None at all other arguments.
 pub fn read_command(words: &[String]) -> Option<Command<'_>>
     ensures { result ≡ command_of (map string_bytes words.now) }
 {
@@ -538,6 +566,9 @@ pub fn read_command(words: &[String]) -> Option<Command<'_>>
         return Some(command);
     }
     if let Some(command) = read_host_words(words) {
+        return Some(command);
+    }
+    if let Some(command) = read_mirror_words(words) {
         return Some(command);
     }
     if let Some(command) = read_serve_words(words) {

@@ -58,8 +58,10 @@ fn host_on_board<
     ensures run { IsHostRun (census_over setup.now opening.start.base) service.now
         (ports_of service.now net.old) (ports_of service.now net.new) (record {
           content = D.content disk.old;
+          content_after = D.content disk.new;
           could_leave = D.may_leave disk.old;
           may_leave = D.may_leave disk.new;
+          left_since = D.left_since disk.new;
           faults = D.faults disk.old;
           faults_after = D.faults disk.new;
         }) (output (O.taken out.old) (O.taken out.new) (O.faults out.old) (O.faults out.new))
@@ -100,7 +102,8 @@ fn host_opened<R: Threads + Wait + Sync, O: Sink, N: Listen + Send, D: Disk + Se
     ensures { IsHostAnswered (census_over setup.now opening.start.base) service.now journal.now
         net.old net.new result
         (output (O.taken out.old) (O.taken out.new) (O.faults out.old) (O.faults out.new))
-        (disk_seen D.named D.attached D.may_leave D.faults disk.old disk.new) }
+        (disk_seen D.named D.could_leave D.attached D.content
+        D.may_leave D.left_since D.faults disk.old disk.new) }
 {
     match disk.attach(journal) {
         Done::All => {
@@ -130,7 +133,8 @@ fn host_from<R: Threads + Wait + Sync, O: Sink, N: Listen + Send, D: Disk + Send
     ensures { IsHostAnswered (census_over setup.now base) service.now journal.now net.old net.new
         result
         (output (O.taken out.old) (O.taken out.new) (O.faults out.old) (O.faults out.new))
-        (disk_seen D.named D.attached D.may_leave D.faults disk.old disk.new) }
+        (disk_seen D.named D.could_leave D.attached D.content
+        D.may_leave D.left_since D.faults disk.old disk.new) }
 {
     match Opening::new(alloc, setup.schema.shape(), base, FIRST_CAPACITY) {
         Ok(opening) => { host_opened(rt, alloc, setup, opening, journal, service, out, net, disk) }
@@ -155,7 +159,8 @@ fn host_census<R: Threads + Wait + Sync, O: Sink, N: Listen + Send, D: Disk + Se
     requires fresh { All IsFresh net.old }
     ensures { IsHostAnswered (census_value census) service.now journal.now net.old net.new result
         (output (O.taken out.old) (O.taken out.new) (O.faults out.old) (O.faults out.new))
-        (disk_seen D.named D.attached D.may_leave D.faults disk.old disk.new) }
+        (disk_seen D.named D.could_leave D.attached D.content
+        D.may_leave D.left_since D.faults disk.old disk.new) }
 {
     let Census { setup, release } = census;
     host_from(rt, alloc, &setup, release, journal, service, out, net, disk)
@@ -181,7 +186,8 @@ pub(crate) fn answer_host<R: Threads + Wait + Sync, O: Sink, N: Listen + Send, D
     ensures { IsHostAnswered (census_value census) service.now (string_bytes journal)
         net.old.items net.new.items result
         (output (O.taken out.old) (O.taken out.new) (O.faults out.old) (O.faults out.new))
-        (disk_seen D.named D.attached D.may_leave D.faults disk.old disk.new) }
+        (disk_seen D.named D.could_leave D.attached D.content
+        D.may_leave D.left_since D.faults disk.old disk.new) }
 {
     // Its clause tells that there is a port for each worker.
     let _ = service.port();

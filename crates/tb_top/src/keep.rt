@@ -92,7 +92,9 @@ fn answer_on_board<B: Named, R: Threads + Wait + Sync, O: Sink, D: Disk, L: Ledg
         (output (O.taken out.old) (O.taken out.new) (O.faults out.old) (O.faults out.new))
         (record {
           content = D.content disk.old;
+          content_after = D.content disk.new;
           may_leave = D.may_leave disk.new;
+          left_since = D.left_since disk.new;
           faults = D.faults disk.old;
           faults_after = D.faults disk.new;
           steps = steps.old;
@@ -133,7 +135,8 @@ fn keep_census<R: Threads + Wait + Sync, O: Sink, D: Disk, L: Ledger>(
     ensures { let seen = output (O.taken out.old) (O.taken out.new)
         (O.faults out.old) (O.faults out.new) in
         IsKeepAnswered (census_value census) script.now result seen
-        (kept_seen (disk_seen D.named D.attached D.may_leave D.faults disk.old disk.new)
+        (kept_seen (disk_seen D.named D.could_leave D.attached D.content
+        D.may_leave D.left_since D.faults disk.old disk.new)
         journal.now steps.old steps.new seen) }
 {
     let Census { setup, release } = census;
@@ -168,7 +171,8 @@ pub(crate) fn answer_keep<R: Threads + Wait + Sync, O: Sink, D: Disk, L: Ledger>
     ensures { let seen = output (O.taken out.old) (O.taken out.new)
         (O.faults out.old) (O.faults out.new) in
         IsKeepAnswered (census_value census) script result seen
-        (kept_seen (disk_seen D.named D.attached D.may_leave D.faults disk.old disk.new)
+        (kept_seen (disk_seen D.named D.could_leave D.attached D.content
+        D.may_leave D.left_since D.faults disk.old disk.new)
         (string_bytes journal) steps.old steps.new seen) }
 {
     let name = journal.as_str();

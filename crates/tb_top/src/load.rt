@@ -55,8 +55,8 @@ pub struct Scripted {
 
 /// What a run is asked for over a census: to answer the lines of a script, its lanes at the same
 /// time, its lines with a journal under this name, or its lines with a follower in place of a
-/// board; to serve sessions, with a journal under this name or without; or to sum up the replies to
-/// a generated script.
+/// board; to serve sessions, with a journal under this name, as a mirror of a leader, or with
+/// neither; or to sum up the replies to a generated script.
 #[derive(Drop)]
 pub enum Asked {
     Script {
@@ -79,6 +79,10 @@ pub enum Asked {
     Host {
         census: Census,
         journal: String,
+        service: Service,
+    },
+    Mirror {
+        census: Census,
         service: Service,
     },
     Serve {
@@ -455,6 +459,11 @@ pub fn load<F: Files>(alloc: Global, files: &mut F, command: &Command<'_>) -> Re
             journal,
             service,
         } => load_host(alloc, files, inputs, journal, service),
+        Command::Mirror { inputs, service } => {
+            let census = load_census(alloc, files, inputs)?;
+            let service = service.copy();
+            Ok(Asked::Mirror { census, service })
+        }
         Command::Serve { inputs, service } => {
             let census = load_census(alloc, files, inputs)?;
             let service = service.copy();

@@ -26,6 +26,7 @@ use crate::host::answer_host;
 use crate::keep::answer_keep;
 use crate::lanes::answer_lanes;
 use crate::load::{Asked, Census};
+use crate::mirror::answer_mirror;
 use crate::population::Population;
 use crate::service::Service;
 use crate::summary::write_summary;
@@ -189,7 +190,8 @@ fn answer<R: Threads + Wait + Sync, O: Sink, N: Listen + Send, D: Disk + Send, L
     requires fresh { All IsFresh net.old.items }
     requires attached { D.attached disk.old ≡ false }
     ensures { IsAnswered (asked_value asked) net.old.items net.new.items
-        (disk_seen D.named D.attached D.may_leave D.faults disk.old disk.new) result
+        (disk_seen D.named D.could_leave D.attached D.content
+        D.may_leave D.left_since D.faults disk.old disk.new) result
         (O.faults out.old) (O.faults out.new) (O.taken out.old) (O.taken out.new)
         steps.old steps.new }
 {
@@ -211,6 +213,7 @@ fn answer<R: Threads + Wait + Sync, O: Sink, N: Listen + Send, D: Disk + Send, L
             journal,
             service,
         } => answer_host(rt, alloc, census, journal, &service, out, net, disk),
+        Asked::Mirror { census, service } => answer_mirror(rt, alloc, census, &service, out, net),
         Asked::Serve { census, service } => serve_census(rt, alloc, census, &service, out, net),
         Asked::Gen {
             population,
@@ -237,6 +240,8 @@ fn answer<R: Threads + Wait + Sync, O: Sink, N: Listen + Send, D: Disk + Send, L
 /// RECODES PTABLE PEOPLE THRESHOLD PORT WORKERS SESSIONS` the listeners are bound, the first to
 /// PORT for the custodian and one for each worker to the ports after it, and each worker serves
 /// sessions in a thread of its own, one after another; in the end `out` takes how many each had.
+/// With `mirror` and the same arguments the first port's sessions bring a leader's numbered
+/// messages, each of which is published when all before it are.
 /// With `gen N START` no file is read: the replies are those that `script` would write over the
 /// generated files of N persons, and `out` takes how many lines and bytes they have, and the sum of
 /// their byte values. Other arguments are refused.
@@ -270,7 +275,8 @@ pub fn tablebuilder<F: Files, O: Sink, N: Listen + Send, D: Disk + Send, L: Ledg
         (reading F.content F.faults F.readings files.old files.new)
         (output (O.taken out.old) (O.taken out.new) (O.faults out.old) (O.faults out.new))
         net.old.items net.new.items
-        (disk_seen D.named D.attached D.may_leave D.faults disk.old disk.new) steps.old steps.new)
+        (disk_seen D.named D.could_leave D.attached D.content
+        D.may_leave D.left_since D.faults disk.old disk.new) steps.old steps.new)
         result }
 {
     match ask(alloc, words, files) {

@@ -9,7 +9,7 @@ use tb_top::read_command;
 // Arguments, which one blank parts, and whether they are a command's.
 type Row = (&'static str, bool);
 
-static ROWS: [Row; 114] = [
+static ROWS: [Row; 121] = [
     ("", false),
     ("help", false),
     ("help script", false),
@@ -107,6 +107,13 @@ static ROWS: [Row; 114] = [
         "script classes - ptable people 0 dwellings links script",
         false,
     ),
+    ("mirror classes - ptable people 0 5000 1", false),
+    ("mirror classes - ptable people 0 5000 1 1", true),
+    ("mirror classes - ptable people 0 5000 1 1 1", false),
+    ("mirror classes - ptable people 0 journal 5000 1 1", false),
+    ("mirror classes - ptable people 0 65520 1 1", false),
+    ("mirror classes - ptable people 0 5000 17 1", false),
+    ("mirror classes - ptable people 0 5000 1 0", false),
     ("serve classes - ptable people 0 5000 1", false),
     ("serve classes - ptable people 0 5000 1 1", true),
     ("serve classes - ptable people 0 5000 1 1 1", false),

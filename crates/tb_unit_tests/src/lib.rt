@@ -2,7 +2,7 @@
 //! worked by hand over the small setup and beside a plain count. Their calls have ample memory.
 //!
 //! They call public functions alone. Tests stand in crates of their own since a crate that has
-//! tests is proved twice. Whole runs stand in `tablebuilder`.
+//! tests is proved twice. Whole runs stand in `tb_top_tests`.
 #![tactic(auto)]
 
 #[cfg(test)]

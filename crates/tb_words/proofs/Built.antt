@@ -44,7 +44,7 @@ all_added (s ∷ names) (sub ∷ subs) old new (m, first, rest) same =
 pub program_of : {E : Type 0} (r : Result Command E) (bare : Command) (names : List (Bor Text)) (subs : List Command)
     → IfOk r (λ c. AddsInTurn AddsSubcommand bare subs c) → app_of bare ≡ bare_program
     → map app_of subs ≡ map (λ s. command_with s.now (positions_of s.now)) names
-    → map (λ s. s.now) names ≡ codes "script" ∷ codes "lanes" ∷ codes "keep" ∷ codes "follow" ∷ codes "units" ∷ codes "host" ∷ codes "serve" ∷ codes "gen" ∷ []
+    → map (λ s. s.now) names ≡ codes "script" ∷ codes "lanes" ∷ codes "keep" ∷ codes "follow" ∷ codes "units" ∷ codes "host" ∷ codes "mirror" ∷ codes "serve" ∷ codes "gen" ∷ []
     → IfOk r (λ c. app_of c ≡ program)
 program_of r bare names subs turns one same all =
     IfOk-weaker r (λ c. AddsInTurn AddsSubcommand bare subs c) (λ c. app_of c ≡ program)

@@ -75,6 +75,8 @@ parsed words (inr (inr (inr (inr (inl (values, is, len, plain)))))) =
 parsed words (inr (inr (inr (inr (inr (inl (values, is, len, plain))))))) =
     rw is (one_by_one 9 (Behind (codes "host")) (λ a b c d e f g h i plain. behind 5 _ _ plain refl refl refl refl refl) values len plain)
 parsed words (inr (inr (inr (inr (inr (inr (inl (values, is, len, plain)))))))) =
-    rw is (one_by_one 8 (Behind (codes "serve")) (λ a b c d e f g h plain. behind 6 _ _ plain refl refl refl refl refl) values len plain)
-parsed words (inr (inr (inr (inr (inr (inr (inr (values, is, len, plain)))))))) =
-    rw is (one_by_one 2 (Behind (codes "gen")) (λ a b plain. behind 7 _ _ plain refl refl refl refl refl) values len plain)
+    rw is (one_by_one 8 (Behind (codes "mirror")) (λ a b c d e f g h plain. behind 6 _ _ plain refl refl refl refl refl) values len plain)
+parsed words (inr (inr (inr (inr (inr (inr (inr (inl (values, is, len, plain))))))))) =
+    rw is (one_by_one 8 (Behind (codes "serve")) (λ a b c d e f g h plain. behind 7 _ _ plain refl refl refl refl refl) values len plain)
+parsed words (inr (inr (inr (inr (inr (inr (inr (inr (values, is, len, plain))))))))) =
+    rw is (one_by_one 2 (Behind (codes "gen")) (λ a b plain. behind 8 _ _ plain refl refl refl refl refl) values len plain)

@@ -15,6 +15,7 @@ keep_positions =
     codes "CLASSES" ∷ codes "RECODES" ∷ codes "PTABLE" ∷ codes "PEOPLE" ∷ codes "THRESHOLD"
     ∷ codes "JOURNAL" ∷ codes "SCRIPT" ∷ []
 
+-- those of `serve`, which are those of `mirror` too
 abbrev pub serve_positions : List Text
 serve_positions =
     codes "CLASSES" ∷ codes "RECODES" ∷ codes "PTABLE" ∷ codes "PEOPLE" ∷ codes "THRESHOLD"
@@ -42,6 +43,7 @@ positions_of name =
     else if bytes_eq name (codes "follow") then script_positions
     else if bytes_eq name (codes "units") then units_positions
     else if bytes_eq name (codes "host") then host_positions
+    else if bytes_eq name (codes "mirror") then serve_positions
     else if bytes_eq name (codes "serve") then serve_positions
     else gen_positions
 
@@ -75,11 +77,12 @@ with_command a name positions = with_subcommand a (command_with name positions).
 abbrev pub program : App
 program =
     with_command (with_command (with_command (with_command (with_command (with_command
-    (with_command (with_command bare_program
+    (with_command (with_command (with_command bare_program
     (codes "script") script_positions) (codes "lanes") script_positions)
     (codes "keep") keep_positions) (codes "follow") script_positions)
     (codes "units") units_positions) (codes "host") host_positions)
-    (codes "serve") serve_positions) (codes "gen") gen_positions
+    (codes "mirror") serve_positions) (codes "serve") serve_positions)
+    (codes "gen") gen_positions
 
 -- what stands at a position
 abbrev pub value_at : List Row → Text → Text

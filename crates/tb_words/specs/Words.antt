@@ -22,7 +22,8 @@ AreCommand words =
     ⊎ (AreOf (codes "follow") 6 words
     ⊎ (AreOf (codes "units") 8 words
     ⊎ (AreOf (codes "host") 9 words
-    ⊎ (AreOf (codes "serve") 8 words ⊎ AreOf (codes "gen") 2 words))))))
+    ⊎ (AreOf (codes "mirror") 8 words
+    ⊎ (AreOf (codes "serve") 8 words ⊎ AreOf (codes "gen") 2 words)))))))
 
 -- `-` stands where recodes are named, which says that there are none
 abbrev pub has_no_recodes : List (List ℕ) → Bool

@@ -10,8 +10,9 @@ ghost use Rattle.tb_words.specs.Words.{AreCommand};
 use clap::{Arg, ArgMatches, Command, Error};
 use std::alloc::{AllocError, Global};
 
-static COMMANDS: [&str; 8] = [
-    "script", "lanes", "keep", "follow", "units", "host", "serve", "gen",
+/// The names of the commands.
+pub static COMMANDS: [&str; 9] = [
+    "script", "lanes", "keep", "follow", "units", "host", "mirror", "serve", "gen",
 ];
 
 static SCRIPT: [&str; 6] = [
@@ -69,8 +70,8 @@ static SERVE: [&str; 8] = [
 
 static GEN: [&str; 2] = ["N", "START"];
 
-/// The positions of the command of a name.
-pub(crate) fn positions_of(name: &str) -> &'static [&'static str]
+/// The names of the positions of the command of a name.
+pub fn positions_of(name: &str) -> &'static [&'static str]
     ensures { map (λ s. s.now) result.now ≡ names_of name.now }
 {
     if name == "script" {
@@ -85,6 +86,8 @@ pub(crate) fn positions_of(name: &str) -> &'static [&'static str]
         UNITS.as_slice()
     } else if name == "host" {
         HOST.as_slice()
+    } else if name == "mirror" {
+        SERVE.as_slice()
     } else if name == "serve" {
         SERVE.as_slice()
     } else {

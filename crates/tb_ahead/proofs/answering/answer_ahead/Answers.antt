@@ -27,7 +27,7 @@ returns-clause-replied g c =
         refl,
         other_line (g.P.Publisher.Step c.args.setting.now base) base c.args.line.now (g.P.Publisher.state c.args.party.now) (g.P.Publisher.state c.answer_line.new.self)
             (g.W.WriteAhead.StandsFor c.args.ahead.now) (g.W.WriteAhead.StandsFor c.args.ahead.now) _ _ _ _ _ done.reply
-            (sym c.asks_to_publish.ensures ∙ c.if-asks_to_publish.false) done.step refl refl (λ batches further stands. stands),
+            (sym c.asks_to_publish.ensures ∙ c.if-asks_to_publish.false) done.step refl refl (λ since batches further stands. stands),
       );
       written = done.written;
       cost = done.cost;

@@ -20,7 +20,7 @@ returns-in-Refused-clause-replied g c =
         c.answer_line.ensures.base ∙ tried.base,
         refl,
         by_refusal (Own base) base c.args.line.now old new
-            (g.W.WriteAhead.StandsFor c.args.ahead.now) (g.W.WriteAhead.StandsFor c.args.ahead.now) _ _ _ _ refl refl (λ batches further stands. stands) kind edit why done.reply
+            (g.W.WriteAhead.StandsFor c.args.ahead.now) (g.W.WriteAhead.StandsFor c.args.ahead.now) _ _ _ _ refl refl (λ since batches further stands. stands) kind edit why done.reply
             (g.met.P.Publisher.publishing c.args.setting.now base old c.args.line.now done.reply new c.requires.asks own),
       );
       written = done.written;
@@ -38,7 +38,7 @@ returns-in-Memory-clause-replied g c =
         tried.base,
         refl,
         by_memory (g.P.Publisher.Step c.args.setting.now base) base c.args.line.now (g.P.Publisher.state c.args.party.now) (g.P.Publisher.state c.try_next.new.self)
-            (g.W.WriteAhead.StandsFor c.args.ahead.now) (g.W.WriteAhead.StandsFor c.args.ahead.now) _ _ _ _ refl (omega arith) (λ batches further stands. stands) tried.state,
+            (g.W.WriteAhead.StandsFor c.args.ahead.now) (g.W.WriteAhead.StandsFor c.args.ahead.now) _ _ _ _ refl (omega arith) (λ since batches further stands. stands) tried.state,
       );
       written = record { count = write.ensures.count; failed = write.ensures.failed; all = write.ensures.all; part = write.ensures.part };
       cost = omega arith;

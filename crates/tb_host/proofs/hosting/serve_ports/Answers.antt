@@ -22,14 +22,14 @@ returns-in-NotBound-clause-hosts g c =
 
 pub returns-in-Ready-clause-hosts : goal.returns-in-Ready-clause-hosts
 returns-in-Ready-clause-hosts g c =
-    inr (inr (inr (hosts_all g.D.Disk.content g.D.Disk.may_leave g.D.Disk.faults c.args.setting.now.setup.now c.args.custodian.writer.start.base c.args.disk.now c.recover.new.disk c.serve_ready.new.disk
+    inr (inr (inr (hosts_all g.D.Disk.content g.D.Disk.may_leave g.D.Disk.moment g.D.Disk.left_since g.D.Disk.faults c.args.setting.now.setup.now c.args.custodian.writer.start.base c.args.disk.now c.recover.new.disk c.serve_ready.new.disk
     c.recover.new.custodian c.in-Recovered.ensures.recovered c.args.first c.args.sessions c.args.ports.now c.prepare.new.ports c.serve_ready.new.ports c.in-Ready.ensures
     (output (g.O.Sink.taken c.args.out.now) (g.O.Sink.taken c.serve_ready.new.out) (g.O.Sink.faults c.args.out.now) (g.O.Sink.faults c.serve_ready.new.out)) c.serve_ready.result
     c.serve_ready.ensures.served c.in-Recovered.ensures.count c.serve_ready.ensures.left)))
 
 pub returns-in-Ready-clause-count : goal.returns-in-Ready-clause-count
 returns-in-Ready-clause-count g c =
-    let counts = hosts_counted g.D.Disk.content g.D.Disk.may_leave g.D.Disk.faults c.args.setting.now.setup.now c.args.custodian.writer.start.base c.args.disk.now c.recover.new.disk c.serve_ready.new.disk
+    let counts = hosts_counted g.D.Disk.content g.D.Disk.may_leave g.D.Disk.moment g.D.Disk.left_since g.D.Disk.faults c.args.setting.now.setup.now c.args.custodian.writer.start.base c.args.disk.now c.recover.new.disk c.serve_ready.new.disk
     c.recover.new.custodian c.in-Recovered.ensures.recovered c.args.first c.args.sessions c.args.ports.now c.prepare.new.ports c.serve_ready.new.ports c.in-Ready.ensures
     (output (g.O.Sink.taken c.args.out.now) (g.O.Sink.taken c.serve_ready.new.out) (g.O.Sink.faults c.args.out.now) (g.O.Sink.faults c.serve_ready.new.out)) c.serve_ready.result
     c.serve_ready.ensures.served (omega (arith, c.requires.some, c.in-Ready.ensures.same_length)) in

@@ -24,7 +24,7 @@ pub returns-clause-hosts : goal.returns-clause-hosts
 returns-clause-hosts g c =
     hosts_first c.args.setting.now.setup.now c.args.custodian.writer.start.base c.args.first c.args.sessions
     (c.args.workers + 1) c.args.net.now c.split_at_mut-ports.result.0.now c.serve_ports.new.ports c.split_at_mut-ports.result.1.now
-    (seen g.D.Disk.content g.D.Disk.may_leave g.D.Disk.faults c.args.disk.now c.serve_ports.new.disk)
+    (seen g.D.Disk.content g.D.Disk.may_leave g.D.Disk.moment g.D.Disk.left_since g.D.Disk.faults c.args.disk.now c.serve_ports.new.disk)
     (output (g.O.Sink.taken c.args.out.now) (g.O.Sink.taken c.serve_ports.new.out) (g.O.Sink.faults c.args.out.now)
     (g.O.Sink.faults c.serve_ports.new.out)) c.serve_ports.result
     c.split_at_mut-ports.ensures.front (c.serve_ports.auto.ports ∙ c.split_at_mut-ports.ensures.front_len) c.serve_ports.ensures.hosts

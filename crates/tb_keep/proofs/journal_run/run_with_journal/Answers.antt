@@ -4,15 +4,15 @@ use Rattle.tb_keep.proofs.journal_run.run_with_journal.Goals as goal
 
 pub returns-in-Recovered-clause-run : goal.returns-in-Recovered-clause-run
 returns-in-Recovered-clause-run g c =
-    all-ran g.D.Disk.content g.D.Disk.may_leave g.D.Disk.faults c.args.setting.now.setup.now c.args.custodian.writer.start.base c.recover.new.custodian
+    all-ran g.D.Disk.content g.D.Disk.may_leave g.D.Disk.left_since g.D.Disk.faults c.args.setting.now.setup.now c.args.custodian.writer.start.base c.recover.new.custodian
     c.args.disk.now c.recover.new.disk c.run_played.new.disk c.in-Recovered.ensures.recovered
-    c.args.script.now.lines c.run_played.result c.run_played.ensures.unwritten _ _ _ _ c.run_played.ensures.run c.in-Recovered.ensures.count
+    c.args.script.now.lines c.run_played.result c.run_played.ensures.unwritten _ _ _ _ _ c.run_played.ensures.run c.in-Recovered.ensures.count
 
 pub returns-in-Recovered-clause-disk_count : goal.returns-in-Recovered-clause-disk_count
 returns-in-Recovered-clause-disk_count g c =
-    let counts = all-counted g.D.Disk.content g.D.Disk.may_leave g.D.Disk.faults c.args.setting.now.setup.now c.args.custodian.writer.start.base c.recover.new.custodian
+    let counts = all-counted g.D.Disk.content g.D.Disk.may_leave g.D.Disk.left_since g.D.Disk.faults c.args.setting.now.setup.now c.args.custodian.writer.start.base c.recover.new.custodian
     c.args.disk.now c.recover.new.disk c.run_played.new.disk c.in-Recovered.ensures.recovered
-    c.args.script.now.lines c.run_played.result c.run_played.ensures.unwritten _ _ _ _ c.run_played.ensures.run in
+    c.args.script.now.lines c.run_played.result c.run_played.ensures.unwritten _ _ _ _ _ c.run_played.ensures.run in
     omega (arith, c.in-Recovered.ensures.count, counts)
 
 pub returns-in-Refused-clause-run : goal.returns-in-Refused-clause-run

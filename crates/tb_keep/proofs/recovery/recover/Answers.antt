@@ -17,7 +17,7 @@ returns-in-DiskFault-default-clause-recovered g c = (
 
 pub returns-in-All-clause-recovered : goal.returns-in-All-clause-recovered
 returns-in-All-clause-recovered g c =
-    all-recovered g.D.Disk.content g.D.Disk.may_leave g.D.Disk.faults c.args.setting.now.setup.now c.args.custodian.now c.play-played.new.custodian c.requires.first
+    all-recovered g.D.Disk.content g.D.Disk.may_leave g.D.Disk.left_since g.D.Disk.faults c.args.setting.now.setup.now c.args.custodian.now c.play-played.new.custodian c.requires.first
     c.args.disk.now c.open.new.disk c.play-played.new.disk (c.open.ensures.opened c.in-Open-Some.is-0) (c.open.ensures.ours c.in-Open-Some.is-0) c.in-All.ensures.played
     c.play-played.new.journal c.in-All.ensures.quiet.same (g.met.D.Disk.told_beside c.play-played.new.disk) c.in-All.ensures.on (c.in-All.ensures.at_end refl)
 

@@ -1,13 +1,18 @@
 use Rattle.std.proofs.Common.{◌∙◌, refl, sym, []}
 use Rattle.tb_session.specs.ReplyTexts.{reply_text}
 use Rattle.tb_tables.specs.ReplyTexts.{table_reply_text}
-use Rattle.tb_session.proofs.Leading.{leads_to_capacity, leads_to_clear, leads_to_edit, leads_to_nothing, leads_to_past, leads_to_publish, leads_to_stats, leads_to_table, own_stats}
+use Rattle.tb_session.proofs.Leading.{leads_to_capacity, leads_to_clear, leads_to_description, leads_to_edit, leads_to_nothing, leads_to_past, leads_to_publish, leads_to_stats, leads_to_table, own_stats}
 use Rattle.tb_session.proofs.answering.reply_to_custodian.Goals as goal
 
 pub returns-in-Nothing-clause-leads : goal.returns-in-Nothing-clause-leads
 returns-in-Nothing-clause-leads g c =
     leads_to_nothing c.args.setup.now c.args.custodian.now c.args.custodian.now c.args.held.now c.args.held.now c.args.line.now [] c.args.steps.now c.args.steps.now
     (sym c.asks_of.ensures.asks ∙ c.in-Nothing.is) refl refl refl refl
+
+pub returns-in-Description-clause-leads : goal.returns-in-Description-clause-leads
+returns-in-Description-clause-leads g c =
+    leads_to_description c.args.setup.now c.args.custodian.now c.args.custodian.now c.args.held.now c.args.held.now c.args.line.now (reply_text c.describe_setup.result) c.args.steps.now c.args.steps.now
+    (sym c.asks_of.ensures.asks ∙ c.in-Description.is) refl refl c.describe_setup.ensures refl
 
 pub returns-in-Table-clause-leads : goal.returns-in-Table-clause-leads
 returns-in-Table-clause-leads g c =

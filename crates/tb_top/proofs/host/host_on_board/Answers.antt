@@ -18,8 +18,10 @@ returns-clause-run g c =
     let disk = c.serve_with_journal.new.disk in
     let saw : JournalSeen = record {
       content = g.D.Disk.content c.args.disk.now;
+      content_after = g.D.Disk.content disk;
       could_leave = g.D.Disk.may_leave c.args.disk.now;
       may_leave = g.D.Disk.may_leave disk;
+      left_since = g.D.Disk.left_since disk;
       faults = g.D.Disk.faults c.args.disk.now;
       faults_after = g.D.Disk.faults disk;
     } in

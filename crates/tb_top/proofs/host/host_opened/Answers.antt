@@ -17,13 +17,15 @@ returns-in-All g c =
     (g.O.Sink.faults c.host_on_board.new.out) in
     let told : Option (List ℕ) → JournalSeen = λ content. record {
       content = content;
-      could_leave = λ image. Unit {0};
+      content_after = g.D.Disk.content c.host_on_board.new.disk;
+      could_leave = g.D.Disk.could_leave c.args.disk.now c.args.journal.now;
       may_leave = g.D.Disk.may_leave c.host_on_board.new.disk;
+      left_since = g.D.Disk.left_since c.host_on_board.new.disk;
       faults = g.D.Disk.faults c.args.disk.now;
       faults_after = g.D.Disk.faults c.host_on_board.new.disk;
     } in
     let run = run-earlier census service before after _ out c.host_on_board.result (g.D.Disk.faults c.args.disk.now) c.in-All.ensures.count
-    c.host_on_board.ensures.disk_count c.host_on_board.ensures.run in (
+    c.host_on_board.ensures.disk_count (g.D.Disk.could_leave c.args.disk.now c.args.journal.now) (c.in-All.ensures.left) c.host_on_board.ensures.run in (
       omega (arith, c.requires.there),
       c.host_on_board.ensures.rest,
       inr (subst (λ content. IsHostRun census service before after (told content) out c.host_on_board.result) (c.in-All.ensures.found refl) run),
@@ -33,5 +35,5 @@ pub returns-in-Failed : goal.returns-in-Failed
 returns-in-Failed g c = (
   omega (arith, c.requires.there),
   refl,
-  inr (inr (inr (inl (refl, c.in-Failed.ensures.failed refl, λ file h image left. record { first = image; left = tt; same = inl refl; stands = refl }, c.end_by_disk.ensures.ended)))),
+  inr (inr (inr (inl (refl, c.in-Failed.ensures.failed refl, λ file h image left. record { first = image; left = c.in-Failed.ensures.left image left; same = inl refl; stands = refl }, c.end_by_disk.ensures.ended)))),
 )

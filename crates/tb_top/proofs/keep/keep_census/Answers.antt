@@ -16,7 +16,9 @@ pub returns-in-All : goal.returns-in-All
 returns-in-All g c =
     let saw : Option (List ℕ) → ℕ → JournalRun = λ content faults. record {
       content = content;
+      content_after = g.D.Disk.content c.answer_on_board.new.disk;
       may_leave = g.D.Disk.may_leave c.answer_on_board.new.disk;
+      left_since = g.D.Disk.left_since c.answer_on_board.new.disk;
       faults = faults;
       faults_after = g.D.Disk.faults c.answer_on_board.new.disk;
       steps = c.args.steps.now;

@@ -1,0 +1,3 @@
+mod OneMore
+mod Whole
+pub mod SameReplies

@@ -1,0 +1,4 @@
+pub mod Lists
+pub mod Descriptions
+pub mod Told
+pub mod Writers

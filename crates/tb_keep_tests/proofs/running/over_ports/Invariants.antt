@@ -1,5 +1,0 @@
-use Rattle.tb_keep_tests.proofs.running.over_ports.Given as goal
-
--- the ledger of the blank
-abbrev pub ghosts-count_surely : goal.ghosts-count_surely
-ghosts-count_surely g a = record { name = a.blank.name; parts = a.blank.parts }

@@ -1,0 +1,4 @@
+mod Applying
+mod Answering
+mod Mirrored
+mod Led

@@ -1,0 +1,25 @@
+use Rattle.std.proofs.Common.{◌≡◌, ◌∙◌, sym, ap, subst, ℕ, ◌+◌, List, ◌++◌, length, take}
+use Rattle.std.proofs.Math.Seq.{take-append_seam}
+use Rattle.tb_base.specs.declared.status.Status.{Status}
+use Rattle.tb_model.specs.Releases.{ReleaseValue}
+use Rattle.tb_model.specs.Setups.{SetupValue}
+use Rattle.tb_serve.specs.Ports.{PortValue}
+use Rattle.tb_serve.specs.Serves.{Output, output}
+use Rattle.tb_mirror.specs.Mirroring.{Mirrors}
+use Rattle.tb_mirror.proofs.serving.serve_mirror.Goals as goal
+
+-- what became of the first ports of a list
+mirrors_first : (setup : SetupValue) (base : ReleaseValue) (k most n : ℕ) (all first after rest : List PortValue) (out : Output)
+    (ended : Status) → first ≡ take n all → length after ≡ n
+    → Mirrors setup base k most first after out ended → Mirrors setup base k most (take n all) (take n (after ++ rest)) out ended
+mirrors_first setup base k most n all first after rest out ended is long served =
+    let same : after ≡ take n (after ++ rest) = sym (ap (λ m. take m (after ++ rest)) (sym long) ∙ take-append_seam after rest) in
+    subst (λ (x : List PortValue × List PortValue). Mirrors setup base k most x.0 x.1 out ended) (λ i. (is i, same i)) served
+
+pub returns-clause-mirrors : goal.returns-clause-mirrors
+returns-clause-mirrors g c =
+    mirrors_first c.args.setup.now c.args.base c.args.first c.args.sessions
+    (c.args.workers + 1) c.args.net.now c.split_at_mut-ports.result.0.now c.serve_ports.new.ports c.split_at_mut-ports.result.1.now
+    (output (g.O.Sink.taken c.args.out.now) (g.O.Sink.taken c.serve_ports.new.out) (g.O.Sink.faults c.args.out.now)
+    (g.O.Sink.faults c.serve_ports.new.out)) c.serve_ports.result
+    c.split_at_mut-ports.ensures.front (c.serve_ports.auto.ports ∙ c.split_at_mut-ports.ensures.front_len) c.serve_ports.ensures

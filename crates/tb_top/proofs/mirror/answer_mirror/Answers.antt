@@ -1,0 +1,33 @@
+use Rattle.std.proofs.Common.{◌≡◌, ◌∙◌, ap, sym, subst, List, length, take, drop, ◌++◌, ◌+◌, ◌≤◌, arith}
+use Rattle.tb_mirror.specs.Mirroring.{Mirrors}
+use Rattle.tb_model.specs.Releases.{ReleaseValue}
+use Rattle.tb_serve.specs.Ports.{PortValue}
+use Rattle.tb_serve.specs.Serves.{output}
+use Rattle.tb_top.specs.Loading.{census_value}
+use Rattle.tb_top.specs.MirrorOutputs.{IsMirrorAnswered}
+use Rattle.tb_top.specs.Services.{ports_of}
+use Rattle.tb_top.proofs.PortLemmas.{written-back}
+use Rattle.tb_top.proofs.mirror.answer_mirror.Goals as goal
+
+pub returns : goal.returns
+returns g c =
+    let service = c.args.service.now in
+    let ports : List PortValue = c.args.net.now.items in
+    let new : List PortValue = c.serve_mirror.new.net in
+    let slice : List PortValue = c.as_mut_slice.result.now in
+    let value : slice ≡ ports = c.as_mut_slice.ensures.value in
+    let count : length slice ≡ c.args.net.now.len = c.as_mut_slice.ensures.len in
+    let full : length ports ≡ c.args.net.now.len = sym (ap length value) ∙ count in
+    let same : length new ≡ c.args.net.now.len = c.serve_mirror.auto.net ∙ count in
+    let back : take c.args.net.now.len (new ++ drop (length new) ports) ≡ new = written-back c.args.net.now.len ports new full same in
+    let long : service.workers + 1 ≤ length ports = omega (arith, c.port-port.ensures.ports.workers, c.requires.ports, full) in
+    let seen = output (g.O.Sink.taken c.args.out.now) (g.O.Sink.taken c.serve_mirror.new.out) (g.O.Sink.faults c.args.out.now) (g.O.Sink.faults c.serve_mirror.new.out) in
+    let over : Mirrors c.args.census.setup c.args.census.release service.port service.sessions (ports_of service ports)
+    (ports_of service new) seen c.serve_mirror.result =
+    rw (sym c.workers-workers.ensures, sym c.port-port.ensures.port, sym c.sessions-sessions.ensures, sym value) c.serve_mirror.ensures.mirrors in
+    let others : drop (service.workers + 1) new ≡ drop (service.workers + 1) ports =
+    rw (sym c.workers-workers.ensures, sym value) c.serve_mirror.ensures.rest in
+    let served = subst (λ (base : ReleaseValue). Mirrors c.args.census.setup base service.port service.sessions (ports_of service ports)
+    (ports_of service new) seen c.serve_mirror.result) c.requires.first.0 over in
+    subst (λ (ps : List PortValue). IsMirrorAnswered (census_value c.args.census) service ports ps c.serve_mirror.result seen)
+    (sym back) (long, others, served)
