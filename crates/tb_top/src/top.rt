@@ -273,7 +273,7 @@ pub fn tablebuilder<F: Files, O: Sink, N: Listen + Send, D: Disk + Send, L: Ledg
         (disk_seen D.named D.attached D.may_leave D.faults disk.old disk.new) steps.old steps.new)
         result }
 {
-    match ask(alloc, words, files) {
+    match ask(rt, alloc, words, files) {
         Ok(asked) => answer(rt, alloc, asked, out, net, disk, steps),
         Err(end) => end_by(&end, out),
     }
