@@ -1,9 +1,9 @@
 // Lists of arguments at each edge of what is a command.
 
-use super::running::words_of;
 use std::alloc::Global;
 use std::test::Fail;
 use tb_base::Memory;
+use tb_small_runs::words_of;
 use tb_top::read_command;
 
 // Arguments, which one blank parts, and whether they are a command's.

@@ -174,7 +174,7 @@ fn wanted(rows: &[Row], len: usize) -> (u8, &'static [u8]) {
 // The first of the bytes of a file after which a run with these arguments, over this script and the
 // file's bytes so far, isn't as its rows say.
 fn wrong_cut(
-    rt: &(impl Threads + Wait + Sync),
+    rt: &(impl Threads + Wait + Sync + Eprint),
     alloc: Global,
     arguments: &str,
     script: &'static [u8],

@@ -443,7 +443,7 @@ fn refused() -> &'static [Refused] {
 // The place of the first row of which a run over its two files, and over a script with a bad line,
 // isn't so.
 fn wrong_refusal(
-    rt: &(impl Threads + Wait + Sync),
+    rt: &(impl Threads + Wait + Sync + Eprint),
     alloc: Global,
 ) -> Result<Option<usize>, Memory> {
     for (i, (dwellings, links, line)) in refused().iter().enumerate() {

@@ -95,7 +95,7 @@ fn cuts() -> &'static [Cut] {
 
 // The place of the first row of which a run with these arguments isn't so.
 fn wrong_reading(
-    rt: &(impl Threads + Wait + Sync),
+    rt: &(impl Threads + Wait + Sync + Eprint),
     alloc: Global,
     arguments: &str,
     rows: &[Readings],
@@ -170,7 +170,7 @@ fn line_feeds(alloc: Global, n: usize) -> Result<Vec<u8>, Memory> {
 
 // Whether a run over a script of so many empty lines has this status, and writes this text.
 fn ends_so(
-    rt: &(impl Threads + Wait + Sync),
+    rt: &(impl Threads + Wait + Sync + Eprint),
     alloc: Global,
     lines: usize,
     status: u8,

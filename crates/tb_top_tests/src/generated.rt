@@ -1,14 +1,16 @@
 // Runs over generated populations. The lines that are wanted come from `bench/summary.py`, a model
 // that shares nothing with the program.
 
-use super::running::{run_over, words_of};
+use super::running::run_over;
 use std::alloc::Global;
 use std::sync::Wait;
 use std::test::Fail;
 use std::thread::Threads;
 use tb_base::{Memory, Status};
+use tb_comparison::{is_status, is_text};
 use tb_gen::files_of;
 use tb_io::{SureFiles, SureSink};
+use tb_small_runs::words_of;
 
 const ONE_PERSON: &[u8] = b"gen 1 1 lines 7211 bytes 64917 sum 4228453\n";
 
@@ -18,7 +20,7 @@ const MANY_PERSONS: &[u8] = b"gen 20000 7 lines 7211 bytes 76127 sum 4497808\n";
 
 // Whether a run without files writes this text, and is done.
 fn writes(
-    rt: &(impl Threads + Wait + Sync),
+    rt: &(impl Threads + Wait + Sync + Eprint),
     alloc: Global,
     arguments: &str,
     text: &[u8],
@@ -26,7 +28,8 @@ fn writes(
     let words = words_of(alloc, arguments)?;
     let mut out = SureSink::new(alloc);
     let status = run_over(rt, alloc, &words, &mut SureFiles::new(alloc), &mut out)?;
-    Ok(status == Status::Done && out.text()? == text)
+    let same = is_status(rt, status.number(), Status::Done.number());
+    Ok(is_text(rt, out.text()?, text) && same)
 }
 
 #[test]

@@ -1,6 +1,6 @@
 // Tables of many places.
 
-use super::running::{WITHOUT_RECODES, run_over, words_of};
+use super::running::{WITHOUT_RECODES, run_over};
 use std::alloc::{AllocError, Global};
 use std::sync::Wait;
 use std::test::Fail;
@@ -8,6 +8,7 @@ use std::thread::Threads;
 use tb_base::Memory;
 use tb_io::{SureFiles, SureSink};
 use tb_small::PTABLE;
+use tb_small_runs::words_of;
 
 // A table of many places over a header of microdata alone: the variables with how many categories
 // each has, the microdata, the script, how many lines are written, and the last of them.

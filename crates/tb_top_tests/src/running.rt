@@ -13,12 +13,13 @@ use std::sync::Wait;
 use std::sync::ledger::{Blank, Ledger};
 use std::thread::Threads;
 use tb_base::{Memory, Status, Steps};
+use tb_comparison::{is_either_text, is_status, is_text};
 use tb_io::{MemFiles, MemListen, MemSink, SureFiles, SureSink};
 use tb_mem_disk::MemDisk;
 use tb_serve::Port;
 use tb_small::{CLASSES, DWELLINGS, LINKS, PEOPLE, PTABLE, RECODES};
-use tb_top::MOST_WORKERS;
-use tb_top::laws::{run_in_memory, run_surely};
+use tb_small_runs::{quiet_ports, run_with_disk, words_of};
+use tb_top::laws::run_in_memory;
 
 pub const WITHOUT_RECODES: &str = "script classes - ptable people 0 script";
 
@@ -39,16 +40,6 @@ pub struct Run<'a> {
     pub text: &'a [u8],
 }
 
-pub fn words_of(alloc: Global, arguments: &str) -> Result<Vec<String>, Memory> {
-    let mut words = Vec::new(alloc);
-    if !arguments.is_empty() {
-        for word in arguments.split(' ') {
-            words.push(String::from_str(alloc, word)?)?;
-        }
-    }
-    Ok(words)
-}
-
 fn files_of(alloc: Global, others: &[(&str, &[u8])], fails: &[u32]) -> Result<MemFiles, Memory> {
     let mut files = MemFiles::new(alloc, fails)?;
     files.hold("classes", CLASSES)?;
@@ -62,25 +53,6 @@ fn files_of(alloc: Global, others: &[(&str, &[u8])], fails: &[u32]) -> Result<Me
         files.hold(name, bytes)?;
     }
     Ok(files)
-}
-
-// A listener to which no session is to come.
-fn quiet(alloc: Global) -> Result<Port<MemListen>, Memory>
-    ensures { IfOk result IsFresh }
-{
-    Ok(Port::of(MemListen::new(alloc, false, Vec::new(alloc), &[])?))
-}
-
-// As many as a run has ports.
-fn quiet_ports(alloc: Global) -> Result<Vec<Port<MemListen>>, Memory>
-    ensures ports { IfOk result (λ net. vec_len net ≡ MOST_WORKERS + 1) }
-    ensures fresh { IfOk result (λ net. All IsFresh net.items) }
-{
-    let mut net = Vec::new(alloc);
-    for _ in 0..=MOST_WORKERS {
-        net.push(quiet(alloc)?)?;
-    }
-    Ok(net)
 }
 
 // A disk with an empty file, which no run but one with a journal attaches.
@@ -113,29 +85,7 @@ fn count_in_memory<L: Ledger>(
     run_in_memory(rt, alloc, words, files, out, net, &mut disk, &mut steps)
 }
 
-// The same over forms that never fail.
-fn count_surely<L: Ledger>(
-    rt: &(impl Threads + Wait + Sync),
-    alloc: Global,
-    words: &[String],
-    files: &mut SureFiles,
-    out: &mut SureSink,
-    net: &mut Vec<Port<MemListen>>,
-    blank: Blank,
-) -> Status
-    requires ports { vec_len net.old ≡ MOST_WORKERS + 1 }
-    requires fresh { All IsFresh net.old.items }
-    requires name { blank.name ≡ L.name }
-    requires parts { blank.parts ≡ L.parts }
-    requires some { 0 < L.parts }
-{
-    let Ok(mut disk) = no_file(alloc) else {
-        return Status::Memory;
-    };
-    let mut steps = Steps::<L>::new(blank);
-    run_surely(rt, alloc, words, files, out, net, &mut disk, &mut steps)
-}
-
+/// Runs a command over files and a sink that never fail, and a disk of its own.
 pub fn run_over(
     rt: &(impl Threads + Wait + Sync),
     alloc: Global,
@@ -143,39 +93,47 @@ pub fn run_over(
     files: &mut SureFiles,
     out: &mut SureSink,
 ) -> Result<Status, Memory> {
-    let mut net = quiet_ports(alloc)?;
-    Ok(count_surely::<Brand>(rt, alloc, words, files, out, &mut net, Blank::new(1)))
+    let mut disk = no_file(alloc)?;
+    run_with_disk(rt, alloc, words, files, out, &mut disk)
 }
 
-// Whether the sink took the bytes of the row or these, and the status is its.
-pub fn is_either(
+// The number of the status of a run that writes into this sink.
+fn status_of(
     rt: &(impl Threads + Wait + Sync),
+    alloc: Global,
+    row: &Run<'_>,
+    out: &mut MemSink,
+) -> Result<u8, Memory> {
+    let words = words_of(alloc, row.arguments)?;
+    let mut files = files_of(alloc, row.others, row.fails)?;
+    let mut net = quiet_ports(alloc)?;
+    let blank = Blank::new(1);
+    let status = count_in_memory::<Brand>(rt, alloc, &words, &mut files, out, &mut net, blank);
+    Ok(status.number())
+}
+
+/// Whether the sink took the bytes of the row or these, and the status is its. Where not, what was
+/// wanted is printed beside what came.
+pub fn is_either(
+    rt: &(impl Threads + Wait + Sync + Eprint),
     alloc: Global,
     row: &Run<'_>,
     other: &[u8],
 ) -> Result<bool, Memory> {
-    let words = words_of(alloc, row.arguments)?;
-    let mut files = files_of(alloc, row.others, row.fails)?;
     let mut out = MemSink::new(alloc, row.bound)?;
-    let mut net = quiet_ports(alloc)?;
-    let status = count_in_memory::<Brand>(
-        rt,
-        alloc,
-        &words,
-        &mut files,
-        &mut out,
-        &mut net,
-        Blank::new(1),
-    );
-    let taken = out.taken();
-    Ok(status.number() == row.status && (taken == row.text || taken == other))
+    let status = status_of(rt, alloc, row, &mut out)?;
+    let same = is_status(rt, status, row.status);
+    Ok(is_either_text(rt, out.taken(), row.text, other) && same)
 }
 
-// Whether the sink took the bytes of the row, and the status is its.
+/// The same of the bytes of the row alone.
 pub fn is_so(
-    rt: &(impl Threads + Wait + Sync),
+    rt: &(impl Threads + Wait + Sync + Eprint),
     alloc: Global,
     row: &Run<'_>,
 ) -> Result<bool, Memory> {
-    is_either(rt, alloc, row, row.text)
+    let mut out = MemSink::new(alloc, row.bound)?;
+    let status = status_of(rt, alloc, row, &mut out)?;
+    let same = is_status(rt, status, row.status);
+    Ok(is_text(rt, out.taken(), row.text) && same)
 }

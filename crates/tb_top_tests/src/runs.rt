@@ -329,7 +329,7 @@ fn runs() -> &'static [Over] {
 
 // Whether a run is as its row says.
 pub fn is_worked(
-    rt: &(impl Threads + Wait + Sync),
+    rt: &(impl Threads + Wait + Sync + Eprint),
     alloc: Global,
     over: &Over,
 ) -> Result<bool, Memory> {

@@ -221,7 +221,7 @@ fn scripts() -> &'static [Script] {
 
 // Whether a run with these arguments over the script writes its replies.
 pub fn is_replied(
-    rt: &(impl Threads + Wait + Sync),
+    rt: &(impl Threads + Wait + Sync + Eprint),
     alloc: Global,
     arguments: &str,
     script: &Script,

@@ -1,4 +1,4 @@
-use Rattle.tb_top_tests.proofs.running.is_either.Given as goal
+use Rattle.tb_top_tests.proofs.running.status_of.Given as goal
 
 -- the ledger of the blank
 abbrev pub ghosts-count_in_memory : goal.ghosts-count_in_memory
