@@ -5,7 +5,7 @@ ghost use Rattle.tb_model.specs.Schemas.{shape_of};
 ghost use Rattle.tb_session.specs.Parties.{IsPartyOf};
 
 use super::asking::ask_all;
-use super::making::{analyst, opening, owner};
+use super::making::analyst;
 use std::alloc::Global;
 use std::marker::Brand;
 use std::sync::Wait;
@@ -16,8 +16,10 @@ use std::thread::{Threads, join};
 use tb_base::{Memory, Steps};
 use tb_board::{Board, Named, Opening};
 use tb_build::{Gate, Open};
+use tb_comparison::is_text;
 use tb_io::MemSink;
 use tb_session::Party;
+use tb_small_boards::{opening, owner};
 use tb_small_values::setup;
 use tb_text::Setup;
 
@@ -90,7 +92,7 @@ fn ask_twice<B: Named, R: Threads + Wait + Sync>(
 }
 
 // Whether the first caller gets its replies so.
-fn ask_first<B: Named, R: Threads + Wait + Sync>(
+fn ask_first<B: Named, R: Threads + Wait + Sync + Eprint>(
     rt: &R,
     alloc: Global,
     setup: &Setup,
@@ -102,7 +104,7 @@ fn ask_first<B: Named, R: Threads + Wait + Sync>(
 {
     let mut sink = MemSink::new(alloc, 200).ok()?;
     let right = ask_twice(rt, alloc, setup, board, &mut party, flags, &mut sink);
-    Some(right && sink.taken() == FIRST)
+    Some(is_text(rt, sink.taken(), FIRST) && right)
 }
 
 // The custodian publishes and another caller is answered before the first may go on; in the end
@@ -131,7 +133,7 @@ fn publish_and_ask<B: Named, R: Threads + Wait + Sync>(
 }
 
 // Whether the others get their replies so.
-fn go_on<B: Named, R: Threads + Wait + Sync>(
+fn go_on<B: Named, R: Threads + Wait + Sync + Eprint>(
     rt: &R,
     alloc: Global,
     setup: &Setup,
@@ -147,7 +149,7 @@ fn go_on<B: Named, R: Threads + Wait + Sync>(
     let right = publish_and_ask(
         rt, alloc, setup, board, &mut own, &mut party, flags, &mut sink,
     );
-    Some(right && sink.taken() == OTHERS)
+    Some(is_text(rt, sink.taken(), OTHERS) && right)
 }
 
 // Whether the custodian publishes three releases.
@@ -168,7 +170,7 @@ fn publish_three<B: Named, R: Threads + Wait + Sync>(
 }
 
 // Whether both get their replies, one beside the other.
-fn are_answered<B: Named + Send + Sync, R: Threads + Wait + Sync>(
+fn are_answered<B: Named + Send + Sync, R: Threads + Wait + Sync + Eprint>(
     rt: &R,
     alloc: Global,
     setup: &Setup,
@@ -200,7 +202,7 @@ fn are_answered<B: Named + Send + Sync, R: Threads + Wait + Sync>(
 }
 
 // The same over a new board, after three releases.
-fn beside<B: Named + Send + Sync, R: Threads + Wait + Sync>(
+fn beside<B: Named + Send + Sync, R: Threads + Wait + Sync + Eprint>(
     rt: &R,
     alloc: Global,
     setup: &Setup,
@@ -217,7 +219,7 @@ fn beside<B: Named + Send + Sync, R: Threads + Wait + Sync>(
     are_answered(rt, alloc, setup, &board, own, one, two) && published == Some(true)
 }
 
-fn beside_over<R: Threads + Wait + Sync>(
+fn beside_over<R: Threads + Wait + Sync + Eprint>(
     rt: &R,
     alloc: Global,
     setup: &Setup,
@@ -226,7 +228,10 @@ fn beside_over<R: Threads + Wait + Sync>(
     Ok(beside::<Brand, R>(rt, alloc, setup, opening))
 }
 
-fn beside_over_small<R: Threads + Wait + Sync>(rt: &R, alloc: Global) -> Result<bool, Memory> {
+fn beside_over_small<R: Threads + Wait + Sync + Eprint>(
+    rt: &R,
+    alloc: Global,
+) -> Result<bool, Memory> {
     let setup = setup(alloc)?;
     beside_over(rt, alloc, &setup)
 }

@@ -5,7 +5,7 @@ ghost use Rattle.tb_model.specs.Schemas.{shape_of};
 ghost use Rattle.tb_session.specs.Parties.{IsPartyOf};
 
 use super::asking::{ask, ask_all};
-use super::making::{analyst, opening, owner};
+use super::making::analyst;
 use std::alloc::Global;
 use std::marker::Brand;
 use std::sync::Wait;
@@ -14,8 +14,10 @@ use std::thread::Threads;
 use tb_base::{Memory, print_number};
 use tb_board::{Board, Named, Opening};
 use tb_build::Open;
+use tb_comparison::is_text;
 use tb_io::MemSink;
 use tb_session::Party;
+use tb_small_boards::{opening, owner};
 use tb_small_values::setup;
 use tb_text::Setup;
 
@@ -117,7 +119,7 @@ fn ask_past<B: Named, R: Threads + Wait + Sync>(
 }
 
 // Whether the tables are the same, and not all alike.
-fn are_equal<B: Named, R: Threads + Wait + Sync>(
+fn are_equal<B: Named, R: Threads + Wait + Sync + Eprint>(
     rt: &R,
     alloc: Global,
     setup: &Setup,
@@ -142,11 +144,11 @@ fn are_equal<B: Named, R: Threads + Wait + Sync>(
         &mut present,
     );
     let then = ask_past(rt, alloc, setup, board, own, &mut past);
-    Some(first && then && past.taken() == present.taken())
+    Some(is_text(rt, past.taken(), present.taken()) && first && then)
 }
 
 // The same over a new board.
-fn are_equal_over<B: Named, R: Threads + Wait + Sync>(
+fn are_equal_over<B: Named, R: Threads + Wait + Sync + Eprint>(
     rt: &R,
     alloc: Global,
     setup: &Setup,
@@ -161,7 +163,7 @@ fn are_equal_over<B: Named, R: Threads + Wait + Sync>(
     are_equal(rt, alloc, setup, &board, &mut own, &mut party) == Some(true)
 }
 
-fn past_over<R: Threads + Wait + Sync>(
+fn past_over<R: Threads + Wait + Sync + Eprint>(
     rt: &R,
     alloc: Global,
     setup: &Setup,
@@ -170,7 +172,10 @@ fn past_over<R: Threads + Wait + Sync>(
     Ok(are_equal_over::<Brand, R>(rt, alloc, setup, opening))
 }
 
-fn past_over_small<R: Threads + Wait + Sync>(rt: &R, alloc: Global) -> Result<bool, Memory> {
+fn past_over_small<R: Threads + Wait + Sync + Eprint>(
+    rt: &R,
+    alloc: Global,
+) -> Result<bool, Memory> {
     let setup = setup(alloc)?;
     past_over(rt, alloc, &setup)
 }

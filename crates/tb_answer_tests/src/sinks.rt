@@ -5,7 +5,6 @@ ghost use Rattle.tb_model.specs.Schemas.{shape_of};
 ghost use Rattle.tb_session.specs.Parties.{IsPartyOf};
 
 use super::asking::ask;
-use super::making::{opening, owner};
 use std::alloc::Global;
 use std::marker::Brand;
 use std::sync::Wait;
@@ -14,14 +13,16 @@ use std::thread::Threads;
 use tb_base::Memory;
 use tb_board::{Board, Named, Opening};
 use tb_build::Open;
+use tb_comparison::is_text;
 use tb_io::MemSink;
 use tb_session::Party;
+use tb_small_boards::{opening, owner};
 use tb_small_values::setup;
 use tb_text::Setup;
 
 // Answers a line into a sink of so many bytes, and returns whether it took these and all of the
 // reply or not.
-fn asks<B: Named, R: Threads + Wait + Sync>(
+fn asks<B: Named, R: Threads + Wait + Sync + Eprint>(
     rt: &R,
     alloc: Global,
     setup: &Setup,
@@ -38,11 +39,12 @@ fn asks<B: Named, R: Threads + Wait + Sync>(
         return false;
     };
     let all = ask(rt, alloc, setup, board, own, line, &mut sink, &mut Open);
-    all == (want.len() < bound) && sink.taken() == want
+    let same = is_text(rt, sink.taken(), want);
+    all == (want.len() < bound) && same
 }
 
 // Whether the edit is held, the reply to `publish` is cut, and the table is over the next release.
-fn is_published<B: Named, R: Threads + Wait + Sync>(
+fn is_published<B: Named, R: Threads + Wait + Sync + Eprint>(
     rt: &R,
     alloc: Global,
     setup: &Setup,
@@ -61,7 +63,7 @@ fn is_published<B: Named, R: Threads + Wait + Sync>(
     drops && publishes && shows
 }
 
-fn is_published_over<R: Threads + Wait + Sync>(
+fn is_published_over<R: Threads + Wait + Sync + Eprint>(
     rt: &R,
     alloc: Global,
     setup: &Setup,
@@ -70,7 +72,7 @@ fn is_published_over<R: Threads + Wait + Sync>(
     Ok(is_published::<Brand, R>(rt, alloc, setup, opening))
 }
 
-fn is_published_over_small<R: Threads + Wait + Sync>(
+fn is_published_over_small<R: Threads + Wait + Sync + Eprint>(
     rt: &R,
     alloc: Global,
 ) -> Result<bool, Memory> {
