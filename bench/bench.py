@@ -144,11 +144,19 @@ ALONE, EARLIER, THREADS = "program-alone", "earlier-alone", "baseline-threads"
 BY_THREADS = {MARGINS: 0.5, LARGEST: 0.6}
 BESIDE_EARLIER = 1.03
 FEWEST_PROCESSORS = 4
+# The most that a script of one table may take of the plain program's time, so mostly the loading of
+# a million persons: on at least so many processors, on one, and of persons in another order; and the
+# most MiB that it may hold.
+LOADING, LOADING_ALONE, LOADING_SHUFFLED, LOADED = 0.25, 0.43, 0.45, 60
 # Lanes, the tables of each, and the most of a script's time that they may take.
 LANES, TABLES_A_LANE, LANES_BESIDE_SCRIPT = 4, 10_000, 0.45
 MIB = 1024 * 1024
 # The status of arguments that are none of the program's.
 USAGE = 2
+
+
+def processors():
+    return os.cpu_count() or 1
 
 
 class Case:
@@ -163,6 +171,8 @@ class Case:
         if persons == LARGE and before == COLD and queries in BY_THREADS:
             self.whos += [ALONE, EARLIER, THREADS]
         is_loading = count == ONE and persons == LARGE and queries == ONE_DIMENSION
+        if is_loading:
+            self.whos.append(ALONE)
         is_long = queries == LARGEST and before == KEPT and persons == LARGE and count > ONE
         self.runs = LOADING_RUNS if is_loading else LONG_RUNS if is_long else RUNS
         self.seconds = {who: [] for who in self.whos}
@@ -541,7 +551,10 @@ def targets(first, further, shuffled):
     batches = [further[LARGE, (), batch] for batch in (MIXED_ONE, MIXED_MANY)]
     revised = max(batch.of.peak[PROGRAM] for batch in batches) / MIB
     growth = one.median(PROGRAM) / first[SMALL, ONE_DIMENSION, COLD].median(PROGRAM)
-    yield (f"{LARGE:,} persons, one table: time beside the plain program", one.ratio(), 0.6)
+    is_enough = processors() >= FEWEST_PROCESSORS
+    beside = f"time beside the plain program, on {processors()} processors"
+    yield (f"{LARGE:,} persons, one table: {beside}", one.ratio(), LOADING if is_enough else None)
+    yield ("the same on one processor", one.ratio(ALONE), LOADING_ALONE)
     yield further[LARGE, ONE_DIMENSION, COLD].row(0.7)
     yield further[SMALL, ONE_DIMENSION, COLD].row(None)
     yield further[LARGE, TWO_DIMENSIONS, COLD].row(0.9)
@@ -553,10 +566,11 @@ def targets(first, further, shuffled):
     yield further[LARGE, LARGEST, KEPT].row(0.8)
     for batch in batches:
         yield batch.row(1.0)
-    yield ("peak memory of the process, MiB", peak, 64)
+    yield ("peak memory of the process, MiB", peak, LOADED)
     yield ("the same with batches, MiB", revised, 120)
     yield (f"time at {LARGE:,} beside {SMALL:,} persons", growth, 55)
-    yield ("persons in another order: time beside the plain program", shuffled.ratio(), None)
+    most = LOADING_SHUFFLED if is_enough else None
+    yield (f"persons in another order: {beside}", shuffled.ratio(), most)
     yield ("persons in another order: peak memory, MiB", shuffled.peak[PROGRAM] / MIB, None)
 
 
@@ -579,9 +593,8 @@ def threads(further, lanes):
     """What threads gain: cold tables beside those of one processor, of the plain program with
     threads and of an earlier program, and lanes beside a script. The targets are for four
     processors; on fewer there is none."""
-    processors = os.cpu_count() or 1
-    is_enough = processors >= FEWEST_PROCESSORS
-    on = f"on {processors} processors"
+    is_enough = processors() >= FEWEST_PROCESSORS
+    on = f"on {processors()} processors"
     for queries, most in BY_THREADS.items():
         cold = further[LARGE, queries, COLD]
         name = f"{queries[0]}, cold, {on}"

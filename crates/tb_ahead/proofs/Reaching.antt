@@ -164,7 +164,7 @@ added_still : (held : List Edit) (a b c : FileStands) → IsAdded held a b → S
 added_still held a b c added stays since batches stands = stays since (batches ++ held ∷ []) None (added since batches stands)
 
 module _ (Own : StateValue → List ℕ → ReplyValue → StateValue → Type 0) (base : ReleaseValue) (line : List ℕ) (old new : StateValue)
-    (a b c : FileStands) (live live' live'' : Bool) (f f' f'' : ℕ) where
+    (a b c : FileStands) {live live' live'' : Bool} {f f' f'' : ℕ} where
   -- the edits were put, and then published, or not and nothing is put any more
   pub by_kept : IsKeptBy old.held a b live live' f f' put.Kept → IsClosedUnlessNone new.held b c live' live'' → f'' ≡ f' → CanFollow (release_after base old.chain) old.held
       → ((since : Since) (batches : List (List Edit)) (last : List Edit) → c since (batches ++ last ∷ []) None → c since batches (Some last))
@@ -193,6 +193,6 @@ pub own_as : (Own : ReleaseValue → StateValue → List ℕ → ReplyValue → 
 own_as Own base base' s s' line reply new b e h = subst (λ (x : StateValue). Own base x line reply new) e (subst (λ (y : ReleaseValue). Own y s' line reply new) b h)
 
 -- a line that asks to publish leads so
-pub as_asked : {W : Type 0} (target : W → ℕ) (live : W → Bool) (faults : W → ℕ) (standing : W → FileStands) (Own : ReleaseValue → StateValue → List ℕ → ReplyValue → StateValue → Type 0)
-    (asks : Bool) (old : KeeperValue W) (line : List ℕ) (reply : ReplyValue) (new : KeeperValue W) → asks ≡ true → LeadsBy target live faults standing Own true old line reply new → LeadsBy target live faults standing Own asks old line reply new
-as_asked target live faults standing Own asks old line reply new is h = subst (λ (b : Bool). LeadsBy target live faults standing Own b old line reply new) (sym is) h
+pub as_asked : {W : Type 0} (Continues : W → W → Type 0) (live : W → Bool) (faults : W → ℕ) (standing : W → FileStands) (Own : ReleaseValue → StateValue → List ℕ → ReplyValue → StateValue → Type 0)
+    (asks : Bool) (old : KeeperValue W) (line : List ℕ) (reply : ReplyValue) (new : KeeperValue W) → asks ≡ true → LeadsBy Continues live faults standing Own true old line reply new → LeadsBy Continues live faults standing Own asks old line reply new
+as_asked Continues live faults standing Own asks old line reply new is h = subst (λ (b : Bool). LeadsBy Continues live faults standing Own b old line reply new) (sym is) h

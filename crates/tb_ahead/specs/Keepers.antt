@@ -34,10 +34,10 @@ abbrev pub Reaches : (old new : KeptState → Type 0) → (KeptState → KeptSta
 Reaches old new Step =
     (first : KeptState) → old first → (last : KeptState) × new last × Step first last
 
--- of what it writes through it is told what that writes into, whether it is live, the disk's count
--- of faults, and what the file stands for after a stop; and of the party its own replies over a
--- release 0
-module _ {W : Type 0} (target : W → ℕ) (live : W → Bool) (faults : W → ℕ)
+-- of what it writes through it is told what all calls keep of it, whether it is live, the disk's
+-- count of faults, and what the file stands for after a stop; and of the party its own replies over
+-- a release 0
+module _ {W : Type 0} (Continues : W → W → Type 0) (live : W → Bool) (faults : W → ℕ)
     (standing : W → FileStands)
     (Own : ReleaseValue → StateValue → List ℕ → ReplyValue → StateValue → Type 0) where
   -- it stands here
@@ -45,11 +45,11 @@ module _ {W : Type 0} (target : W → ℕ) (live : W → Bool) (faults : W → �
   StandsAt one at = IsAt (standing one.ahead) (live one.ahead) (faults one.ahead) one.state at
 
   -- a line that asks to publish, or doesn't, leads from one to the other by a reply; what is
-  -- written into is the same
+  -- written through continues what it was
   abbrev pub LeadsBy : Bool → KeeperValue W → List ℕ → ReplyValue → KeeperValue W → Type 0
   LeadsBy asks old line reply new =
       (new.base ≡ old.base)
-      × (target new.ahead ≡ target old.ahead)
+      × Continues old.ahead new.ahead
       × Reaches (StandsAt old) (StandsAt new)
       (λ first last. IsKeptStep asks (Own old.base) old.base first line reply last)
 

@@ -27,11 +27,11 @@ pub enum Put {
 /// one. What a stop since some moment may have left stands for a beginning of them that is never
 /// shorter than what `Since` gives. Of a disk that tells nothing it is true of any. `faults` counts
 /// the disk's faults.
-/// `IsReady` is the condition under which it puts, which every call keeps. `target` names what it
-/// writes into, by a number that no call changes, as the name of a borrow: so whoever lent it knows
-/// once the borrow is over that it is what the last call left.
+/// `IsReady` is the condition under which it puts, which every call keeps. `Continues` says of an
+/// earlier and a later one what all calls keep, as that both write into the same: so whoever lent
+/// that knows once the borrow is over that it is what the last call left, and what came before it.
 pub trait WriteAhead {
-    ghost target: { Self → ℕ };
+    ghost Continues: { Self → Self → Type 0 };
 
     ghost faults: { Self → ℕ };
 
@@ -52,7 +52,7 @@ pub trait WriteAhead {
         requires ready { IsReady self.old }
         requires writable { CanBeSpelled edits.now }
         ensures ready { IsReady self.new }
-        ensures target { target self.new ≡ target self.old }
+        ensures continues { Continues self.old self.new }
         ensures count { faults self.old ≤ faults self.new }
         ensures kept { result ≡ put.Kept → (live self.new ≡ true)
             × IsAdded edits.now (StandsFor self.old) (StandsFor self.new) }
@@ -66,10 +66,17 @@ pub trait WriteAhead {
     fn close(&mut self)
         requires ready { IsReady self.old }
         ensures ready { IsReady self.new }
-        ensures target { target self.new ≡ target self.old }
+        ensures continues { Continues self.old self.new }
         ensures live { live self.new ≡ false }
         ensures count { faults self.new ≡ faults self.old }
         ensures stays { StaysAsItWas (StandsFor self.old) (StandsFor self.new) };
+
+    /// What no call changed continues itself.
+    ghost continues_itself: { (ahead : Self) → Continues ahead ahead };
+
+    /// What continues a later one continues an earlier one.
+    ghost continues_on: { (old mid new : Self) → Continues old mid → Continues mid new
+        → Continues old new };
 
     /// Where each such file stands for some batches, the last may be called a further one.
     ghost further: { (ahead : Self) (since : Since) (batches : List (List Edit))

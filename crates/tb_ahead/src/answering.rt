@@ -26,7 +26,7 @@ fn put_held<C, G, P: Publisher<C, G>, W: WriteAhead>(
     requires puts { W.IsReady ahead.old }
     requires some { 0 < length (P.state party.now).held }
     ensures puts { W.IsReady ahead.new }
-    ensures target { W.target ahead.new ≡ W.target ahead.old }
+    ensures continues { W.Continues ahead.old ahead.new }
     ensures kept { IsKeptBy (P.state party.now).held (W.StandsFor ahead.old)
         (W.StandsFor ahead.new) (W.live ahead.old) (W.live ahead.new) (W.faults ahead.old)
         (W.faults ahead.new) result }
@@ -42,7 +42,7 @@ fn close_unless_none<C, G, P: Publisher<C, G>, W: WriteAhead>(setting: &C, party
     requires ready { P.IsReady setting.now party.now }
     requires puts { W.IsReady ahead.old }
     ensures puts { W.IsReady ahead.new }
-    ensures target { W.target ahead.new ≡ W.target ahead.old }
+    ensures continues { W.Continues ahead.old ahead.new }
     ensures count { W.faults ahead.new ≡ W.faults ahead.old }
     ensures closes { IsClosedUnlessNone (P.state party.now).held (W.StandsFor ahead.old)
         (W.StandsFor ahead.new) (W.live ahead.old) (W.live ahead.new) }
@@ -73,7 +73,7 @@ fn write_ahead<C, G, P: Publisher<C, G>, W: WriteAhead, K: Sink, L: Ledger>(
     ensures ready { P.IsReady setting.now party.new }
     ensures puts { W.IsReady ahead.new }
     ensures replied { IsReplied
-        (LeadsBy W.target W.live W.faults W.StandsFor (P.Step setting.now) true) line.now result
+        (LeadsBy W.Continues W.live W.faults W.StandsFor (P.Step setting.now) true) line.now result
         (moment (keeper (P.base party.old) (P.state party.old) ahead.old) steps.old
         (K.taken sink.old) (K.faults sink.old))
         (moment (keeper (P.base party.new) (P.state party.new) ahead.new) steps.new
@@ -108,7 +108,7 @@ fn publish_ahead<C, G, P: Publisher<C, G>, W: WriteAhead, K: Sink, L: Ledger>(
     ensures ready { P.IsReady setting.now party.new }
     ensures puts { W.IsReady ahead.new }
     ensures replied { IsReplied
-        (LeadsBy W.target W.live W.faults W.StandsFor (P.Step setting.now) true) line.now result
+        (LeadsBy W.Continues W.live W.faults W.StandsFor (P.Step setting.now) true) line.now result
         (moment (keeper (P.base party.old) (P.state party.old) ahead.old) steps.old
         (K.taken sink.old) (K.faults sink.old))
         (moment (keeper (P.base party.new) (P.state party.new) ahead.new) steps.new
@@ -144,7 +144,7 @@ pub fn answer_ahead<C, G, P: Publisher<C, G>, W: WriteAhead, K: Sink, L: Ledger>
     ensures puts { W.IsReady ahead.new }
     // Wherever the party stood, the file stands for what the reply leads to.
     ensures replied { IsReplied
-        (KeepsTo W.target W.live W.faults W.StandsFor (P.Step setting.now) P.publishes) line.now
+        (KeepsTo W.Continues W.live W.faults W.StandsFor (P.Step setting.now) P.publishes) line.now
         result
         (moment (keeper (P.base party.old) (P.state party.old) ahead.old) steps.old
         (K.taken sink.old) (K.faults sink.old))

@@ -32,7 +32,7 @@ impl<C, G, P: Publisher<C, G>, W: WriteAhead> Answerer<C, G, ()> for Keeper<P, W
     ghost MayAsk = { λ c who. Unit {0} };
 
     ghost Step = { λ c who old line reply new.
-        KeepsTo W.target W.live W.faults W.StandsFor (P.Step c) P.publishes old line reply new };
+        KeepsTo W.Continues W.live W.faults W.StandsFor (P.Step c) P.publishes old line reply new };
 
     fn begin(&mut self, setting: &C) {
         self.party.begin(setting);

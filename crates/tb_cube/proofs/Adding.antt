@@ -76,9 +76,9 @@ map-same y (x ∷ xs) = ap (λ ys. y ∷ ys) (map-same y xs)
 pub cube-empty : (shape vars : List ℕ) (n : ℕ) → n ≡ cell_count shape vars → replicate n empty_cell ≡ cube_of shape vars []
 cube-empty shape vars n e = ap (λ k. replicate k empty_cell) (e ∙ sym (length-lists shape vars)) ∙ map-same empty_cell (category_lists shape vars)
 
-pub made-cube : (shape shape' vars vars' : List ℕ) (cells cells' : List Cell) → shape ≡ shape' → vars ≡ vars' → cells ≡ cells'
+pub made-cube : {shape shape' vars vars' : List ℕ} {cells cells' : List Cell} → shape ≡ shape' → vars ≡ vars' → cells ≡ cells'
     → ◌≡◌ {A = CubeValue} (record { shape = shape; vars = vars; cells = cells; dense = true }) (record { shape = shape'; vars = vars'; cells = cells'; dense = true })
-made-cube shape shape' vars vars' cells cells' s v c = rw (s, v, c) refl
+made-cube s v c = rw (s, v, c) refl
 
 -- what holds of each element holds of the one at a place
 pub at-item : {X : Type 0} (P : X → Type 0) (xs : List X) (i : ℕ) (x : X) → All P xs → i < length xs → x ≡ get_or xs i x → P x

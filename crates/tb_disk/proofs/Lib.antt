@@ -2,3 +2,4 @@ pub mod Going
 pub mod Quietly
 pub mod Tearing
 pub mod Telling
+pub mod Past

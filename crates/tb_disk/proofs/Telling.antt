@@ -24,10 +24,10 @@ module _ (old new : Option (List ℕ)) (step : List ℕ → List ℕ → Type 0)
       to (Some f) l = (f, refl, subst (step f) (some-is l.0 next (sym l.1 ∙ told)) l.2)
 
 -- one step and another
-pub Leads-then : (old mid new : Option (List ℕ)) (step more both : List ℕ → List ℕ → Type 0) → Leads old mid step → Leads mid new more
+pub Leads-then : {old : Option (List ℕ)} (mid new : Option (List ℕ)) {step more both : List ℕ → List ℕ → Type 0} → Leads old mid step → Leads mid new more
     → ((file next last : List ℕ) → old ≡ Some file → step file next → more next last → both file last) → Leads old new both
-Leads-then None mid new step more both first second join = subst (λ (m : Option (List ℕ)). Leads m new more) first second
-Leads-then (Some f) mid new step more both first second join =
+Leads-then {old = None} mid new {more} first second join = subst (λ (m : Option (List ℕ)). Leads m new more) first second
+Leads-then {old = Some f} mid new {more} first second join =
     let h = forward mid new more second first.0 first.1 in
     (h.0, h.1, join f first.0 h.0 refl first.2 h.2)
 

@@ -60,6 +60,9 @@ pub trait Disk {
         // Whether it fails or not.
         ensures left { (image : List ℕ) → may_leave self.new image
             → could_leave self.old name.now image }
+        ensures later { moment self.old ≤ moment self.new }
+        ensures any_moment { (image : List ℕ) → left_since self.new (moment self.old) image
+            → could_leave self.old name.now image }
         ensures count { faults self.old ≤ faults self.new }
         ensures failed { result ≡ done.Failed → HasRisen (faults self.old) (faults self.new) };
 

@@ -6,9 +6,10 @@
 //! moment may have left).
 //!
 //! For whoever calls a disk, `specs/Moments` and `specs/Quiet` have what is said of several calls:
-//! that each stop in them leaves a file of a kind, and that they change nothing. `proofs/Going` and
-//! `Quietly` weaken and join what was said of calls one after another, `Telling` does so for what a
-//! read gives, and `Tearing` has the writes that are cut short.
+//! that each stop in them leaves a file of a kind, that they keep the past, and that they change
+//! nothing. `proofs/Going`, `Past` and `Quietly` weaken and join what was said of calls one after
+//! another, `Telling` does so for what a read gives, and `Tearing` has the writes that are cut
+//! short.
 #![tactic(auto)]
 
 mod disk;

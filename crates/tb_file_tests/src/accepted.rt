@@ -257,7 +257,7 @@ fn perturbation_tables(rt: HostRuntime) {
 }
 
 // A person, a key, and the categories of SEX, AGE and AREA.
-type Person = (u32, u16, [u16; 3]);
+pub type Person = (u32, u16, [u16; 3]);
 
 static FOUR: [Person; 4] = [
     (101, 200, [0, 0, 0]),
@@ -293,7 +293,7 @@ fn is_record(one: &Record, want: &Person) -> bool {
     one.codes.at(0) == *sex && one.codes.at(1) == *age && one.codes.at(2) == *area
 }
 
-fn are_people(people: &People, want: &[Person]) -> bool {
+pub fn are_people(people: &People, want: &[Person]) -> bool {
     people.len() == want.len()
         && people
             .all()

@@ -44,7 +44,7 @@ fn ptable_fault(fault: PTableFault) -> Told {
     }
 }
 
-fn people_fault(fault: PeopleFault) -> Told {
+pub fn people_fault(fault: PeopleFault) -> Told {
     match fault {
         PeopleFault::Refused { kind, at } => fault_told(kind.name(), at),
         PeopleFault::Memory => MEMORY,

@@ -17,6 +17,8 @@ mod generated;
 #[cfg(test)]
 mod limits;
 #[cfg(test)]
+mod parts;
+#[cfg(test)]
 mod printed;
 #[cfg(test)]
 mod refused;

@@ -187,8 +187,8 @@ module _ {E S T : Type 0} where
       }
 
   -- the keeper takes in a draft
-  pub adopts : (key blank : S) (id : ℕ) (v : View E S) (other : ℕ) (w : View E S) → v.role ≡ Keeper → w.role ≡ Draft → Joins {S = T} (OneChain key) id v other w (lengthened v w) (spent blank)
-  adopts key blank id v other w is too = absorbs key blank id v other w _ (λ chain kept writer keeper p mine theirs.
+  pub adopts : {key : S} (blank : S) {id : ℕ} {v : View E S} {other : ℕ} {w : View E S} → v.role ≡ Keeper → w.role ≡ Draft → Joins {S = T} (OneChain key) id v other w (lengthened v w) (spent blank)
+  adopts {key} blank {id} {v} {other} {w} is too = absorbs key blank id v other w _ (λ chain kept writer keeper p mine theirs.
       let place = subst (λ r. HasRole chain kept writer keeper id r v.list) is mine.0 in
       let draft = subst (λ r. HasRole chain kept writer keeper other r w.list) too theirs.0 in
       let base = subst (λ r. HasBase key r v.base) is mine.1 in
@@ -207,8 +207,8 @@ module _ {E S T : Type 0} where
       ))
 
   -- a pass takes in a note
-  pub learns : (key blank : S) (id : ℕ) (v : View E S) (other : ℕ) (w : View E S) → v.role ≡ Pass → w.role ≡ Pass → Joins {S = T} (OneChain key) id v other w (lengthened v w) (spent blank)
-  learns key blank id v other w is too = absorbs key blank id v other w _ (λ chain kept writer keeper p mine theirs.
+  pub learns : {key : S} (blank : S) {id : ℕ} {v : View E S} {other : ℕ} {w : View E S} → v.role ≡ Pass → w.role ≡ Pass → Joins {S = T} (OneChain key) id v other w (lengthened v w) (spent blank)
+  learns {key} blank {id} {v} {other} {w} is too = absorbs key blank id v other w _ (λ chain kept writer keeper p mine theirs.
       let place = subst (λ r. HasRole chain kept writer keeper id r v.list) is mine.0 in
       let note = subst (λ r. HasRole chain kept writer keeper other r w.list) too theirs.0 in
       let base = subst (λ r. HasBase key r v.base) is mine.1 in
@@ -248,22 +248,22 @@ module _ {E S T : Type 0} where
         (mine.0, mine.1, (refl, prefix_self v.list, (their_base ∙ sym own.1, prefix_trans w.list kept v.list note own.0, tt))),
       ))
 
-  pub writer_confirms : (key blank : S) (id : ℕ) (v : View E S) (other : ℕ) (w : View E S) → v.role ≡ Writer → w.role ≡ Pass
+  pub writer_confirms : {key : S} (blank : S) {id : ℕ} {v : View E S} {other : ℕ} {w : View E S} → v.role ≡ Writer → w.role ≡ Pass
       → Joins {S = T} (OneChain key) id v other w (confirmed v w) (spent blank)
-  writer_confirms key blank id v other w is too = confirms key blank id v other w too (λ chain kept writer keeper p mine.
+  writer_confirms {key} blank {id} {v} {other} {w} is too = confirms key blank id v other w too (λ chain kept writer keeper p mine.
       let place = subst (λ r. HasRole chain kept writer keeper id r v.list) is mine.0 in
       (subst (IsPrefix kept) (sym place.1) p, subst (λ r. HasBase key r v.base) is mine.1))
 
-  pub keeper_confirms : (key blank : S) (id : ℕ) (v : View E S) (other : ℕ) (w : View E S) → v.role ≡ Keeper → w.role ≡ Pass → Joins {S = T} (OneChain key) id v other w (confirmed v w) (spent blank)
-  keeper_confirms key blank id v other w is too = confirms key blank id v other w too (λ chain kept writer keeper p mine.
+  pub keeper_confirms : {key : S} (blank : S) {id : ℕ} {v : View E S} {other : ℕ} {w : View E S} → v.role ≡ Keeper → w.role ≡ Pass → Joins {S = T} (OneChain key) id v other w (confirmed v w) (spent blank)
+  keeper_confirms {key} blank {id} {v} {other} {w} is too = confirms key blank id v other w too (λ chain kept writer keeper p mine.
       let place = subst (λ r. HasRole chain kept writer keeper id r v.list) is mine.0 in
       (subst (IsPrefix kept) (sym place.1) (prefix_self kept), subst (λ r. HasBase key r v.base) is mine.1))
 
 module _ {E S : Type 0} where
   -- the writer, who knows the chain, adds an entry
-  pub appends : (key : S) (id slots : ℕ) (m : Me (Unit {0}) (View E S)) (named : Option E) (entry : E) → named ≡ Some entry → m.0.role ≡ Writer → length m.0.list < LONGEST_CHAIN
+  pub appends : {key : S} (id : ℕ) {slots : ℕ} {m : Me (Unit {0}) (View E S)} {named : Option E} {entry : E} → named ≡ Some entry → m.0.role ≡ Writer → length m.0.list < LONGEST_CHAIN
       → Allows (OneChain key) slots id m 0 (λ n. (n + 1) % 2 ^ 64) (IsAppended named (step slots 0 1 0 none) m)
-  appends key id slots m named entry is_named is room s h long at fits_word =
+  appends {key} id {slots} {m} {entry} is_named is room s h long at fits_word =
       let mine = h.each id m.0 at in
       let place = subst (λ r. HasRole h.chain h.kept h.writer h.keeper id r m.0.list) is mine.0 in
       let base = subst (λ r. HasBase key r m.0.base) is mine.1 in

@@ -27,7 +27,7 @@ five_parts first number middle code end l1 l2 l3 l4 l5 shown chosen e1 e2 e3 e4 
     ∙ append_assoc first shown (middle ++ (chosen ++ end)))
 
 -- parts that are added to a file, as one
-pub three_parts : (file a b c f1 f2 f3 : List ℕ) → f1 ≡ file ++ a → f2 ≡ f1 ++ b → f3 ≡ f2 ++ c → f3 ≡ file ++ (a ++ b ++ c)
-three_parts file a b c f1 f2 f3 e1 e2 e3 =
+pub three_parts : (file a b c : List ℕ) {f1 f2 f3 : List ℕ} → f1 ≡ file ++ a → f2 ≡ f1 ++ b → f3 ≡ f2 ++ c → f3 ≡ file ++ (a ++ b ++ c)
+three_parts file a b c e1 e2 e3 =
     e3 ∙ ap (λ t. t ++ c) (e2 ∙ ap (λ t. t ++ b) e1)
     ∙ ap (λ t. t ++ c) (append_assoc file a b) ∙ append_assoc file (a ++ b) c

@@ -19,9 +19,9 @@ two-signed Plus k s x old mid new h e = added-twice k old mid new s x h e
 two-signed Minus k s x old mid new h e = added-twice k new mid old x s e h
     ∙ (let sign : x + s + new ≡ s + x + new = omega arith in ap (λ y. y % k) sign)
 
-pub same-sign : (sign : Sign) (k more more' old old' new new' : ℕ) → more ≡ more' → old ≡ old' → new ≡ new' → IsSigned sign k more old new
+pub same-sign : (sign : Sign) (k : ℕ) {more more' old old' new new' : ℕ} → more ≡ more' → old ≡ old' → new ≡ new' → IsSigned sign k more old new
     → IsSigned sign k more' old' new'
-same-sign sign k more more' old old' new new' a b c h = rw (← a, ← b, ← c) h
+same-sign sign k a b c h = rw (← a, ← b, ← c) h
 
 -- a cell with another added, or taken out
 pub one-added : (k x old new : ℕ) → new ≡ (old + x) % k → IsSigned Plus k x old new
@@ -54,7 +54,7 @@ pub one-row : (sign : Sign) (k : ℕ) (f : ℕ → ℕ) (e x old mid new : ℕ) 
 one-row sign k f e x old mid new h n same =
     let s : ℕ = sum_by f (range_with_len 0 e) in
     let more : sum_by f (range_with_len 0 (e + 1)) ≡ s + f e = sum-more f 0 e ∙ (let z : 0 + e ≡ e = omega arith in ap (λ j. s + f j) z) in
-    same-sign sign k _ _ _ _ _ _ (ap (λ y. s + y) same ∙ sym more) refl refl (two-signed sign k s x old mid new h n)
+    same-sign sign k (ap (λ y. s + y) same ∙ sym more) refl refl (two-signed sign k s x old mid new h n)
 
 -- the sum of all rows, where the last is apart
 pub with-last : (k n : ℕ) (f g : ℕ → ℕ) (whole : ℕ) → 0 < n → ((e : ℕ) → e < n - 1 → g e ≡ f e)

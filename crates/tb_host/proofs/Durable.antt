@@ -58,14 +58,15 @@ is_durable never_fall setup base at here last file theirs stood ends stands =
 
 -- ---- what a session kept stays kept
 module _ {W D : Type 0} (disk : W → D) (content : D → Option (List ℕ)) (may_leave : D → List ℕ → Type 0) (moment : D → ℕ) (left_since : D → ℕ → List ℕ → Type 0)
-    (only : (d : D) (image : List ℕ) → left_since d (moment d) image → may_leave d image) (target : W → ℕ) (live : W → Bool) (faults : W → ℕ) where
-  pub stays_kept : StaysKept disk content may_leave moment left_since target live faults
+    (only : (d : D) (image : List ℕ) → left_since d (moment d) image → may_leave d image) (Continues : W → W → Type 0) (itself : (one : W) → Continues one one)
+    (further_on : (old mid new : W) → Continues old mid → Continues mid new → Continues old new) (live : W → Bool) (faults : W → ℕ) where
+  pub stays_kept : StaysKept disk content may_leave moment left_since Continues live faults
   stays_kept setup old new later batches further lives stands sessions =
       let at = disk old.ahead in
       let since : Since = record { moment = moment at; batches = batches } in
       let first : KeptState = record { state = old.state; batches = batches; further = further; faults = faults old.ahead; since = since } in
       let left = left_from_now (content at) (may_leave at) (moment at) (left_since at) (only at) batches further stands in
-      let (base, into, reaches) = visits target live faults (standing disk content may_leave moment left_since target live faults) setup old new later sessions in
+      let (base, into, reaches) = visits Continues itself further_on live faults (standing disk content may_leave moment left_since Continues live faults) setup old new later sessions in
       let (last, here, lead) = reaches first (record { same = refl; count = refl; lives = lives; stands = left }) in
       let watched = visits_since setup old.base first last later lead in record {
         last = last;

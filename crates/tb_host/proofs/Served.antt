@@ -1,5 +1,5 @@
 -- All ports of a server that keeps a journal, from the custodian's sessions to the end.
-use Rattle.std.proofs.Common.{◌≡◌, ◌∙◌, sym, ap, subst, refl, ℕ, zero, suc, ◌<◌, ◌≤◌, Bool, true, List, [], ◌∷◌, length, None, arith, inl}
+use Rattle.std.proofs.Common.{◌≡◌, ◌∙◌, sym, ap, subst, refl, ℕ, zero, suc, ◌<◌, ◌≤◌, Bool, true, List, [], ◌∷◌, length, None, arith, inl, inr, ⊎_elim}
 use Rattle.std.specs.Prelude.{Option, slice_index_or}
 use Rattle.tb_ahead.specs.Keepers.{IsAt, KeeperValue, KeepsTo, Reaches, at_start}
 use Rattle.tb_ahead.specs.Keeping.{KeptState}
@@ -7,6 +7,7 @@ use Rattle.tb_ahead.specs.Publishing.{StateValue, after_seeing, let_go}
 use Rattle.tb_ahead.specs.Puts.{FileStands, Since}
 use Rattle.tb_base.specs.declared.status.Status.{Status}
 use Rattle.tb_board.specs.Custodians.{CustodianValue}
+use Rattle.tb_disk.specs.Moments.{KeepsPast}
 use Rattle.tb_host.specs.Endings.{IsHostReported}
 use Rattle.tb_host.specs.Hosting.{HostsAll}
 use Rattle.tb_host.specs.Sessions.{AreHostedFrom, HostsFrom, IsHosted, IsLeftAt, at_session}
@@ -16,7 +17,8 @@ use Rattle.tb_journal_file.proofs.Putting.{left_from_now}
 use Rattle.tb_keep.specs.Chains.{IsOwnKeptStep, batches_of}
 use Rattle.tb_keep.specs.JournalRuns.{after_playing}
 use Rattle.tb_keep.specs.Publishers.{IsOwnStep, asks_to_publish}
-use Rattle.tb_keep.specs.Recoveries.{HasRecovered, JournalSeen}
+use Rattle.tb_keep.specs.Recoveries.{HasRecovered}
+use Rattle.tb_keep.specs.Seen.{JournalSeen}
 use Rattle.tb_lines.specs.Outputs.{Lead}
 use Rattle.tb_model.specs.Releases.{ReleaseValue}
 use Rattle.tb_model.specs.Setups.{SetupValue}
@@ -41,9 +43,9 @@ same_first [] d e some = absurd (omega arith)
 same_first (p ∷ ports) d e some = refl
 
 -- ---- the sessions of all ports, wherever the custodian stood
-module _ {W : Type 0} (target : W → ℕ) (live : W → Bool) (faults : W → ℕ) (standing : W → FileStands) (setup : SetupValue) (most : ℕ) (old new : KeeperValue W) (a e : List PortValue)
+module _ {W : Type 0} (Continues : W → W → Type 0) (itself : (one : W) → Continues one one) (further_on : (old mid new : W) → Continues old mid → Continues mid new → Continues old new) (live : W → Bool) (faults : W → ℕ) (standing : W → FileStands) (setup : SetupValue) (most : ℕ) (old new : KeeperValue W) (a e : List PortValue)
     (some : 0 < length a) (same : length e ≡ length a)
-    (first : (d : PortValue) → IsVisited (Lead (KeepsTo target live faults standing (IsOwnStep setup) asks_to_publish)) at_start most old new (slice_index_or a 0 d) (slice_index_or e 0 d))
+    (first : (d : PortValue) → IsVisited (Lead (KeepsTo Continues live faults standing (IsOwnStep setup) asks_to_publish)) at_start most old new (slice_index_or a 0 d) (slice_index_or e 0 d))
     (others : (i : ℕ) (d : PortValue) → 0 < i → i < length a → HasServed setup old.base most old.state.chain new.state.chain i (slice_index_or a i d) (slice_index_or e i d)) where
   other : (from last : KeptState) → from.state ≡ old.state → last.state ≡ new.state → (i : ℕ) (d : PortValue) → 0 < i → i < length a
       → IsHosted setup old.base most from last i (slice_index_or a i d) (slice_index_or e i d)
@@ -51,10 +53,10 @@ module _ {W : Type 0} (target : W → ℕ) (live : W → Bool) (faults : W → �
   other from last begins ends (suc i) d later lt =
       subst (λ (x : StateValue × StateValue). HasServed setup old.base most x.0.chain x.1.chain (suc i) (slice_index_or a (suc i) d) (slice_index_or e (suc i) d)) (λ j. (sym begins j, sym ends j)) (others (suc i) d later lt)
 
-  pub hosts_from : HostsFrom target live faults standing setup most old new a e
+  pub hosts_from : HostsFrom Continues live faults standing setup most old new a e
   hosts_from =
       let one = first_of a some in
-      let (base, into, reaches) = visited target live faults standing setup most old new (slice_index_or a 0 one) (slice_index_or e 0 one) (first one) in (
+      let (base, into, reaches) = visited Continues itself further_on live faults standing setup most old new (slice_index_or a 0 one) (slice_index_or e 0 one) (first one) in (
         base,
         into,
         λ from at.
@@ -87,7 +89,7 @@ module _ {D : Type 0} (content : D → Option (List ℕ)) (may_leave : D → Lis
     (λ first last. Each (IsHosted setup (base_of custodian) most first last) a e)) (out : Output) (ended : Status) (reported : IsHostReported later e (length state.chain) out ended) where
   pub hosted_from : (batches : List (List Edit)) → custodian.writer.list ≡ batches_of (base_of custodian) batches → EachStandsFor (may_leave old) batches None
       → AreHostedFrom (after_playing (base_of custodian) batches (moment old) (faults old)) setup (base_of custodian) most a e
-      (record { content = content old; content_after = content new; could_leave = may_leave old; may_leave = may_leave new; left_since = left_since new; faults = faults old; faults_after = faults new }) out ended
+      (record { content = content old; content_after = content new; moment = moment old; could_leave = may_leave old; may_leave = may_leave new; left_since = left_since new; faults = faults old; faults_after = faults new }) out ended
   hosted_from batches chain stands =
       let first = after_playing (base_of custodian) batches (moment old) (faults old) in
       let stood : first.state ≡ state_at custodian.writer [] = ap after_seeing (sym chain) in
@@ -129,6 +131,7 @@ module _ {D : Type 0} (content : D → Option (List ℕ)) (may_leave : D → Lis
   seen old after = record {
     content = content old;
     content_after = content after;
+    moment = moment old;
     could_leave = may_leave old;
     may_leave = may_leave after;
     left_since = left_since after;
@@ -144,8 +147,8 @@ module _ {D : Type 0} (content : D → Option (List ℕ)) (may_leave : D → Lis
         let chain = r.chain ∙ sym (ap (λ (b : ReleaseValue). batches_of b r.batches) r.start) in
         subst (λ (b : ReleaseValue). AreHostedFrom (after_playing b r.batches (moment now) (faults now)) setup b most a e (seen now new) out ended) r.start (served r.batches chain r.left)
 
-    pub hosts_all : faults before ≤ faults now → Each (λ _. IsLeft) a e → HostsAll setup base port most o e (seen before new) out ended
-    hosts_all since left =
+    pub hosts_all : faults before ≤ faults now → moment before ≤ moment now → KeepsPast moment left_since now new → Each (λ _. IsLeft) a e → HostsAll setup base port most o e (seen before new) out ended
+    hosts_all since began past left =
         let first = after_playing base r.batches (moment now) (faults now) in
         record {
           batches = r.batches;
@@ -153,6 +156,10 @@ module _ {D : Type 0} (content : D → Option (List ℕ)) (may_leave : D → Lis
           first_moment = moment now;
           first_faults = faults now;
           since = since;
+          until = record {
+            is_later = began;
+            each = λ file told image stop. ⊎_elim (λ was. inl (r.same.ever file told image was)) (λ later. inr later) (past.nothing_else (moment before) image began stop);
+          };
           hosted = record {
             last = hosted.last;
             sessions = each_then (GetsReady port) (IsHosted setup base most first hosted.last) (IsHosted setup base most first hosted.last) o a e ready hosted.sessions

@@ -22,9 +22,10 @@ use Rattle.tb_serve.specs.Serves.{IsVisited}
 use Rattle.tb_worker.specs.Visits.{AreVisits, IsVisit, Visit}
 use Rattle.tb_worker.proofs.Visiting.{replied}
 
-module _ {W : Type 0} (target : W → ℕ) (live : W → Bool) (faults : W → ℕ) (standing : W → FileStands) (setup : SetupValue) where
+module _ {W : Type 0} (Continues : W → W → Type 0) (itself : (one : W) → Continues one one) (further_on : (old mid new : W) → Continues old mid → Continues mid new → Continues old new)
+    (live : W → Bool) (faults : W → ℕ) (standing : W → FileStands) (setup : SetupValue) where
   abbrev Legal : KeeperValue W → List (List ℕ) → List ReplyValue → KeeperValue W → Type 0
-  Legal = Lead (KeepsTo target live faults standing (IsOwnStep setup) asks_to_publish)
+  Legal = Lead (KeepsTo Continues live faults standing (IsOwnStep setup) asks_to_publish)
 
   abbrev Kept : ReleaseValue → KeptState → List (List ℕ) → List ReplyValue → KeptState → Type 0
   Kept base = Lead (IsOwnKeptStep setup base)
@@ -34,10 +35,11 @@ module _ {W : Type 0} (target : W → ℕ) (live : W → Bool) (faults : W → �
 
   -- from wherever it stood
   abbrev Says : KeeperValue W → KeeperValue W → (KeptState → KeptState → Type 0) → Type 0
-  Says old new P = (new.base ≡ old.base) × (target new.ahead ≡ target old.ahead) × Reaches (Here old) (Here new) P
+  Says old new P = (new.base ≡ old.base) × Continues old.ahead new.ahead × Reaches (Here old) (Here new) P
 
   lines : (old : KeeperValue W) (ls : List (List ℕ)) (rs : List ReplyValue) (new : KeeperValue W) → Legal old ls rs new → Says old new (λ first last. Kept old.base first ls rs last)
-  lines old ls rs new h = lines_kept (λ (k : KeeperValue W). k.base) (λ (k : KeeperValue W). target k.ahead) Here (λ base. IsOwnKeptStep setup base) old ls rs new h
+  lines old ls rs new h = lines_kept (λ (k : KeeperValue W). k.base) (λ (a b : KeeperValue W). Continues a.ahead b.ahead)
+      (λ (k : KeeperValue W). itself k.ahead) (λ (a b c : KeeperValue W). further_on a.ahead b.ahead c.ahead) Here (λ base. IsOwnKeptStep setup base) old ls rs new h
 
   session : (end : SessionEnd) (left now before after : Option (List ℕ)) (old new : KeeperValue W) → IsSession Legal end left now old new before after
       → Says old new (λ first last. IsSession (Kept old.base) end left now first last before after)
@@ -105,12 +107,12 @@ module _ {W : Type 0} (target : W → ℕ) (live : W → Bool) (faults : W → �
       )
 
   pub visits : (old new : KeeperValue W) (vs : List Visit) → AreVisits Legal at_start old vs new → Says old new (λ first last. AreVisits (Kept old.base) at_session first vs last)
-  visits old new [] h = subst (λ (k : KeeperValue W). Says old k (λ first last. AreVisits (Kept old.base) at_session first [] last)) (sym h) (refl, refl, λ first at. (first, at, refl))
+  visits old new [] h = subst (λ (k : KeeperValue W). Says old k (λ first last. AreVisits (Kept old.base) at_session first [] last)) (sym h) (refl, itself old.ahead, λ first at. (first, at, refl))
   visits old new (v ∷ vs) (next, one, others) =
       let (base, into, reaches) = visit old next v one in
       let (further, still, rest) = visits next new vs others in (
         further ∙ base,
-        still ∙ into,
+        further_on old.ahead next.ahead new.ahead into still,
         λ first at.
             let (middle, there, is) = reaches first at in
             let (last, end, more) = rest middle there in

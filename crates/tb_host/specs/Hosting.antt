@@ -6,7 +6,7 @@ use Rattle.tb_disk.specs.Images.{WhereTold}
 use Rattle.tb_io.specs.Faults.{HasRisen}
 use Rattle.tb_journal_file.specs.Files.{EachStandsFor}
 use Rattle.tb_keep.specs.JournalRuns.{AreRecovered, IsJournalFault, after_playing}
-use Rattle.tb_keep.specs.Recoveries.{IsAsItWas, JournalSeen, StandsAsBefore}
+use Rattle.tb_keep.specs.Seen.{IsAsItWas, JournalSeen, StandsAsBefore, StandsAsBeforeUntil}
 use Rattle.tb_keep.specs.declared.recovery.JournalFault.{JournalFault}
 use Rattle.tb_model.specs.Releases.{ReleaseValue}
 use Rattle.tb_model.specs.Setups.{SetupValue}
@@ -22,9 +22,11 @@ pub record IsRecovered (setup : SetupValue) (base : ReleaseValue) (saw : Journal
   pub batches : List (List Edit)
   pub all : AreRecovered setup base saw.content batches
   pub left : EachStandsFor saw.may_leave batches None
+  pub ever : StandsAsBefore saw
 
--- the batches of the journal's file were published, at a moment before the first bind; then all
--- listeners were bound, and their ports were served from there with a live journal
+-- The batches of the journal's file were published, at a moment before the first bind; until then
+-- each stop left a file that stands as one that a stop at the beginning could leave. Then all
+-- listeners were bound, and their ports were served from there with a live journal.
 pub record HostsAll (setup : SetupValue) (base : ReleaseValue) (first most : ℕ)
     (before after : List PortValue) (saw : JournalSeen) (out : Output) (ended : Status)
     : Type 0 where
@@ -33,6 +35,7 @@ pub record HostsAll (setup : SetupValue) (base : ReleaseValue) (first most : ℕ
   pub first_moment : ℕ
   pub first_faults : ℕ
   pub since : saw.faults ≤ first_faults
+  pub until : StandsAsBeforeUntil first_moment saw
   pub hosted : AreHostedFrom (after_playing base batches first_moment first_faults) setup base most
       before after saw out ended
   pub bound : Each (λ i _. IsLeftAt first i) before after

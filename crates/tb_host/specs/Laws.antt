@@ -49,7 +49,7 @@ IsDurable =
 -- ---- a custodian, and the disk that its batches are written ahead on, by its ghost members
 module _ {W D : Type 0} (disk : W → D) (content : D → Option (List ℕ))
     (may_leave : D → List ℕ → Type 0) (moment : D → ℕ) (left_since : D → ℕ → List ℕ → Type 0)
-    (target : W → ℕ) (live : W → Bool) (faults : W → ℕ) where
+    (Continues : W → W → Type 0) (live : W → Bool) (faults : W → ℕ) where
   -- what the file stands for, now and since some moment
   abbrev pub standing : W → FileStands
   standing ahead = AreLeft (content (disk ahead)) (may_leave (disk ahead)) (moment (disk ahead))
@@ -57,7 +57,7 @@ module _ {W D : Type 0} (disk : W → D) (content : D → Option (List ℕ))
 
   -- sessions led a custodian from one place to another
   abbrev pub AreSessions : SetupValue → KeeperValue W → List Visit → KeeperValue W → Type 0
-  AreSessions setup = AreVisits (Lead (KeepsTo target live faults standing (IsOwnStep setup)
+  AreSessions setup = AreVisits (Lead (KeepsTo Continues live faults standing (IsOwnStep setup)
       asks_to_publish)) at_start
 
   -- each file that a stop since the first place may have left stands for a beginning of the

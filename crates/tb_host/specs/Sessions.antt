@@ -10,7 +10,7 @@ use Rattle.tb_disk.specs.Images.{WhereTold}
 use Rattle.tb_journal_file.specs.Files.{EachStandsBetween, EachStandsFor, all_of}
 use Rattle.tb_keep.specs.Chains.{IsOwnKeptStep, IsTheirs}
 use Rattle.tb_keep.specs.KeptRuns.{StandsAt}
-use Rattle.tb_keep.specs.Recoveries.{JournalSeen}
+use Rattle.tb_keep.specs.Seen.{JournalSeen}
 use Rattle.tb_lines.specs.Outputs.{Lead}
 use Rattle.tb_model.specs.Releases.{ReleaseValue}
 use Rattle.tb_model.specs.Setups.{SetupValue}
@@ -33,15 +33,15 @@ IsHosted setup base most first last zero before after =
 IsHosted setup base most first last (suc i) before after =
     HasServed setup base most first.state.chain last.state.chain (suc i) before after
 
--- of what batches are written ahead into it is told what that writes into, whether it is live, the
--- disk's count of faults, and what the file stands for after a stop: wherever a custodian stood, the
+-- of what batches are written ahead into it is told what all calls keep of it, whether it is live,
+-- the disk's count of faults, and what the file stands for after a stop: wherever a custodian stood, the
 -- sessions of all ports led it to where it stands then, over one release 0
-abbrev pub HostsFrom : {W : Type 0} → (target : W → ℕ) → (live : W → Bool) → (faults : W → ℕ)
+abbrev pub HostsFrom : {W : Type 0} → (Continues : W → W → Type 0) → (live : W → Bool) → (faults : W → ℕ)
     → (standing : W → FileStands) → SetupValue → ℕ → (old new : KeeperValue W)
     → (before after : List PortValue) → Type 0
-HostsFrom target live faults standing setup most old new before after =
+HostsFrom Continues live faults standing setup most old new before after =
     (new.base ≡ old.base)
-    × (target new.ahead ≡ target old.ahead)
+    × Continues old.ahead new.ahead
     × Reaches (StandsAt live faults standing old) (StandsAt live faults standing new)
     (λ first last. Each (IsHosted setup old.base most first last) before after)
 

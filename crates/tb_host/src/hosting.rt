@@ -2,6 +2,7 @@
 
 ghost use Rattle.std.specs.Prelude.{◌≡◌, ◌≤◌, ◌<◌, ◌+◌, ◌^◌, All, List, None, [], drop, length};
 ghost use Rattle.std.specs.Prelude.{take, true};
+ghost use Rattle.tb_disk.specs.Moments.{KeepsPast};
 ghost use Rattle.tb_host.specs.Hosting.{Hosts};
 ghost use Rattle.tb_host.specs.Sessions.{AreHostedFrom, HostsFrom};
 ghost use Rattle.tb_journal_file.specs.Files.{CanPut, EachStandsFor};
@@ -54,7 +55,7 @@ fn serve_kept<
     ensures puts { W.IsReady result.keeper.ahead }
     ensures left { Each (λ _. IsLeft) ports.old ports.new }
     // Wherever the custodian stood, the file stands for what the sessions lead to.
-    ensures hosts { HostsFrom W.target W.live W.faults W.StandsFor setting.now.setup.now sessions
+    ensures hosts { HostsFrom W.Continues W.live W.faults W.StandsFor setting.now.setup.now sessions
         (keeper_of (party.Custodian custodian []) ahead)
         (keeper_of result.keeper.party.custody.party result.keeper.ahead) ports.old ports.new }
 {
@@ -105,6 +106,7 @@ fn serve_ready<
     requires few { length ports.old < 2 ^ 32 }
     requires can { All IsReady ports.old }
     ensures attached { D.attached disk.new ≡ true }
+    ensures past { KeepsPast D.moment D.left_since disk.old disk.new }
     ensures left { Each (λ _. IsLeft) ports.old ports.new }
     // Whatever batches it has published, for which each file stands that a stop may leave.
     ensures served { (batches : List (List Edit))
@@ -115,6 +117,7 @@ fn serve_ready<
         setting.now.setup.now custodian.writer.start.base sessions ports.old ports.new (record {
           content = D.content disk.old;
           content_after = D.content disk.new;
+          moment = D.moment disk.old;
           could_leave = D.may_leave disk.old;
           may_leave = D.may_leave disk.new;
           left_since = D.left_since disk.new;
@@ -168,10 +171,12 @@ fn serve_ports<
     requires fresh { All IsFresh ports.old }
     ensures attached { D.attached disk.new ≡ true }
     ensures count { D.faults disk.old ≤ D.faults disk.new }
+    ensures past { KeepsPast D.moment D.left_since disk.old disk.new }
     ensures hosts { Hosts setting.now.setup.now custodian.writer.start.base first sessions
         ports.old ports.new (record {
           content = D.content disk.old;
           content_after = D.content disk.new;
+          moment = D.moment disk.old;
           could_leave = D.may_leave disk.old;
           may_leave = D.may_leave disk.new;
           left_since = D.left_since disk.new;
@@ -233,10 +238,12 @@ pub fn serve_with_journal<
     requires fresh { All IsFresh net.old }
     ensures attached { D.attached disk.new ≡ true }
     ensures count { D.faults disk.old ≤ D.faults disk.new }
+    ensures past { KeepsPast D.moment D.left_since disk.old disk.new }
     ensures hosts { Hosts setting.now.setup.now custodian.writer.start.base first sessions
         (take (workers + 1) net.old) (take (workers + 1) net.new) (record {
           content = D.content disk.old;
           content_after = D.content disk.new;
+          moment = D.moment disk.old;
           could_leave = D.may_leave disk.old;
           may_leave = D.may_leave disk.new;
           left_since = D.left_since disk.new;

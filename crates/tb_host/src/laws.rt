@@ -3,6 +3,7 @@
 ghost use Rattle.std.specs.Prelude.{Bool, ℕ};
 ghost use Rattle.tb_host.specs.Laws.{IsDurable, StaysKept};
 
+use tb_ahead::WriteAhead;
 use tb_disk::Disk;
 use tb_session::laws::numbers_never_fall;
 
@@ -20,7 +21,7 @@ pub fn what_is_seen_is_durable()
 /// have left stands for a list of batches that begins with those for which the files stood then,
 /// and is a beginning of those for which they stand now. What batches are written ahead into has
 /// a disk, and is told by it.
-pub fn what_is_kept_stays<W, D: Disk>()
-    ensures { (disk : W → D) (target : W → ℕ) (live : W → Bool) (faults : W → ℕ)
-        → StaysKept disk D.content D.may_leave D.moment D.left_since target live faults }
+pub fn what_is_kept_stays<W: WriteAhead, D: Disk>()
+    ensures { (disk : W → D) (live : W → Bool) (faults : W → ℕ)
+        → StaysKept disk D.content D.may_leave D.moment D.left_since W.Continues live faults }
 {}

@@ -8,6 +8,7 @@ use Rattle.tb_disk.specs.Images.{Fewer, Only, Torn, WhereTold}
 use Rattle.tb_disk.specs.Moments.{LeavesOnly}
 use Rattle.tb_disk.specs.Quiet.{IsQuiet}
 use Rattle.tb_disk.proofs.Going.{joins, weaker}
+use Rattle.tb_disk.proofs.Past.{past-then}
 use Rattle.tb_disk.proofs.Telling.{Leads-first}
 use Rattle.tb_journal.specs.declared.opening.JournalOpen.{JournalOpen}
 use Rattle.tb_journal.specs.declared.opening.JournalOpen.TheVariants.{DiskFault}
@@ -113,6 +114,7 @@ module _ {D : Type 0} (content : D → Option (List ℕ)) (may_leave : D → Lis
     any_moment = λ file told.
         joins moment left_since old mid new (StandsAsOne (may_leave old)) (stop-quiet old mid quiet file told)
         (weaker moment left_since mid new (StandsAsOne (may_leave mid)) (StandsAsOne (may_leave old)) (rest.any_moment file (quiet.same ∙ told)) (as-one-fewer (may_leave old) (may_leave mid) quiet.stop));
+    past = past-then moment left_since old mid new quiet.past rest.past;
   }
 
   -- such calls, of which the last failed
@@ -124,4 +126,5 @@ module _ {D : Type 0} (content : D → Option (List ℕ)) (may_leave : D → Lis
     untouched = λ is. absurd (cc (is, failed));
     durable = λ is file told. absurd (cc (is, failed));
     any_moment = stop-quiet old new quiet;
+    past = quiet.past;
   }

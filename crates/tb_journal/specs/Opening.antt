@@ -1,7 +1,7 @@
 -- What the opening of a journal finds, and what it leaves.
 use Rattle.std.specs.Prelude.{◌≡◌, ◌≢◌, ◌≤◌, ◌<◌, ◌^◌, ◌⊎◌, ℕ, List, [], ◌∷◌, ◌++◌, length, take, nat_le, if◌then◌else◌, Option}
 use Rattle.tb_disk.specs.Images.{Leads, Only, WhereTold}
-use Rattle.tb_disk.specs.Moments.{LeavesOnly}
+use Rattle.tb_disk.specs.Moments.{KeepsPast, LeavesOnly}
 use Rattle.tb_journal.specs.declared.opening.JournalOpen.{JournalOpen}
 use Rattle.tb_journal.specs.declared.opening.JournalOpen.TheVariants.{Open, NotJournal}
 use Rattle.tb_journal.specs.Records.{payloads_before, stands_for}
@@ -63,3 +63,4 @@ pub record Begins {D : Type 0} (content : D → Option (List ℕ))
   pub durable : result ≡ NotJournal → WhereTold (content old) (λ file. Only file (may_leave new))
   pub any_moment : WhereTold (content old)
       (λ _. LeavesOnly moment left_since old new (StandsAsOne (may_leave old)))
+  pub past : KeepsPast moment left_since old new

@@ -2,7 +2,7 @@ ghost use Rattle.std.specs.Prelude.{◌≡◌, ◌≤◌, ◌<◌, ◌^◌, ◌+
 ghost use Rattle.std.specs.Prelude.{is_none, length, IfOk, IfSome, IsSome, ◌↔◌};
 ghost use Rattle.tb_io.specs.Faults.{HasRisen};
 ghost use Rattle.tb_disk.specs.Images.{Leads, Only, WhereTold};
-ghost use Rattle.tb_disk.specs.Moments.{LeavesOnly};
+ghost use Rattle.tb_disk.specs.Moments.{KeepsPast, LeavesOnly};
 ghost use Rattle.tb_disk.specs.Quiet.{IsQuiet};
 ghost use Rattle.tb_spelling.specs.Payloads.{CanBeSpelled};
 ghost use Rattle.tb_spelling.specs.Spelling.{spelled};
@@ -79,6 +79,7 @@ impl Journal {
             WhereTold (D.content disk.old) (λ file. Only file (D.may_leave disk.new)) }
         ensures any_moment { WhereTold (D.content disk.old) (λ _. LeavesOnly D.moment D.left_since
             disk.old disk.new (StandsAsOne (D.may_leave disk.old))) }
+        ensures past { KeepsPast D.moment D.left_since disk.old disk.new }
         ensures count { D.faults disk.old ≤ D.faults disk.new }
         ensures failed { result.0 ≡ opening.DiskFault →
             HasRisen (D.faults disk.old) (D.faults disk.new) }
@@ -193,6 +194,7 @@ impl Journal {
         ensures any_moment { WhereTold (D.content disk.old) (λ file.
             LeavesOnly D.moment D.left_since disk.old disk.new
             (EndsWithOrWithout file (spelled edits.now))) }
+        ensures past { KeepsPast D.moment D.left_since disk.old disk.new }
         ensures state { result ≡ put.Kept → self.new ≡ record self.old {
           place = place_after self.old.place (length (spelled edits.now));
         } }
@@ -225,6 +227,7 @@ impl Journal {
         ensures any_moment { WhereTold (D.content disk.old) (λ file.
             LeavesOnly D.moment D.left_since disk.old disk.new
             (EndsWithOrWithout file (payload_behind behind.now))) }
+        ensures past { KeepsPast D.moment D.left_since disk.old disk.new }
         ensures state { result ≡ put.Kept → self.new ≡ record self.old {
           place = place_after self.old.place (length (payload_behind behind.now));
         } }

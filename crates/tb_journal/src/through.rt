@@ -3,7 +3,7 @@
 ghost use Rattle.std.specs.Prelude.{◌≡◌, ◌≤◌, ◌<◌, ◌^◌, ◌+◌, true, ℕ, List, is_none, length};
 ghost use Rattle.tb_io.specs.Faults.{HasRisen};
 ghost use Rattle.tb_disk.specs.Images.{Leads, Only, Torn, WhereTold};
-ghost use Rattle.tb_disk.specs.Moments.{LeavesOnly};
+ghost use Rattle.tb_disk.specs.Moments.{KeepsPast, LeavesOnly};
 ghost use Rattle.tb_disk.specs.declared.disk.Done.TheVariants as done;
 ghost use Rattle.tb_journal.specs.Records.{HasLength, behind_of, payload_behind};
 ghost use Rattle.tb_journal.specs.Stops.{EndsWithOrWithout};
@@ -22,6 +22,7 @@ pub(crate) fn write_through<D: Disk>(disk: &mut D, at: u64, bytes: &[u8]) -> Don
         (IsThrough (D.may_leave disk.new) at bytes.now) }
     ensures any_moment { WhereTold (D.content disk.old) (λ file.
         LeavesOnly D.moment D.left_since disk.old disk.new (Torn at (length bytes.now) file)) }
+    ensures past { KeepsPast D.moment D.left_since disk.old disk.new }
     ensures count { D.faults disk.old ≤ D.faults disk.new }
     ensures failed { result ≡ done.Failed → HasRisen (D.faults disk.old) (D.faults disk.new) }
 {
@@ -45,6 +46,7 @@ pub(crate) fn write_record<D: Disk>(disk: &mut D, place: u64, behind: &[u8]) -> 
         (IsPut (D.may_leave disk.new) place (payload_behind behind.now)) }
     ensures any_moment { WhereTold (D.content disk.old) (λ file. LeavesOnly D.moment D.left_since
         disk.old disk.new (EndsWithOrWithout file (payload_behind behind.now))) }
+    ensures past { KeepsPast D.moment D.left_since disk.old disk.new }
     ensures count { D.faults disk.old ≤ D.faults disk.new }
     ensures failed { result ≡ done.Failed → HasRisen (D.faults disk.old) (D.faults disk.new) }
 {

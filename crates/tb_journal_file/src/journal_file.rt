@@ -1,7 +1,7 @@
 ghost use Rattle.std.specs.Prelude.{◌≡◌, ◌≤◌, ◌<◌, ◌^◌, ◌-◌, ◌↔◌, true, List, ℕ, []};
 ghost use Rattle.std.specs.Prelude.{IfSome, IsSome, length};
 ghost use Rattle.tb_disk.specs.Images.{Leads, Only, WhereTold};
-ghost use Rattle.tb_disk.specs.Moments.{LeavesOnly};
+ghost use Rattle.tb_disk.specs.Moments.{KeepsPast, LeavesOnly};
 ghost use Rattle.tb_disk.specs.Quiet.{IsQuiet};
 ghost use Rattle.tb_io.specs.Faults.{HasRisen};
 ghost use Rattle.tb_journal.specs.Opening.{IsForeign, IsOpened, IsOurs, StandsAsOne};
@@ -52,6 +52,7 @@ impl<'d, D: Disk> JournalFile<'d, D> {
             WhereTold (D.content disk.old) (λ file. Only file (D.may_leave disk.new)) }
         ensures any_moment { WhereTold (D.content disk.old) (λ _. LeavesOnly D.moment D.left_since
             disk.old disk.new (StandsAsOne (D.may_leave disk.old))) }
+        ensures past { KeepsPast D.moment D.left_since disk.old disk.new }
         ensures count { D.faults disk.old ≤ D.faults disk.new }
         ensures failed { result.0 ≡ opening.DiskFault →
             HasRisen (D.faults disk.old) (D.faults disk.new) }
@@ -93,10 +94,12 @@ impl<'d, D: Disk> JournalFile<'d, D> {
 }
 
 impl<'d, D: Disk> WriteAhead for JournalFile<'d, D> {
+    ghost use Rattle.std.proofs.Common.{◌∙◌, inr, refl};
+    ghost use Rattle.tb_disk.proofs.Past.{past-none, past-then};
     ghost use Rattle.tb_journal_file.specs.Files.{AreLeft, CanPut};
-    ghost use Rattle.std.proofs.Common.{inr};
 
-    ghost target = { λ f. f.disk.ghost_name };
+    ghost Continues = { λ old new. (new.disk.ghost_name ≡ old.disk.ghost_name)
+        × KeepsPast D.moment D.left_since old.disk.now new.disk.now };
 
     ghost faults = { λ f. D.faults f.disk.now };
 
@@ -123,6 +126,16 @@ impl<'d, D: Disk> WriteAhead for JournalFile<'d, D> {
     fn close(&mut self) {
         self.journal.close();
     }
+
+    ghost continues_itself = { λ f. (
+      refl,
+      past-none D.may_leave D.moment D.left_since D.counts_now f.disk.now (D.only_now f.disk.now),
+    ) };
+
+    ghost continues_on = { λ old mid new first second. (
+      second.0 ∙ first.0,
+      past-then D.moment D.left_since old.disk.now mid.disk.now new.disk.now first.1 second.1,
+    ) };
 
     ghost further = { λ f since batches last is. record {
       now = λ image left. inr (is.now image left);

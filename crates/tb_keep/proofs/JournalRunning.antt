@@ -1,5 +1,5 @@
 -- A journal that was opened and played, and the lines that are answered then.
-use Rattle.std.proofs.Common.{◌≡◌, ◌≤◌, ◌+◌, ◌∙◌, sym, ap, refl, subst, ℕ, Bool, true, false, List, [], ◌++◌, length, drop, Option, None, Some, arith}
+use Rattle.std.proofs.Common.{◌≡◌, ◌≤◌, ◌+◌, ◌∙◌, sym, ap, refl, subst, ℕ, Bool, true, false, List, [], ◌++◌, length, drop, Option, None, Some, inl, inr, ⊎_elim, arith}
 use Rattle.std.specs.Prelude.{is_none}
 use Rattle.tb_ahead.specs.Keepers.{IsAt, Reaches}
 use Rattle.tb_ahead.specs.Keeping.{KeptState}
@@ -9,13 +9,13 @@ use Rattle.tb_board.specs.Custodians.{CustodianValue}
 use Rattle.tb_board.specs.Holders.{release_seen}
 use Rattle.tb_board.specs.Starts.{StartValue}
 use Rattle.tb_disk.specs.Images.{Leads, Only, WhereTold}
-use Rattle.tb_disk.specs.Moments.{LeavesOnly}
+use Rattle.tb_disk.specs.Moments.{KeepsPast, LeavesOnly}
 use Rattle.tb_disk.proofs.Telling.{forward, told-of}
 use Rattle.tb_journal.specs.Opening.{IsForeign, IsOpened, IsOurs, StandsAsOne, opened_file}
 use Rattle.tb_journal.specs.Reading.{IsBad}
 use Rattle.tb_journal.specs.States.{JournalState}
 use Rattle.tb_journal.specs.Stops.{IsOn}
-use Rattle.tb_journal.proofs.Beginning.{as-one-opened, opened-long}
+use Rattle.tb_journal.proofs.Beginning.{opened-long}
 use Rattle.tb_journal.proofs.Keeping.{ends-on}
 use Rattle.tb_journal_file.specs.Files.{AreLeft, AreLeftSince, EachStandsBetween, EachStandsFor, IsFileOf, all_of}
 use Rattle.tb_journal_file.proofs.Putting.{left_from_now}
@@ -33,9 +33,10 @@ use Rattle.tb_session.specs.Parties.{seen_by, state_of}
 use Rattle.tb_session.specs.declared.party.Party.{Party}
 use Rattle.tb_session.specs.declared.party.Party.TheVariants as party
 use Rattle.tb_keep.specs.Chains.{batches_of}
-use Rattle.tb_keep.specs.JournalRuns.{AreKeptFrom, AreRecovered, ComesAfter, IsJournalFault, IsJournalRun, IsLeftAsItWas, JournalRun, after_playing}
+use Rattle.tb_keep.specs.JournalRuns.{AreKeptFrom, AreRecovered, ComesAfter, IsJournalFault, IsJournalRun, JournalRun, after_playing, seen_of}
 use Rattle.tb_keep.specs.KeptRuns.{IsKeptRun}
-use Rattle.tb_keep.specs.Recoveries.{HasRecovered, JournalSeen}
+use Rattle.tb_keep.specs.Recoveries.{HasRecovered}
+use Rattle.tb_keep.specs.Seen.{IsAsItWas, JournalSeen, StandsAsBeforeUntil}
 use Rattle.tb_keep.specs.Playing.{ArePublished, CanAllFollow, DoesNotFollow, HasPlayed, IsNextRecord, LiesBehind}
 use Rattle.tb_keep.proofs.KeptRunning.{run_counts, run_since}
 use Rattle.tb_keep.specs.declared.recovery.JournalFault.TheVariants as journal_fault
@@ -59,22 +60,22 @@ left-opened before opened now leads same images journal on = λ file told.
 pub left-foreign : (content : Option (List ℕ)) (images : List ℕ → Type 0) → WhereTold content IsForeign → WhereTold content (λ file. Only file images) → WhereTold content (λ file. Only (opened_file file) images)
 left-foreign content images foreign durable = λ file told. subst (λ (f : List ℕ). Only f images) (sym (opened-long file (foreign file told).0)) (durable file told)
 
--- where the disk failed, in opening it and after
-module _ {D : Type 0} (content : D → Option (List ℕ)) (may_leave : D → List ℕ → Type 0) (old : D) where
-  abbrev IsAsBefore : D → Type 0
-  IsAsBefore new = WhereTold (content old) (λ _. (image : List ℕ) → may_leave new image → StandsAsOne (may_leave old) image)
+-- what stops since the beginning left, where the file was opened, and where it was then read
+module _ {D : Type 0} (content : D → Option (List ℕ)) (may_leave : D → List ℕ → Type 0) (moment : D → ℕ) (left_since : D → ℕ → List ℕ → Type 0) (old : D) where
+  abbrev AllStandAsBefore : D → Type 0
+  AllStandAsBefore new = WhereTold (content old) (λ _. (image : List ℕ) → left_since new (moment old) image → StandsAsOne (may_leave old) image)
 
-  pub failed-opening : (moment : D → ℕ) (left_since : D → ℕ → List ℕ → Type 0) (new : D) → ((t : ℕ) (image : List ℕ) → t ≤ moment new → may_leave new image → left_since new t image)
-      → WhereTold (content old) (λ _. LeavesOnly moment left_since old new (StandsAsOne (may_leave old))) → IsAsBefore new
-  failed-opening moment left_since new counts leaves = λ file told image left.
-      let stops = leaves file told in
-      stops.each image (counts (moment old) image stops.later left)
+  abbrev Opens : D → Type 0
+  Opens new = WhereTold (content old) (λ _. LeavesOnly moment left_since old new (StandsAsOne (may_leave old)))
 
-  pub failed-reading : ((file : List ℕ) → content old ≡ Some file → may_leave old file) → (opened new : D) → Leads (content old) (content opened) IsOpened → content new ≡ content opened
-      → (journal : JournalState) → WhereTold (content new) (λ file. IsOn file (may_leave new) journal) → IsAsBefore new
-  failed-reading reads opened new leads same journal on = λ file told image left.
-      let (next, there, is) = forward (content old) (content opened) IsOpened leads file told in
-      subst (StandsAsOne (may_leave old)) (sym ((on next (same ∙ there)).durable image left)) (as-one-opened (may_leave old) file next (reads file told) is)
+  pub stood-opening : (new : D) → Opens new → AllStandAsBefore new
+  stood-opening new leaves = λ file told. (leaves file told).each
+
+  pub stood-reading : (counts : (disk : D) (t : ℕ) (image : List ℕ) → t ≤ moment disk → may_leave disk image → left_since disk t image)
+      → (opened new : D) → Opens opened → LeavesOnly moment left_since opened new (may_leave opened) → AllStandAsBefore new
+  stood-reading counts opened new leaves quiet = λ file told image left.
+      let first = leaves file told in
+      ⊎_elim (first.each image) (λ now. first.each image (counts opened (moment old) image first.later now)) (quiet.before (moment old) image first.later left)
 
 -- ---- what was published of the file, by what it had before it was opened
 module _ (setup : SetupValue) (before opened : Option (List ℕ)) (leads : Leads before opened IsOpened) (first last : CustodianValue) (none : first.writer.list ≡ []) where
@@ -145,7 +146,7 @@ module _ {D : Type 0} (content : D → Option (List ℕ)) (may_leave : D → Lis
     (λ first last. IsKeptRun setup (seen_by one).start.base lines end (charged first before) (charged last after) a b)) where
   pub lines-kept : (batches : List (List Edit)) → custodian.writer.list ≡ batches_of (base_of custodian) batches → EachStandsFor (may_leave old) batches None
       → AreKeptFrom (after_playing (base_of custodian) batches (moment old) (faults old)) setup (base_of custodian) lines end
-      (record { content = had; content_after = content new; may_leave = may_leave new; left_since = left_since new; faults = faults old; faults_after = faults new; steps = before; steps_after = after; taken = a; taken_after = b })
+      (record { content = had; content_after = content new; moment = moment old; could_leave = may_leave old; may_leave = may_leave new; left_since = left_since new; faults = faults old; faults_after = faults new; steps = before; steps_after = after; taken = a; taken_after = b })
   lines-kept batches chain stands =
       let first = after_playing (base_of custodian) batches (moment old) (faults old) in
       let stood : first.state ≡ state_of one = ap after_seeing (sym chain) ∙ ap state_of (sym is) in
@@ -162,18 +163,20 @@ module _ {D : Type 0} (content : D → Option (List ℕ)) (may_leave : D → Lis
       }
 
 -- ---- the run, where all of the file's batches were published
-by-end : (setup : SetupValue) (base : ReleaseValue) (lines : List ScriptLine) (batches : List (List Edit)) (first_moment first_faults : ℕ) (saw : JournalRun) (end : RunEnd) → (end ≡ run_end.Memory → IsLeftAsItWas saw) → AreRecovered setup base saw.content batches → saw.faults ≤ first_faults
+by-end : (setup : SetupValue) (base : ReleaseValue) (lines : List ScriptLine) (batches : List (List Edit)) (first_moment first_faults : ℕ) (saw : JournalRun) (end : RunEnd) → (end ≡ run_end.Memory → IsAsItWas (seen_of saw)) → AreRecovered setup base saw.content batches → saw.faults ≤ first_faults
+    → StandsAsBeforeUntil first_moment (seen_of saw)
     → AreKeptFrom (after_playing base batches first_moment first_faults) setup base lines end saw → IsJournalRun setup base lines (keep_end.Ran end) saw
-by-end setup base lines batches first_moment first_faults saw run_end.Done left are since kept = record { batches = batches; recovered = are; first_moment = first_moment; first_faults = first_faults; since = since; kept = kept }
-by-end setup base lines batches first_moment first_faults saw run_end.WriteFault left are since kept = record { batches = batches; recovered = are; first_moment = first_moment; first_faults = first_faults; since = since; kept = kept }
-by-end setup base lines batches first_moment first_faults saw run_end.Memory left are since kept = ((kept.run.0, ap (λ (c : Charged KeptState). c.steps) kept.run.1), left refl)
+by-end setup base lines batches first_moment first_faults saw run_end.Done left are since until kept = record { batches = batches; recovered = are; first_moment = first_moment; first_faults = first_faults; since = since; until = until; kept = kept }
+by-end setup base lines batches first_moment first_faults saw run_end.WriteFault left are since until kept = record { batches = batches; recovered = are; first_moment = first_moment; first_faults = first_faults; since = since; until = until; kept = kept }
+by-end setup base lines batches first_moment first_faults saw run_end.Memory left are since until kept = ((kept.run.0, ap (λ (c : Charged KeptState). c.steps) kept.run.1), left refl)
 
 -- what is seen of a disk from one moment to another
-module _ {D : Type 0} (content : D → Option (List ℕ)) (may_leave : D → List ℕ → Type 0) (left_since : D → ℕ → List ℕ → Type 0) (faults : D → ℕ) where
+module _ {D : Type 0} (content : D → Option (List ℕ)) (may_leave : D → List ℕ → Type 0) (moment : D → ℕ) (left_since : D → ℕ → List ℕ → Type 0) (faults : D → ℕ) where
   abbrev pub seen : D → D → JournalSeen
   seen old new = record {
     content = content old;
     content_after = content new;
+    moment = moment old;
     could_leave = may_leave old;
     may_leave = may_leave new;
     left_since = left_since new;
@@ -184,7 +187,8 @@ module _ {D : Type 0} (content : D → Option (List ℕ)) (may_leave : D → Lis
   -- a custodian that published all
   module _ (setup : SetupValue) (first last : CustodianValue) (none : first.writer.list ≡ []) (before opened played_by : D) (leads : Leads (content before) (content opened) IsOpened) (ours : WhereTold (content before) IsOurs)
       (h : HasPlayed setup (content opened) first last played.All) (journal : JournalState) (same : content played_by ≡ content opened) (told : (image : List ℕ) → may_leave played_by image → is_none (content played_by) ≡ false)
-      (on : WhereTold (content played_by) (λ file. IsOn file (may_leave played_by) journal)) (ended : journal.at_end ≡ true) where
+      (on : WhereTold (content played_by) (λ file. IsOn file (may_leave played_by) journal)) (ended : journal.at_end ≡ true)
+      (stood : AllStandAsBefore content may_leave moment left_since before played_by) where
     pub all-recovered : HasRecovered setup (base_of first) (seen before played_by) last
     all-recovered = record {
       batches = h.batches;
@@ -192,19 +196,21 @@ module _ {D : Type 0} (content : D → Option (List ℕ)) (may_leave : D → Lis
       start = ap (λ (s : StartValue). s.base) h.published.start;
       chain = chain-is setup (content before) (content opened) leads first last none h;
       left = stands-for-all setup (content before) (content opened) leads first last none h ours (content played_by) (may_leave played_by) journal same on ended told;
-      same = left-opened (content before) (content opened) (content played_by) leads same (may_leave played_by) journal on;
+      same = record { now = left-opened (content before) (content opened) (content played_by) leads same (may_leave played_by) journal on; ever = stood };
     }
 
   -- and the lines that are answered from there
   module _ (setup : SetupValue) (base : ReleaseValue) (custodian : CustodianValue) (before played_by new : D) (r : HasRecovered setup base (seen before played_by) custodian)
-      (lines : List ScriptLine) (end : RunEnd) (untouched : end ≡ run_end.Memory → new ≡ played_by) (moment steps steps_after : ℕ) (taken taken_after : Option (List ℕ))
+      (lines : List ScriptLine) (end : RunEnd) (untouched : end ≡ run_end.Memory → new ≡ played_by) (steps steps_after : ℕ) (taken taken_after : Option (List ℕ))
       (runs : (batches : List (List Edit)) → custodian.writer.list ≡ batches_of (base_of custodian) batches → EachStandsFor (may_leave played_by) batches None
-      → AreKeptFrom (after_playing (base_of custodian) batches moment (faults played_by)) setup (base_of custodian) lines end
-      (record { content = content played_by; content_after = content new; may_leave = may_leave new; left_since = left_since new; faults = faults played_by; faults_after = faults new; steps = steps; steps_after = steps_after; taken = taken; taken_after = taken_after })) where
+      → AreKeptFrom (after_playing (base_of custodian) batches (moment played_by) (faults played_by)) setup (base_of custodian) lines end
+      (record { content = content played_by; content_after = content new; moment = moment played_by; could_leave = may_leave played_by; may_leave = may_leave new; left_since = left_since new; faults = faults played_by; faults_after = faults new; steps = steps; steps_after = steps_after; taken = taken; taken_after = taken_after })) where
     abbrev seen_since : D → JournalRun
     seen_since old = record {
       content = content old;
       content_after = content new;
+      moment = moment old;
+      could_leave = may_leave old;
       may_leave = may_leave new;
       left_since = left_since new;
       faults = faults old;
@@ -216,20 +222,27 @@ module _ {D : Type 0} (content : D → Option (List ℕ)) (may_leave : D → Lis
     }
 
     -- from where it stands that published them
-    kept : AreKeptFrom (after_playing base r.batches moment (faults played_by)) setup base lines end (seen_since played_by)
+    kept : AreKeptFrom (after_playing base r.batches (moment played_by) (faults played_by)) setup base lines end (seen_since played_by)
     kept =
         let chain = r.chain ∙ sym (ap (λ (b : ReleaseValue). batches_of b r.batches) r.start) in
-        subst (λ (b : ReleaseValue). AreKeptFrom (after_playing b r.batches moment (faults played_by)) setup b lines end (seen_since played_by)) r.start (runs r.batches chain r.left)
+        subst (λ (b : ReleaseValue). AreKeptFrom (after_playing b r.batches (moment played_by) (faults played_by)) setup b lines end (seen_since played_by)) r.start (runs r.batches chain r.left)
 
-    pub all-ran : faults before ≤ faults played_by → IsJournalRun setup base lines (keep_end.Ran end) (seen_since before)
-    all-ran since =
-        by-end setup base lines r.batches moment (faults played_by) (seen_since before) end
-        (λ is. subst (λ (d : D). WhereTold (content before) (λ file. Only (opened_file file) (may_leave d))) (sym (untouched is)) r.same)
+    pub all-ran : faults before ≤ faults played_by → moment before ≤ moment played_by → KeepsPast moment left_since played_by new → IsJournalRun setup base lines (keep_end.Ran end) (seen_since before)
+    all-ran since began past =
+        by-end setup base lines r.batches (moment played_by) (faults played_by) (seen_since before) end
+        (λ is. record {
+          now = subst (λ (d : D). WhereTold (content before) (λ file. Only (opened_file file) (may_leave d))) (sym (untouched is)) r.same.now;
+          ever = subst (λ (d : D). AllStandAsBefore content may_leave moment left_since before d) (sym (untouched is)) r.same.ever;
+        })
         r.recovered since
+        (record {
+          is_later = began;
+          each = λ file told image left. ⊎_elim (λ was. inl (r.same.ever file told image was)) (λ since. inr since) (past.nothing_else (moment before) image began left);
+        })
         (record { last = kept.last; run = kept.run; left = kept.left; ever = kept.ever; counted = kept.counted })
 
     -- the disk's count didn't fall
     pub all-counted : faults played_by ≤ faults new
     all-counted =
-        let counts = run_counts setup base (charged (after_playing base r.batches moment (faults played_by)) steps) (charged kept.last steps_after) lines end taken taken_after kept.run in
+        let counts = run_counts setup base (charged (after_playing base r.batches (moment played_by) (faults played_by)) steps) (charged kept.last steps_after) lines end taken taken_after kept.run in
         omega (arith, counts, kept.counted)

@@ -28,9 +28,10 @@ pub none_held : {W : Type 0} (one : Party) (ahead : W) → held_by one ≡ [] �
 none_held {W = W} one ahead none =
     ap (λ (held : List Edit). keeper (seen_by one).start.base (state_at (seen_by one) held) ahead) (sym none)
 
-module _ {W : Type 0} (target : W → ℕ) (live : W → Bool) (faults : W → ℕ) (standing : W → FileStands) (setup : SetupValue) where
+module _ {W : Type 0} (Continues : W → W → Type 0) (itself : (w : W) → Continues w w) (further_on : (old mid new : W) → Continues old mid → Continues mid new → Continues old new)
+    (live : W → Bool) (faults : W → ℕ) (standing : W → FileStands) (setup : SetupValue) where
   abbrev Step : KeeperValue W → List ℕ → ReplyValue → KeeperValue W → Type 0
-  Step = KeepsTo target live faults standing (IsOwnStep setup) asks_to_publish
+  Step = KeepsTo Continues live faults standing (IsOwnStep setup) asks_to_publish
 
   abbrev base_of : KeeperValue W → ReleaseValue
   base_of one = one.base
@@ -43,11 +44,11 @@ module _ {W : Type 0} (target : W → ℕ) (live : W → Bool) (faults : W → �
 
   -- one line of a lane
   one_line : (who : Role) (old new : KeeperValue W) (line : List ℕ) (reply : ReplyValue) → IsOwnedStep setup base_of chain_of Step who old line reply new
-      → (new.base ≡ old.base) × (target new.ahead ≡ target old.ahead) × Reaches (Here old) (Here new) (λ first last. IsKeptStepOf who setup old.base first line reply last)
+      → (new.base ≡ old.base) × Continues old.ahead new.ahead × Reaches (Here old) (Here new) (λ first last. IsKeptStepOf who setup old.base first line reply last)
   one_line role.Custodian old new line reply leads = leads
   one_line role.Analyst old new line reply (same, is) = (
     ap base_of same,
-    ap (λ (one : KeeperValue W). target one.ahead) same,
+    subst (λ (one : KeeperValue W). Continues old.ahead one.ahead) (sym same) (itself old.ahead),
     λ first here. (
       first,
       subst (λ (one : KeeperValue W). Here one first) (sym same) here,
@@ -57,11 +58,11 @@ module _ {W : Type 0} (target : W → ℕ) (live : W → Bool) (faults : W → �
 
   -- all lines
   all_lines : (p : Charged (KeeperValue W)) (lines : List ScriptLine) (replies : List ReplyValue) (q : Charged (KeeperValue W)) → Lead (AtPrice (IsOwnedReply setup base_of chain_of Step)) p lines replies q
-      → (q.at.base ≡ p.at.base) × (target q.at.ahead ≡ target p.at.ahead)
+      → (q.at.base ≡ p.at.base) × Continues p.at.ahead q.at.ahead
       × Reaches (Here p.at) (Here q.at) (λ first last. Lead (AtPrice (IsKeptReply setup p.at.base)) (charged first p.steps) lines replies (charged last q.steps))
   all_lines p [] [] q e = (
     ap (λ (c : Charged (KeeperValue W)). c.at.base) e,
-    ap (λ (c : Charged (KeeperValue W)). target c.at.ahead) e,
+    subst (λ (c : Charged (KeeperValue W)). Continues p.at.ahead c.at.ahead) (sym e) (itself p.at.ahead),
     λ first here. (first, subst (λ (c : Charged (KeeperValue W)). Here c.at first) (sym e) here, ap (λ (c : Charged (KeeperValue W)). charged first c.steps) e),
   )
   all_lines p [] (reply ∷ replies) q e = absurd e
@@ -70,7 +71,7 @@ module _ {W : Type 0} (target : W → ℕ) (live : W → Bool) (faults : W → �
       let (base, same, reach) = one_line (role_of_lane line.lane) p.at next.at line.line reply step in
       let (later, still, onward) = all_lines next lines replies q others in (
         later ∙ base,
-        still ∙ same,
+        further_on p.at.ahead next.at.ahead q.at.ahead same still,
         λ first here.
             let (mid, there, kept) = reach first here in
             let (last, at, lead) = onward mid there in (
@@ -89,7 +90,7 @@ module _ {W : Type 0} (target : W → ℕ) (live : W → Bool) (faults : W → �
     begun first here = subst (λ (one : KeeperValue W). Here one first) (sym none) here
 
     -- by how it ended
-    pub kept_run : (end : RunEnd) → IsOwnedRun (IsOwnedReply setup base_of chain_of Step) at_start lines end old new a b → RunsFrom target live faults standing setup lines end old new a b
+    pub kept_run : (end : RunEnd) → IsOwnedRun (IsOwnedReply setup base_of chain_of Step) at_start lines end old new a b → RunsFrom Continues live faults standing setup lines end old new a b
     kept_run run_end.Done h =
         let (base, same, reach) = all_lines (charged (at_start old.at) old.steps) lines h.replies new h.legal in (
           base,
@@ -108,7 +109,7 @@ module _ {W : Type 0} (target : W → ℕ) (live : W → Bool) (faults : W → �
         )
     kept_run run_end.Memory (none_taken, stays) = (
       ap (λ (c : Charged (KeeperValue W)). c.at.base) stays,
-      ap (λ (c : Charged (KeeperValue W)). target c.at.ahead) stays,
+      subst (λ (c : Charged (KeeperValue W)). Continues old.at.ahead c.at.ahead) (sym stays) (itself old.at.ahead),
       λ first here. (
         first,
         subst (λ (c : Charged (KeeperValue W)). Here c.at first) (sym stays) here,

@@ -164,8 +164,9 @@ module _ {D : Type 0} (content : D → Option (List ℕ)) (may_leave : D → Lis
   module _ (name : Name) (setup : SetupValue) (first : CustodianValue) (before : D) where
     -- before the first
     pub none-read : (journal : JournalState) → IsCustodianOf name (shape_of setup.schema) first [] → attached before ≡ true → journal ≡ opened → WhereTold (content before) (λ file. IsOn file (may_leave before) journal)
+        → ((disk : D) (t : ℕ) (image : List ℕ) → t ≤ moment disk → may_leave disk image → left_since disk t image)
         → ((image : List ℕ) → left_since before (moment before) image → may_leave before image) → SoFar name setup first first before before journal 0
-    none-read journal own is_attached fresh on only = record {
+    none-read journal own is_attached fresh on counts only = record {
       own = own;
       batches = [];
       published = none-published setup (content before) first journal.place (ap (λ (j : JournalState). j.place) fresh) (λ file told. (on file told).gate);
@@ -174,7 +175,7 @@ module _ {D : Type 0} (content : D → Option (List ℕ)) (may_leave : D → Lis
       few = omega arith;
       live = ap (λ (j : JournalState). j.live) fresh;
       still_attached = is_attached;
-      quiet = quiet-none content may_leave moment left_since before only;
+      quiet = quiet-none content may_leave moment left_since before counts only;
       on = on;
       count = omega arith;
     }

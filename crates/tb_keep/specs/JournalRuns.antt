@@ -4,7 +4,7 @@ use Rattle.std.specs.Prelude.{◌≡◌, ◌≤◌, ◌+◌, ℕ, List, length, 
 use Rattle.std.specs.List.{AllByRecursion}
 use Rattle.tb_ahead.specs.Keeping.{KeptState}
 use Rattle.tb_ahead.specs.Publishing.{after_seeing}
-use Rattle.tb_disk.specs.Images.{Only, WhereTold}
+use Rattle.tb_disk.specs.Images.{WhereTold}
 use Rattle.tb_journal.specs.Opening.{IsForeign, header, opened_file}
 use Rattle.tb_journal.specs.Reading.{IsBad}
 use Rattle.tb_journal_file.specs.Files.{EachStandsBetween, EachStandsFor, IsFileOf, all_of}
@@ -12,6 +12,7 @@ use Rattle.tb_keep.specs.Chains.{batches_of}
 use Rattle.tb_keep.specs.KeptRuns.{IsKeptRun}
 use Rattle.tb_keep.specs.Playing.{CanAllFollow, DoesNotFollow, HasRecord, IsNextRecord}
 use Rattle.tb_keep.specs.Playing.{LiesBehind}
+use Rattle.tb_keep.specs.Seen.{IsAsItWas, JournalSeen, StandsAsBefore, StandsAsBeforeUntil}
 use Rattle.tb_keep.specs.declared.recovery.JournalFault.{JournalFault}
 use Rattle.tb_keep.specs.declared.recovery.JournalFault.TheVariants as journal_fault
 use Rattle.tb_keep.specs.declared.journal_run.KeepEnd.{KeepEnd}
@@ -69,12 +70,15 @@ IsJournalFault setup base file (journal_fault.DoesNotFollow r) =
     × DoesNotFollow setup (release_after base (batches_of base batches)) edits
 
 -- what is seen of a run with a journal: what its file had, and what a read gives at the end, where
--- they are told; what a stop at its end may leave, and what one since a moment may have left; and
--- before and after it the disk's count of faults, how far the counter of steps has come, and the
--- bytes that the sink took, where it tells them
+-- they are told; the moment at which it began, and what a stop then could leave; what a stop at its
+-- end may leave, and what one since a moment may have left; and before and after it the disk's
+-- count of faults, how far the counter of steps has come, and the bytes that the sink took, where
+-- it tells them
 pub record JournalRun : Type 1 where
   pub content : Option (List ℕ)
   pub content_after : Option (List ℕ)
+  pub moment : ℕ
+  pub could_leave : List ℕ → Type 0
   pub may_leave : List ℕ → Type 0
   pub left_since : ℕ → List ℕ → Type 0
   pub faults : ℕ
@@ -83,6 +87,19 @@ pub record JournalRun : Type 1 where
   pub steps_after : ℕ
   pub taken : Option (List ℕ)
   pub taken_after : Option (List ℕ)
+
+-- what is seen of its file
+abbrev pub seen_of : JournalRun → JournalSeen
+seen_of saw = record {
+  content = saw.content;
+  content_after = saw.content_after;
+  moment = saw.moment;
+  could_leave = saw.could_leave;
+  may_leave = saw.may_leave;
+  left_since = saw.left_since;
+  faults = saw.faults;
+  faults_after = saw.faults_after;
+}
 
 -- The lines of a script were answered, by how that ended, from where the custodian stood first.
 -- Each file that a stop now may leave stands for the batches to which the replies led, and at most
@@ -98,7 +115,8 @@ pub record AreKeptFrom (first : KeptState) (setup : SetupValue) (base : ReleaseV
       (λ _. EachStandsBetween saw.left_since first.since (all_of last.batches last.further))
   pub counted : last.faults ≡ saw.faults_after
 
--- and first it had published the batches of the journal's file, and the journal was live
+-- And first it had published the batches of the journal's file, and the journal was live. Until
+-- then each stop left a file that stands as one that a stop at the beginning could leave.
 pub record AreLinesKept (setup : SetupValue) (base : ReleaseValue) (lines : List ScriptLine)
     (end : RunEnd) (saw : JournalRun) : Type 0 where
   pub batches : List (List Edit)
@@ -106,6 +124,7 @@ pub record AreLinesKept (setup : SetupValue) (base : ReleaseValue) (lines : List
   pub first_moment : ℕ
   pub first_faults : ℕ
   pub since : saw.faults ≤ first_faults
+  pub until : StandsAsBeforeUntil first_moment (seen_of saw)
   pub kept : AreKeptFrom (after_playing base batches first_moment first_faults) setup base lines
       end saw
 
@@ -113,13 +132,9 @@ pub record AreLinesKept (setup : SetupValue) (base : ReleaseValue) (lines : List
 abbrev pub IsNoneAnswered : JournalRun → Type 0
 IsNoneAnswered saw = (saw.taken_after ≡ saw.taken) × (saw.steps_after ≡ saw.steps)
 
--- a stop now may leave the journal's file as it was, or written anew where it had at most nine
--- bytes, and nothing else
-abbrev pub IsLeftAsItWas : JournalRun → Type 0
-IsLeftAsItWas saw = WhereTold saw.content (λ file. Only (opened_file file) saw.may_leave)
-
 -- How a script with a journal was run: its lines were answered; or none was, since memory ran out
--- or the journal's file is refused, and then its file is left as it was, or since the disk failed.
+-- or the journal's file is refused, and then its file is left as it was, or since the disk failed,
+-- and then no stop left one that stands for anything else.
 abbrev pub IsJournalRun : SetupValue → ReleaseValue → List ScriptLine → KeepEnd → JournalRun
     → Type 0
 IsJournalRun setup base lines (keep_end.Ran run_end.Done) saw =
@@ -127,8 +142,9 @@ IsJournalRun setup base lines (keep_end.Ran run_end.Done) saw =
 IsJournalRun setup base lines (keep_end.Ran run_end.WriteFault) saw =
     AreLinesKept setup base lines run_end.WriteFault saw
 IsJournalRun setup base lines (keep_end.Ran run_end.Memory) saw =
-    IsNoneAnswered saw × IsLeftAsItWas saw
+    IsNoneAnswered saw × IsAsItWas (seen_of saw)
 IsJournalRun setup base lines (keep_end.Refused fault) saw =
-    IsNoneAnswered saw × IsLeftAsItWas saw
+    IsNoneAnswered saw × IsAsItWas (seen_of saw)
     × WhereTold saw.content (λ file. IsJournalFault setup base file fault)
-IsJournalRun setup base lines keep_end.DiskFault saw = IsNoneAnswered saw
+IsJournalRun setup base lines keep_end.DiskFault saw =
+    IsNoneAnswered saw × StandsAsBefore (seen_of saw)

@@ -1,41 +1,18 @@
 -- A journal that was to be recovered: whether it was, and what is left of its file.
-use Rattle.std.specs.Prelude.{◌≡◌, ℕ, List, Option, None}
+use Rattle.std.specs.Prelude.{◌≡◌, List, None}
 use Rattle.tb_board.specs.Custodians.{CustodianValue}
-use Rattle.tb_disk.specs.Images.{Only, WhereTold}
+use Rattle.tb_disk.specs.Images.{WhereTold}
 use Rattle.tb_io.specs.Faults.{HasRisen}
-use Rattle.tb_journal.specs.Opening.{StandsAsOne, opened_file}
 use Rattle.tb_journal.specs.States.{JournalState}
 use Rattle.tb_journal_file.specs.Files.{EachStandsFor}
 use Rattle.tb_keep.specs.Chains.{batches_of}
 use Rattle.tb_keep.specs.JournalRuns.{AreRecovered, IsJournalFault}
+use Rattle.tb_keep.specs.Seen.{IsAsItWas, JournalSeen, StandsAsBefore}
 use Rattle.tb_keep.specs.declared.recovery.Recovery.{Recovery}
 use Rattle.tb_keep.specs.declared.recovery.Recovery.TheVariants as recovery
 use Rattle.tb_model.specs.Releases.{ReleaseValue}
 use Rattle.tb_model.specs.Setups.{SetupValue}
 use Rattle.tb_release.specs.declared.edits.Edit.{Edit}
-
--- what is seen of a journal's disk: what its file had at first, and what a read gives now, where
--- they are told; what a stop could leave then, what one may leave now, and what one since a moment
--- may have left; and its count of faults, then and now
-pub record JournalSeen : Type 1 where
-  pub content : Option (List ℕ)
-  pub content_after : Option (List ℕ)
-  pub could_leave : List ℕ → Type 0
-  pub may_leave : List ℕ → Type 0
-  pub left_since : ℕ → List ℕ → Type 0
-  pub faults : ℕ
-  pub faults_after : ℕ
-
--- a stop now may leave the file as it was, or written anew where it had at most nine bytes, and
--- nothing else
-abbrev pub IsAsItWas : JournalSeen → Type 0
-IsAsItWas saw = WhereTold saw.content (λ file. Only (opened_file file) saw.may_leave)
-
--- each file that a stop now may leave stands as one that a stop could leave at first
-abbrev pub StandsAsBefore : JournalSeen → Type 0
-StandsAsBefore saw =
-    WhereTold saw.content (λ _. (image : List ℕ) → saw.may_leave image
-    → StandsAsOne saw.could_leave image)
 
 -- all batches of the file were published by a custodian, who stands at the chain to which they
 -- lead; each file that a stop now may leave stands for them

@@ -42,7 +42,7 @@ impl<'a, B: Named, R: Threads + Wait + Sync, W: WriteAhead> Owner<Setting<'a, B,
         × IfSome o.keeper.party.prepared (IsPreparedBy o.keeper.party.custody.party)
         × W.IsReady o.keeper.ahead };
 
-    ghost Step = { λ c. KeepsTo W.target W.live W.faults W.StandsFor (IsOwnStep c.setup.now)
+    ghost Step = { λ c. KeepsTo W.Continues W.live W.faults W.StandsFor (IsOwnStep c.setup.now)
         asks_to_publish };
 
     ghost shape = { λ c. shape_of c.setup.now.schema };

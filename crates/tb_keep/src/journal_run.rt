@@ -1,10 +1,9 @@
 // A script with a journal: the journal is opened and played, and then the script's lines are
 // answered.
 
-ghost use Rattle.std.specs.Prelude.{◌≡◌, ◌≤◌, ℕ, List, [], None, true};
-ghost use Rattle.tb_disk.specs.Images.{WhereTold};
+ghost use Rattle.std.specs.Prelude.{◌≡◌, ◌≤◌, List, [], None, true};
+ghost use Rattle.tb_disk.specs.Moments.{KeepsPast};
 ghost use Rattle.tb_io.specs.Faults.{HasRisen};
-ghost use Rattle.tb_journal.specs.Opening.{StandsAsOne};
 ghost use Rattle.tb_journal_file.specs.Files.{CanPut, EachStandsFor};
 ghost use Rattle.tb_keep.specs.Chains.{batches_of};
 ghost use Rattle.tb_keep.specs.JournalRuns.{AreKeptFrom, IsJournalRun, after_playing};
@@ -55,6 +54,7 @@ fn run_played<B: Named, D: Disk, R: Threads + Wait + Sync, K: Sink, L: Ledger>(
     requires puts { CanPut (D.attached disk.old) (D.content disk.old) (D.may_leave disk.old)
         journal }
     ensures attached { D.attached disk.new ≡ true }
+    ensures past { KeepsPast D.moment D.left_since disk.old disk.new }
     ensures count { K.faults sink.old ≤ K.faults sink.new }
     ensures failed { result ≡ run_end.WriteFault
         → HasRisen (K.faults sink.old) (K.faults sink.new) }
@@ -68,6 +68,8 @@ fn run_played<B: Named, D: Disk, R: Threads + Wait + Sync, K: Sink, L: Ledger>(
         setting.now.setup.now custodian.writer.start.base script.now.lines result (record {
           content = D.content disk.old;
           content_after = D.content disk.new;
+          moment = D.moment disk.old;
+          could_leave = D.may_leave disk.old;
           may_leave = D.may_leave disk.new;
           left_since = D.left_since disk.new;
           faults = D.faults disk.old;
@@ -122,20 +124,19 @@ pub fn run_with_journal<B: Named, D: Disk, R: Threads + Wait + Sync, K: Sink, L:
     requires first { custodian.writer.list ≡ [] }
     requires attached { D.attached disk.old ≡ true }
     ensures attached { D.attached disk.new ≡ true }
+    ensures past { KeepsPast D.moment D.left_since disk.old disk.new }
     ensures count { K.faults sink.old ≤ K.faults sink.new }
     ensures failed { result ≡ keep_end.Ran run_end.WriteFault
         → HasRisen (K.faults sink.old) (K.faults sink.new) }
     ensures disk_count { D.faults disk.old ≤ D.faults disk.new }
     ensures disk_failed { result ≡ keep_end.DiskFault
         → HasRisen (D.faults disk.old) (D.faults disk.new) }
-    // Each file that a stop then may leave stands as one that a stop at the start could have left.
-    ensures left { result ≡ keep_end.DiskFault → WhereTold (D.content disk.old)
-        (λ _. (image : List ℕ) → D.may_leave disk.new image
-        → StandsAsOne (D.may_leave disk.old) image) }
     ensures run { IsJournalRun setting.now.setup.now custodian.writer.start.base
         script.now.lines result (record {
           content = D.content disk.old;
           content_after = D.content disk.new;
+          moment = D.moment disk.old;
+          could_leave = D.may_leave disk.old;
           may_leave = D.may_leave disk.new;
           left_since = D.left_since disk.new;
           faults = D.faults disk.old;

@@ -6,10 +6,11 @@
 //! batches are read from and written into), `tb_session` (the custodian's lines) and `tb_script`
 //! (lines of several lanes), and below them on `tb_board`. Its contracts cite `specs/Publishers`
 //! (the custodian's party, each of whose held edits can be written), `Chains` (the chain to which
-//! batches lead, each as the list of its edits), `Playing` (how a journal is played), `Recoveries`
-//! (what became of one that was to be recovered), `KeptRuns` (the replies to the lines of a script
-//! whose custodian writes ahead) and `JournalRuns` (a script with a journal). `PublisherLaws` and
-//! `JournalOwners` have what the traits of such a party ask for.
+//! batches lead, each as the list of its edits), `Playing` (how a journal is played), `Seen` (what
+//! is seen of its file from one moment to another), `Recoveries` (what became of one that was to be
+//! recovered), `KeptRuns` (the replies to the lines of a script whose custodian writes ahead) and
+//! `JournalRuns` (a script with a journal). `PublisherLaws` and `JournalOwners` have what the traits
+//! of such a party ask for.
 //!
 //! Of the proofs, `Writable` says that an edit which a line reads as can be written, `Owning` what
 //! that makes of a line, `Preparing` when a line asks for what was prepared, `Chains` that a chain

@@ -1,6 +1,7 @@
 // A journal that is opened, and whose batches are published, before anything else is answered.
 
 ghost use Rattle.std.specs.Prelude.{◌≡◌, ◌≤◌, [], true};
+ghost use Rattle.tb_disk.specs.Moments.{KeepsPast};
 ghost use Rattle.tb_journal_file.specs.Files.{CanPut};
 ghost use Rattle.tb_keep.specs.Recoveries.{IfRecovered, IsRecovery};
 ghost use Rattle.tb_model.specs.Schemas.{shape_of};
@@ -47,6 +48,7 @@ pub fn recover<B: Named, D: Disk, R: Threads + Wait + Sync>(
     ensures own { IsCustodianOf B.name (shape_of setting.now.setup.now.schema) custodian.new [] }
     ensures attached { D.attached disk.new ≡ true }
     ensures count { D.faults disk.old ≤ D.faults disk.new }
+    ensures past { KeepsPast D.moment D.left_since disk.old disk.new }
     // The journal is live, and on its file.
     ensures live { IfRecovered result (λ journal. journal.live ≡ true) }
     ensures puts { IfRecovered result (λ journal. CanPut (D.attached disk.new) (D.content disk.new)
@@ -54,6 +56,7 @@ pub fn recover<B: Named, D: Disk, R: Threads + Wait + Sync>(
     ensures recovered { IsRecovery setting.now.setup.now custodian.old.writer.start.base (record {
       content = D.content disk.old;
       content_after = D.content disk.new;
+      moment = D.moment disk.old;
       could_leave = D.may_leave disk.old;
       may_leave = D.may_leave disk.new;
       left_since = D.left_since disk.new;

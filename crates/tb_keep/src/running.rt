@@ -44,7 +44,7 @@ pub fn run_kept<B: Named, W: WriteAhead, R: Threads + Wait + Sync, K: Sink, L: L
     ensures unwritten { result.0 ≡ run_end.Memory
         → result.1.keeper.ahead ≡ owner.keeper.ahead }
     // Wherever the custodian stood, the file stands for what the replies lead to.
-    ensures run { RunsFrom W.target W.live W.faults W.StandsFor setting.now.setup.now
+    ensures run { RunsFrom W.Continues W.live W.faults W.StandsFor setting.now.setup.now
         script.now.lines result.0
         (charged (keeper_of owner.keeper.party.custody.party owner.keeper.ahead) steps.old)
         (charged (keeper_of result.1.keeper.party.custody.party result.1.keeper.ahead) steps.new)

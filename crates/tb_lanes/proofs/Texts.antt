@@ -48,19 +48,19 @@ module _ (script : ScriptValue) (phase : ℕ) (texts : ℕ → List ℕ) where
       (rest, ap (λ (t : List ℕ). t ++ rest) (one_lane n) ∙ is ∙ ap (λ (k : ℕ). so_far k) all)
 
   -- one lane more was written
-  pub lane_written : (f between f' : ℕ) (t u v : Option (List ℕ)) (n : ℕ) → IsWritten wrote.All f between t u (so_far n)
+  pub lane_written : {f between f' : ℕ} {t u v : Option (List ℕ)} (n : ℕ) → IsWritten wrote.All f between t u (so_far n)
       → IsWritten wrote.All between f' u v (said n) → IsWritten wrote.All f f' t v (so_far (n + 1))
-  lane_written f between f' t u v n before now =
-      written_as wrote.All f f' t v (so_far n ++ said n) (so_far (n + 1)) (one_lane n)
-      (written_then wrote.All f between f' t u v (so_far n) (said n) before now)
+  lane_written n before now =
+      written_as (one_lane n)
+      (written_then before now)
 
   -- the writing of one failed
-  pub lane_cut : (f between f' : ℕ) (t u v : Option (List ℕ)) (n len : ℕ) → n < len → IsWritten wrote.All f between t u (so_far n)
+  pub lane_cut : {f between f' : ℕ} {t u v : Option (List ℕ)} (n len : ℕ) → n < len → IsWritten wrote.All f between t u (so_far n)
       → IsWritten wrote.Failed between f' u v (said n) → IsWritten wrote.Failed f f' t v (so_far len)
-  lane_cut f between f' t u v n len lt before now =
+  lane_cut n len lt before now =
       let (rest, is) = whole_after n len lt in
-      written_as wrote.Failed f f' t v ((so_far n ++ said n) ++ rest) (so_far len) is
-      (cut_before f f' t v (so_far n ++ said n) rest (written_then wrote.Failed f between f' t u v (so_far n) (said n) before now))
+      written_as is
+      (cut_before rest (written_then before now))
 
   -- no lane yet
   pub none_written : (f : ℕ) (t : Option (List ℕ)) → IsWritten wrote.All f f t t (so_far 0)
@@ -69,4 +69,4 @@ module _ (script : ScriptValue) (phase : ℕ) (texts : ℕ → List ℕ) where
   -- all lanes
   pub all_lanes_written : (f f' : ℕ) (t u : Option (List ℕ)) (n len : ℕ) → n ≡ len → IsWritten wrote.All f f' t u (so_far n)
       → IsWritten wrote.All f f' t u (so_far len)
-  all_lanes_written f f' t u n len same h = written_as wrote.All f f' t u (so_far n) (so_far len) (ap (λ (k : ℕ). so_far k) same) h
+  all_lanes_written f f' t u n len same h = written_as (ap (λ (k : ℕ). so_far k) same) h

@@ -22,22 +22,22 @@ module _ {S L : Type 0} (Step : S → L → ReplyValue → S → Type 0) where
   pub answered-none : (first last : S) (a : Option (List ℕ)) → last ≡ first → AreAnswered (Lead Step) [] first last a a
   answered-none first last a same = record { replies = []; legal = same; took = Took-nothing a }
 
-  module _ (lines : List L) (i : ℕ) (first old new : S) (a b c : Option (List ℕ)) (below : i < length lines) (so_far : AreAnswered (Lead Step) (take i lines) first old a b)
+  module _ (lines : List L) (i : ℕ) {first old new : S} {a b : Option (List ℕ)} (below : i < length lines) (so_far : AreAnswered (Lead Step) (take i lines) first old a b)
       (line : L) (reply : ReplyValue) (here : slice_get lines i ≡ Some line) (step : Step old line reply new) where
     more-legal : Lead Step first (take (i + 1) lines) (so_far.replies ++ reply ∷ []) new
     more-legal = rw (take_more lines i line below, get_or_from_slice_get lines i line line here) (Lead-more Step (take i lines) line so_far.replies reply first old new so_far.legal step)
 
     -- the reply to one more line was taken
-    pub answered-more : Took b c reply.text → AreAnswered (Lead Step) (take (i + 1) lines) first new a c
-    answered-more took = record {
+    pub answered-more : {c : Option (List ℕ)} → Took b c reply.text → AreAnswered (Lead Step) (take (i + 1) lines) first new a c
+    answered-more {c} took = record {
       replies = so_far.replies ++ reply ∷ [];
       legal = more-legal;
       took = Took-same a c (text_of so_far.replies ++ reply.text) (text_of (so_far.replies ++ reply ∷ [])) (sym (text_of-more so_far.replies reply)) (Took-append a b c (text_of so_far.replies) reply.text so_far.took took);
     }
 
     -- a part of it was
-    pub answered-cut : TookPart b c reply.text → AreCutShort (Lead Step) lines first new a c
-    answered-cut (part, took) = record {
+    pub answered-cut : {c : Option (List ℕ)} → TookPart b c reply.text → AreCutShort (Lead Step) lines first new a c
+    answered-cut {c} (part, took) = record {
       count = i;
       among = below;
       replies = so_far.replies;

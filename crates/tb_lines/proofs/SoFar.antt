@@ -57,7 +57,7 @@ module _ {S : Type 0} (Step : S → List ℕ → ReplyValue → S → Type 0) wh
     took = Took-nothing taken;
   }
 
-  module _ (left : Option (List ℕ)) (count : ℕ) (now : Option (List ℕ)) (ahead : List ℕ) (had : Bool) (first last : S) (before after : Option (List ℕ)) (so_far : IsSoFar left count now ahead had first last before after) where
+  module _ {left : Option (List ℕ)} {count : ℕ} {now : Option (List ℕ)} {ahead : List ℕ} {had : Bool} {first last : S} {before after : Option (List ℕ)} (so_far : IsSoFar left count now ahead had first last before after) where
     -- one line more
     pub so_far-more : (next : S) (line new : List ℕ) (ended : Bool) (reply : ReplyValue) (then later : Option (List ℕ)) → had ≡ false → IsNextOf next_line.Line (stream_of ahead now) line (stream_of new then)
         → Takes next_line.Line now then ahead line new ended → (ended ≡ true → IsAtEnd (stream_of new then)) → length line ≤ MOST_LINE_BYTES → is_quit (without_return line) ≡ false

@@ -115,6 +115,10 @@ impl Disk for MemDisk {
             Some (bytes_of self.new.file) ≡ Some (bytes_of self.old.file) }
         ensures left { (image : List ℕ) → image ≡ bytes_of self.new.file
             → image ≡ bytes_of self.old.file }
+        ensures later { length self.old.file.writes ≤ length self.new.file.writes }
+        ensures any_moment { (image : List ℕ) →
+            HadSince self.new.file (length self.old.file.writes) image
+            → image ≡ bytes_of self.old.file }
         ensures count { self.old.log.faults ≤ self.new.log.faults }
         ensures failed { result ≡ done.Failed →
             HasRisen self.old.log.faults self.new.log.faults }

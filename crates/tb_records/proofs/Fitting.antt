@@ -10,7 +10,6 @@ use Rattle.tb_base.specs.Keys.{key_range}
 use Rattle.tb_base.specs.Numbers.{number_of}
 use Rattle.tb_base.specs.Records.{AllFit, Fits}
 use Rattle.tb_base.specs.declared.keys.Keys.{Keys}
-use Rattle.tb_base.specs.declared.keys.TheConstants.{MOST_KEYS}
 use Rattle.tb_base.specs.declared.people.TheConstants.{MOST_PERSONS}
 use Rattle.tb_base.specs.declared.records.Record.{Record}
 use Rattle.tb_model.specs.Schemas.{CategoryValue, SchemaValue, VariableValue, shape_of}

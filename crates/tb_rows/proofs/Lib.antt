@@ -1,3 +1,4 @@
+mod CutTexts
 pub mod FieldIndices
 mod Left
 pub mod Meaning

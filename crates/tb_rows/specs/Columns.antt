@@ -27,6 +27,11 @@ indices_of names header = all_some (map (λ name. only_index name header) names)
 abbrev pub fields_at : List ℕ → List (List ℕ) → List (List ℕ)
 fields_at indices fields = map (λ i. get_or fields i []) indices
 
+-- a header's number of fields, and the index of each column in it
+pub record HeaderValue : Type 0 where
+  pub width : ℕ
+  pub indices : List ℕ
+
 -- a name is missing in a header, or stands there more than once
 abbrev pub IsNotOnce : List ℕ → List (List ℕ) → Type 0
 IsNotOnce name header = count_by (λ field. bytes_eq field name) header ≢ 1

@@ -3,3 +3,4 @@ pub mod Records
 pub mod Columns
 pub mod Formats
 pub mod WholeFiles
+pub mod Cutting

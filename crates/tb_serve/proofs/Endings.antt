@@ -17,14 +17,14 @@ use Rattle.tb_serve.proofs.PortEnds.{port_served}
 use Rattle.tb_serve.proofs.Wholes.{each_then}
 
 -- a text was written, and the status is as it is to be then
-pub ended_well : (text : List ℕ) (final ended : Status) (t t' : Option (List ℕ)) (f f' : ℕ) → IsWritten wrote.All f f' t t' text
+pub ended_well : {text : List ℕ} {final ended : Status} {t t' : Option (List ℕ)} {f f' : ℕ} → IsWritten wrote.All f f' t t' text
     → ended ≡ final → IsEnded text final (output t t' f f') ended
-ended_well text final ended t t' f f' written is = inl (is, written.all refl)
+ended_well written is = inl (is, written.all refl)
 
 -- or a part of it
-pub ended_badly : (text : List ℕ) (final : Status) (t t' : Option (List ℕ)) (f f' : ℕ) → IsWritten wrote.Failed f f' t t' text
+pub ended_badly : {text : List ℕ} {final : Status} {t t' : Option (List ℕ)} {f f' : ℕ} → IsWritten wrote.Failed f f' t t' text
     → IsEnded text final (output t t' f f') status.WriteFault
-ended_badly text final t t' f f' written = inr (refl, written.part refl, written.failed refl)
+ended_badly written = inr (refl, written.part refl, written.failed refl)
 
 -- the status where all was written
 pub final_is : (b : Bool) (ports : List PortValue) → b ≡ some_failed ports

@@ -35,22 +35,22 @@ pub record AreWritten (faults faults' : ℕ) (taken taken' : Option (List ℕ)) 
   pub took : Took taken taken' (concat (take i (worker_lines 0 ports)))
 
 -- and one more
-pub line_more : (f f' f'' : ℕ) (t t' t'' : Option (List ℕ)) (ports : List PortValue) (i served : ℕ) (d : PortValue) → i < length ports
+pub line_more : {f f' f'' : ℕ} {t t' t'' : Option (List ℕ)} (ports : List PortValue) (i served : ℕ) (d : PortValue) → i < length ports
     → served ≡ (get_or ports i d).served
     → AreWritten f f' t t' ports i → IsWritten wrote.All f' f'' t' t'' (worker_line i served) → AreWritten f f'' t t'' ports (i + 1)
-line_more f f' f'' t t' t'' ports i served d lt is so_far one = record {
+line_more {t} {t'} {t''} ports i served d lt is so_far one = record {
   count = omega (arith, so_far.count, one.count);
   took = Took-more t t' t'' (worker_lines 0 ports) i (worker_line i served) (omega (arith, lines_length 0 ports))
       (line_at ports i served d lt is) so_far.took (one.all refl);
 }
 
 -- or a part of it
-pub line_cut : (f f' f'' : ℕ) (t t' t'' : Option (List ℕ)) (ports : List PortValue) (i served : ℕ) (d : PortValue) → i < length ports
+pub line_cut : {f f' f'' : ℕ} {t t' t'' : Option (List ℕ)} (ports : List PortValue) (i served : ℕ) (d : PortValue) → i < length ports
     → served ≡ (get_or ports i d).served
     → AreWritten f f' t t' ports i → IsWritten wrote.Failed f' f'' t' t'' (worker_line i served) → IsWritten wrote.Failed f f'' t t''
     (concat (worker_lines 0 ports))
-line_cut f f' f'' t t' t'' ports i served d lt is so_far one =
-    cut_written f f' f'' t t'' (concat (worker_lines 0 ports)) so_far.count one.count (one.failed refl)
+line_cut {t} {t'} {t''} ports i served d lt is so_far one =
+    cut_written so_far.count one.count (one.failed refl)
     (TookPart-more t t' t'' (worker_lines 0 ports) i (worker_line i served) (omega (arith, lines_length 0 ports))
     (line_at ports i served d lt is) so_far.took (one.part refl))
 
@@ -65,18 +65,18 @@ lines_whole f f' t t' ports i e so_far =
     (worker_lines 0 ports) i (e ∙ sym (lines_length 0 ports)))) so_far.took)
 
 -- ---- two texts, one after the other
-pub written_then : (w : Wrote) (f f' f'' : ℕ) (t t' t'' : Option (List ℕ)) (text more : List ℕ) → IsWritten wrote.All f f' t t' text
+pub written_then : {w : Wrote} {f f' f'' : ℕ} {t t' t'' : Option (List ℕ)} {text more : List ℕ} → IsWritten wrote.All f f' t t' text
     → IsWritten w f' f'' t' t'' more → IsWritten w f f'' t t'' (text ++ more)
-written_then wrote.All f f' f'' t t' t'' text more one other =
+written_then {w = wrote.All} {f} {f''} {t} {t'} {t''} {text} {more} one other =
     all_written f f'' t t'' (text ++ more) (omega (arith, one.count, other.count)) (Took-append t t' t'' text more (one.all refl)
     (other.all refl))
-written_then wrote.Failed f f' f'' t t' t'' text more one other =
-    cut_written f f' f'' t t'' (text ++ more) one.count other.count (other.failed refl) (TookPart-append t t' t'' text more
+written_then {w = wrote.Failed} {t} {t'} {t''} {text} {more} one other =
+    cut_written one.count other.count (other.failed refl) (TookPart-append t t' t'' text more
     (one.all refl) (other.part refl))
 
-pub cut_before : (f f' : ℕ) (t t' : Option (List ℕ)) (text more : List ℕ) → IsWritten wrote.Failed f f' t t' text
+pub cut_before : {f f' : ℕ} {t t' : Option (List ℕ)} {text : List ℕ} (more : List ℕ) → IsWritten wrote.Failed f f' t t' text
     → IsWritten wrote.Failed f f' t t' (text ++ more)
-cut_before f f' t t' text more h = record {
+cut_before {t} {t'} {text} more h = record {
   count = h.count;
   failed = h.failed;
   all = λ e. absurd (cc

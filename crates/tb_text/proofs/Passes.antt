@@ -21,8 +21,8 @@ pub begins : (f : ℕ) (t : Option (List ℕ)) (w rest text : List ℕ) → w ++
 begins f t w rest text e = record { count = omega arith; passed = []; took = Took-nothing t; same = e }
 
 -- no rest is left
-pub ends : (f f' : ℕ) (t t' : Option (List ℕ)) (w rest text : List ℕ) → rest ≡ [] → IsBefore f f' t t' w rest text → IsOn f f' t t' w text
-ends f f' t t' w rest text none h = record {
+pub ends : {f f' : ℕ} {t t' : Option (List ℕ)} {w rest text : List ℕ} → rest ≡ [] → IsBefore f f' t t' w rest text → IsOn f f' t t' w text
+ends {w} none h = record {
   count = h.count;
   passed = h.passed;
   took = h.took;
@@ -30,9 +30,9 @@ ends f f' t t' w rest text none h = record {
 }
 
 -- one more piece
-pub goes : (f f1 f2 : ℕ) (t t1 t2 : Option (List ℕ)) (w1 w2 piece rest after text : List ℕ) → ((x : List ℕ) → x ++ rest ≡ text → (x ++ piece) ++ after ≡ text)
+pub goes : {f f1 f2 : ℕ} {t t1 t2 : Option (List ℕ)} {w1 w2 : List ℕ} (piece : List ℕ) {rest after text : List ℕ} → ((x : List ℕ) → x ++ rest ≡ text → (x ++ piece) ++ after ≡ text)
     → IsBefore f f1 t t1 w1 rest text → IsOn f1 f2 t1 t2 w2 (w1 ++ piece) → IsBefore f f2 t t2 w2 after text
-goes f f1 f2 t t1 t2 w1 w2 piece rest after text step h k = record {
+goes {t} {t1} {t2} {w1} {w2} piece {after} step h k = record {
   count = omega (arith, h.count, k.count);
   passed = h.passed ++ k.passed;
   took = Took-append t t1 t2 h.passed k.passed h.took k.took;
@@ -42,9 +42,9 @@ goes f f1 f2 t t1 t2 w1 w2 piece rest after text step h k = record {
 }
 
 -- the sink fails within one more piece
-pub cut_off : (f f1 f2 : ℕ) (t t1 t2 : Option (List ℕ)) (w1 piece rest after text : List ℕ) → ((x : List ℕ) → x ++ rest ≡ text → (x ++ piece) ++ after ≡ text)
+pub cut_off : {f f1 f2 : ℕ} {t t1 t2 : Option (List ℕ)} {w1 : List ℕ} (piece : List ℕ) {rest : List ℕ} (after : List ℕ) {text : List ℕ} → ((x : List ℕ) → x ++ rest ≡ text → (x ++ piece) ++ after ≡ text)
     → IsBefore f f1 t t1 w1 rest text → IsCut f1 f2 t1 t2 (w1 ++ piece) → IsCut f f2 t t2 text
-cut_off f f1 f2 t t1 t2 w1 piece rest after text step h k =
+cut_off {f} {f1} {f2} {t} {t1} {t2} {w1} piece after {text} step h k =
     let whole : TookPart t t2 (h.passed ++ (w1 ++ piece)) = TookPart-append t t1 t2 h.passed (w1 ++ piece) h.took k.part in
     let same : (h.passed ++ (w1 ++ piece)) ++ after ≡ text = ap (λ x. x ++ after) (sym (append_assoc h.passed w1 piece)) ∙ step (h.passed ++ w1) h.same in
     record {
@@ -54,12 +54,12 @@ cut_off f f1 f2 t t1 t2 w1 piece rest after text step h k =
     }
 
 -- the sink fails before one more piece
-pub cut_longer : (f f' : ℕ) (t t' : Option (List ℕ)) (text more : List ℕ) → IsCut f f' t t' text → IsCut f f' t t' (text ++ more)
-cut_longer f f' t t' text more h = record { count = h.count; risen = h.risen; part = TookPart-longer t t' text more h.part }
+pub cut_longer : {f f' : ℕ} {t t' : Option (List ℕ)} {text : List ℕ} (more : List ℕ) → IsCut f f' t t' text → IsCut f f' t t' (text ++ more)
+cut_longer {t} {t'} {text} more h = record { count = h.count; risen = h.risen; part = TookPart-longer t t' text more h.part }
 
 -- one more piece waits
-pub waits : (f f' : ℕ) (t t' : Option (List ℕ)) (w w' text more : List ℕ) → w' ≡ w ++ more → IsOn f f' t t' w text → IsOn f f' t t' w' (text ++ more)
-waits f f' t t' w w' text more e h = record {
+pub waits : {f f' : ℕ} {t t' : Option (List ℕ)} {w w' text : List ℕ} (more : List ℕ) → w' ≡ w ++ more → IsOn f f' t t' w text → IsOn f f' t t' w' (text ++ more)
+waits {w} more e h = record {
   count = h.count;
   passed = h.passed;
   took = h.took;
@@ -71,17 +71,17 @@ pub all_waits : (f : ℕ) (t : Option (List ℕ)) (w : List ℕ) → IsOn f f t 
 all_waits f t w = record { count = omega arith; passed = []; took = Took-nothing t; same = refl }
 
 -- what waits was handed on
-pub handed_on : (f f' : ℕ) (t t' : Option (List ℕ)) (w bytes text : List ℕ) → w ≡ [] → bytes ≡ text → f ≤ f' → Took t t' bytes → IsOn f f' t t' w text
-handed_on f f' t t' w bytes text none same count took = record { count = count; passed = bytes; took = took; same = ap (λ x. bytes ++ x) none ∙ append-nil bytes ∙ same }
+pub handed_on : {f f' : ℕ} {t t' : Option (List ℕ)} {w bytes text : List ℕ} → w ≡ [] → bytes ≡ text → f ≤ f' → Took t t' bytes → IsOn f f' t t' w text
+handed_on {bytes} none same count took = record { count = count; passed = bytes; took = took; same = ap (λ x. bytes ++ x) none ∙ append-nil bytes ∙ same }
 
 -- the sink fails as it is handed on
-pub cut_there : (f f' : ℕ) (t t' : Option (List ℕ)) (bytes text : List ℕ) → bytes ≡ text → f ≤ f' → HasRisen f f' → TookPart t t' bytes → IsCut f f' t t' text
-cut_there f f' t t' bytes text same count risen part = record { count = count; risen = risen; part = subst (λ (s : List ℕ). TookPart t t' s) same part }
+pub cut_there : {f f' : ℕ} {t t' : Option (List ℕ)} {bytes text : List ℕ} → bytes ≡ text → f ≤ f' → HasRisen f f' → TookPart t t' bytes → IsCut f f' t t' text
+cut_there {t} {t'} same count risen part = record { count = count; risen = risen; part = subst (λ (s : List ℕ). TookPart t t' s) same part }
 
 -- and then one more piece
-pub handed_past : (f f1 f2 : ℕ) (t t1 t2 : Option (List ℕ)) (w w' text more : List ℕ) → w ≡ [] → w' ≡ w → IsOn f f1 t t1 w text → IsWritten wrote.All f1 f2 t1 t2 more
+pub handed_past : {f f1 f2 : ℕ} {t t1 t2 : Option (List ℕ)} {w w' text more : List ℕ} → w ≡ [] → w' ≡ w → IsOn f f1 t t1 w text → IsWritten wrote.All f1 f2 t1 t2 more
     → IsOn f f2 t t2 w' (text ++ more)
-handed_past f f1 f2 t t1 t2 w w' text more none stays h k =
+handed_past {t} {t1} {t2} {text} {more} none stays h k =
     let before : h.passed ≡ text = sym (append-nil h.passed) ∙ ap (λ x. h.passed ++ x) (sym none) ∙ h.same in
     record {
       count = omega (arith, h.count, k.count);
@@ -91,8 +91,8 @@ handed_past f f1 f2 t t1 t2 w w' text more none stays h k =
     }
 
 -- the sink fails in a write after others
-pub failed_past : (f f1 f2 : ℕ) (t t1 t2 : Option (List ℕ)) (w text more : List ℕ) → w ≡ [] → IsOn f f1 t t1 w text → IsWritten wrote.Failed f1 f2 t1 t2 more → IsCut f f2 t t2 (text ++ more)
-failed_past f f1 f2 t t1 t2 w text more none h k =
+pub failed_past : {f f1 f2 : ℕ} {t t1 t2 : Option (List ℕ)} {w text more : List ℕ} → w ≡ [] → IsOn f f1 t t1 w text → IsWritten wrote.Failed f1 f2 t1 t2 more → IsCut f f2 t t2 (text ++ more)
+failed_past {f} {f1} {f2} {t} {t1} {t2} {text} {more} none h k =
     let before : h.passed ≡ text = sym (append-nil h.passed) ∙ ap (λ x. h.passed ++ x) (sym none) ∙ h.same in
     record {
       count = omega (arith, h.count, k.count);
@@ -101,9 +101,9 @@ failed_past f f1 f2 t t1 t2 w text more none h k =
     }
 
 -- the last write
-pub last_write : (w : Wrote) (f f1 f2 : ℕ) (t t1 t2 : Option (List ℕ)) (waiting text more : List ℕ) → IsOn f f1 t t1 waiting text → IsWritten w f1 f2 t1 t2 (waiting ++ more)
+pub last_write : {w : Wrote} {f f1 f2 : ℕ} {t t1 t2 : Option (List ℕ)} {waiting text : List ℕ} (more : List ℕ) → IsOn f f1 t t1 waiting text → IsWritten w f1 f2 t1 t2 (waiting ++ more)
     → IsWritten w f f2 t t2 (text ++ more)
-last_write w f f1 f2 t t1 t2 waiting text more h k =
+last_write {f} {f1} {f2} {t} {t1} {t2} {waiting} {text} more h k =
     let same : h.passed ++ (waiting ++ more) ≡ text ++ more = sym (append_assoc h.passed waiting more) ∙ ap (λ x. x ++ more) h.same in
     record {
       count = omega (arith, h.count, k.count);
@@ -113,12 +113,12 @@ last_write w f f1 f2 t t1 t2 waiting text more h k =
     }
 
 -- no write comes after one that failed
-pub cut_write : (f f' : ℕ) (t t' : Option (List ℕ)) (text more : List ℕ) → IsCut f f' t t' text → IsWritten wrote.Failed f f' t t' (text ++ more)
-cut_write f f' t t' text more h = record { count = h.count; failed = λ _. h.risen; all = λ e. cc; part = λ _. TookPart-longer t t' text more h.part }
+pub cut_write : {f f' : ℕ} {t t' : Option (List ℕ)} {text : List ℕ} (more : List ℕ) → IsCut f f' t t' text → IsWritten wrote.Failed f f' t t' (text ++ more)
+cut_write {t} {t'} {text} more h = record { count = h.count; failed = λ _. h.risen; all = λ e. cc; part = λ _. TookPart-longer t t' text more h.part }
 
 -- what an empty sink took and tells, and what waits, are the whole text
-pub kept_whole : (f f' : ℕ) (kept kept' w text : List ℕ) → kept ≡ [] → IsOn f f' (Some kept) (Some kept') w text → kept' ++ w ≡ text
-kept_whole f f' kept kept' w text none h = ap (λ x. x ++ w) (h.took ∙ ap (λ x. x ++ h.passed) none) ∙ h.same
+pub kept_whole : {f f' : ℕ} {kept kept' w text : List ℕ} → kept ≡ [] → IsOn f f' (Some kept) (Some kept') w text → kept' ++ w ≡ text
+kept_whole {w} none h = ap (λ x. x ++ w) (h.took ∙ ap (λ x. x ++ h.passed) none) ∙ h.same
 
 -- there is room for what stands already
 pub room_now : (used room : ℕ) (dimensions : List (List (List ℕ))) → HasRoom used room dimensions → used + 16 ≤ room
@@ -143,20 +143,20 @@ on_err (Ok x) P p = tt
 on_err (Err e) P p = p
 
 -- the same text, put together in another way
-pub on_as : (f f' : ℕ) (t t' : Option (List ℕ)) (w text other : List ℕ) → text ≡ other → IsOn f f' t t' w text → IsOn f f' t t' w other
-on_as f f' t t' w text other e h = subst (λ (s : List ℕ). IsOn f f' t t' w s) e h
+pub on_as : {f f' : ℕ} {t t' : Option (List ℕ)} {w text other : List ℕ} → text ≡ other → IsOn f f' t t' w text → IsOn f f' t t' w other
+on_as {f} {f'} {t} {t'} {w} e h = subst (λ (s : List ℕ). IsOn f f' t t' w s) e h
 
-pub cut_as : (f f' : ℕ) (t t' : Option (List ℕ)) (text other : List ℕ) → text ≡ other → IsCut f f' t t' text → IsCut f f' t t' other
-cut_as f f' t t' text other e h = subst (λ (s : List ℕ). IsCut f f' t t' s) e h
+pub cut_as : {f f' : ℕ} {t t' : Option (List ℕ)} {text other : List ℕ} → text ≡ other → IsCut f f' t t' text → IsCut f f' t t' other
+cut_as {f} {f'} {t} {t'} e h = subst (λ (s : List ℕ). IsCut f f' t t' s) e h
 
 -- nothing is added
 pub nothing_added : (f : ℕ) (t : Option (List ℕ)) (w more : List ℕ) → more ≡ [] → IsOn f f t t w (w ++ more)
 nothing_added f t w more none = record { count = omega arith; passed = []; took = Took-nothing t; same = sym (ap (λ x. w ++ x) none ∙ append-nil w) }
 
 -- two writes, one after the other
-pub two_writes : (w : Wrote) (f f1 f2 : ℕ) (t t1 t2 : Option (List ℕ)) (bytes text more : List ℕ) → bytes ≡ text → f ≤ f1 → Took t t1 bytes → IsWritten w f1 f2 t1 t2 more
+pub two_writes : {w : Wrote} {f f1 f2 : ℕ} {t t1 t2 : Option (List ℕ)} {bytes text more : List ℕ} → bytes ≡ text → f ≤ f1 → Took t t1 bytes → IsWritten w f1 f2 t1 t2 more
     → IsWritten w f f2 t t2 (text ++ more)
-two_writes w f f1 f2 t t1 t2 bytes text more same count took k = record {
+two_writes {f} {f1} {f2} {t} {t1} {t2} {bytes} {more} same count took k = record {
   count = omega (arith, count, k.count);
   failed = λ e. HasRisen-earlier f f1 f2 count (k.failed e) k.count;
   all = λ e. subst (λ (s : List ℕ). Took t t2 (s ++ more)) same (Took-append t t1 t2 bytes more took (k.all e));
@@ -164,8 +164,8 @@ two_writes w f f1 f2 t t1 t2 bytes text more same count took k = record {
 }
 
 -- the first of two fails
-pub failed_first : (f f' : ℕ) (t t' : Option (List ℕ)) (bytes text more : List ℕ) → bytes ≡ text → f ≤ f' → HasRisen f f' → TookPart t t' bytes → IsWritten wrote.Failed f f' t t' (text ++ more)
-failed_first f f' t t' bytes text more same count risen part = record {
+pub failed_first : {f f' : ℕ} {t t' : Option (List ℕ)} {bytes text : List ℕ} (more : List ℕ) → bytes ≡ text → f ≤ f' → HasRisen f f' → TookPart t t' bytes → IsWritten wrote.Failed f f' t t' (text ++ more)
+failed_first {t} {t'} {text} more same count risen part = record {
   count = count;
   failed = λ _. risen;
   all = λ e. cc;

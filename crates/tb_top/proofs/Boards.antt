@@ -1,5 +1,5 @@
 -- What a script's run over a new board says of what was asked for.
-use Rattle.std.proofs.Common.{◌≡◌, ◌∙◌, ap, subst, ℕ, ◌≤◌, List, [], Option, inl, inr, refl, arith}
+use Rattle.std.proofs.Common.{◌≡◌, ◌⊎◌, ◌∙◌, ap, subst, ℕ, ◌≤◌, List, [], Option, inl, inr, refl, arith}
 use Rattle.std.specs.Prelude.{codes}
 use Rattle.tb_base.specs.declared.status.Status.{Status}
 use Rattle.tb_board.specs.Custodians.{CustodianValue, OpeningValue, first_custodian}
@@ -14,7 +14,7 @@ use Rattle.tb_script.specs.declared.run.RunEnd.{RunEnd}
 use Rattle.tb_script.specs.declared.run.RunEnd.TheVariants as run_end
 use Rattle.tb_serve.specs.Serves.{Output, output}
 use Rattle.tb_serve.specs.Serves as serves
-use Rattle.tb_keep.specs.JournalRuns.{AreLinesKept, IsJournalFault, IsJournalRun, JournalRun}
+use Rattle.tb_keep.specs.JournalRuns.{AreLinesKept, IsJournalFault, IsJournalRun, JournalRun, seen_of}
 use Rattle.tb_keep.specs.declared.recovery.JournalFault.{JournalFault}
 use Rattle.tb_keep.specs.declared.journal_run.KeepEnd.TheVariants as keep_end
 use Rattle.tb_lines.specs.Outputs.{AreReplies, ReplyValue}
@@ -25,6 +25,7 @@ use Rattle.tb_top.specs.KeepOutputs.{IsKeepAnswered, IsKeepLine, journal_fault_a
 use Rattle.tb_top.specs.Loading.{IsBase, census_over}
 use Rattle.tb_top.specs.Outputs.{AreAnswers}
 use Rattle.tb_top.specs.declared.endings.End.{End}
+use Rattle.tb_top.proofs.Earlier.{stands-earlier, stays-earlier, until-earlier}
 
 -- replies from what the custodian of a new board had seen are answers to what was asked for
 pub answers-on-board : (setup : SetupValue) (opening : OpeningValue) (custodian : CustodianValue) (script : ScriptValue) (replies : List ReplyValue)
@@ -37,9 +38,9 @@ answers-on-board setup opening custodian script replies made first are =
     subst Q first (subst P made are)
 
 -- a run that ended so from some moment on ended so from an earlier one, if nothing was taken between
-pub ended-later : (e : End) (s : Status) (f between f' : ℕ) (t mid t' : Option (List ℕ)) → f ≤ between → between ≤ f' → mid ≡ t
+pub ended-later : (e : End) {s : Status} {f between f' : ℕ} {t mid : Option (List ℕ)} (t' : Option (List ℕ)) → f ≤ between → between ≤ f' → mid ≡ t
     → IsEnded e s between f' mid t' → IsEnded e s f f' t t'
-ended-later e s f between f' t mid t' le up same h =
+ended-later e {s} {f} {between} {f'} t' le up same h =
     let P : Option (List ℕ) → Type 0 = λ x. IsEnded e s between f' x t' in
     elim (subst P same h) [
       | inl all ↦ inl all
@@ -61,9 +62,9 @@ pub refused-line : (fault : JournalFault) (name : FaultNameValue) (number at : �
 refused-line fault name number at word is one two three = rw (one, two, three, is) refl
 
 -- one that was written from some moment on was so from an earlier one, if nothing was taken between
-pub line-later : (text : List ℕ) (final s : Status) (f between f' : ℕ) (t mid t' : Option (List ℕ)) → f ≤ between → between ≤ f' → mid ≡ t
+pub line-later : (text : List ℕ) (final : Status) {s : Status} {f between f' : ℕ} {t mid : Option (List ℕ)} (t' : Option (List ℕ)) → f ≤ between → between ≤ f' → mid ≡ t
     → serves.IsEnded text final (output mid t' between f') s → serves.IsEnded text final (output t t' f f') s
-line-later text final s f between f' t mid t' le up same h =
+line-later text final {s} {f} {between} {f'} t' le up same h =
     let P : Option (List ℕ) → Type 0 = λ x. serves.IsEnded text final (output x t' between f') s in
     elim (subst P same h) [
       | inl all ↦ inl all
@@ -92,28 +93,41 @@ module _ (setup : SetupValue) (opening : OpeningValue) (custodian : CustodianVal
   fault-on-board content fault told = λ file h.
       subst (λ (base : ReleaseValue). IsJournalFault setup base file fault) same-base (told file h)
 
--- the disk's count of faults at an earlier moment
+-- what was seen is told from an earlier moment on
 module _ (census : CensusValue) (script : ScriptValue) (s : Status) (out : Output) (saw : JournalRun) (faults : ℕ) (le : faults ≤ saw.faults)
-    (up : saw.faults ≤ saw.faults_after) where
-  abbrev earlier : JournalRun
-  earlier = record saw { faults = faults }
+    (up : saw.faults ≤ saw.faults_after) (could_leave : List ℕ → Type 0) (could : (image : List ℕ) → saw.could_leave image → could_leave image)
+    (moment : ℕ) (later : moment ≤ saw.moment) (came : (image : List ℕ) → saw.left_since moment image → could_leave image ⊎ saw.left_since saw.moment image) where
+  abbrev then : JournalRun
+  then = record saw { moment = moment; could_leave = could_leave; faults = faults }
 
   lines-earlier : (end : RunEnd) → AreLinesKept census.setup (base_of census) script.lines end saw
-      → AreLinesKept census.setup (base_of census) script.lines end earlier
+      → AreLinesKept census.setup (base_of census) script.lines end then
   lines-earlier end h = record {
     batches = h.batches;
     recovered = h.recovered;
     first_moment = h.first_moment;
     first_faults = h.first_faults;
     since = omega (arith, le, h.since);
+    until = until-earlier (seen_of saw) faults could_leave could moment came later h.first_moment h.until;
     kept = record { last = h.kept.last; run = h.kept.run; left = h.kept.left; ever = h.kept.ever; counted = h.kept.counted };
   }
 
-  line-earlier : (final : Status) (text : List ℕ) → IsKeepLine census saw final text → IsKeepLine census earlier final text
-  line-earlier final text (inl refused) = inl refused
-  line-earlier final text (inr (rose, is, line)) = inr (HasRisen-earlier faults saw.faults saw.faults_after le rose up, is, line)
+  line-earlier : (final : Status) (text : List ℕ) → IsKeepLine census saw final text → IsKeepLine census then final text
+  line-earlier final text (inl (fault, refused, left, is, line)) = inl (
+    fault,
+    refused,
+    stays-earlier (seen_of saw) faults could_leave could moment came left,
+    is,
+    line,
+  )
+  line-earlier final text (inr (rose, stood, is, line)) = inr (
+    HasRisen-earlier faults saw.faults saw.faults_after le rose up,
+    stands-earlier (seen_of saw) faults could_leave could moment came stood,
+    is,
+    line,
+  )
 
-  pub answered-earlier : IsKeepAnswered census script s out saw → IsKeepAnswered census script s out earlier
+  pub answered-earlier : IsKeepAnswered census script s out saw → IsKeepAnswered census script s out then
   answered-earlier (inl (inl (is, lines))) = inl (inl (is, lines-earlier run_end.Done lines))
   answered-earlier (inl (inr (is, rose, lines))) = inl (inr (is, rose, lines-earlier run_end.WriteFault lines))
   answered-earlier (inr (free, inl ended)) = inr (free, inl ended)

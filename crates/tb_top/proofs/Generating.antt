@@ -36,36 +36,36 @@ differ : (a b : List ℕ) → bytes_eq a b ≡ false → a ≢ b
 differ a b apart same = true≢false (sym ((bytes_eq-Decides a b).1 same) ∙ apart)
 
 -- bytes are held under a name, by other names of both
-pub held-as : (before after : HeldFiles) (name bytes name' bytes' : List ℕ) → name ≡ name' → bytes ≡ bytes' → HasHeld before after name bytes
+pub held-as : {before after : HeldFiles} {name bytes name' bytes' : List ℕ} → name ≡ name' → bytes ≡ bytes' → HasHeld before after name bytes
     → HasHeld before after name' bytes'
-held-as before after name bytes name' bytes' n b h = rw (← n, ← b) h
+held-as n b h = rw (← n, ← b) h
 
 -- what is held for each file, one after another, stands under its own name
-pub hold-all : (a b c d e f : HeldFiles) (p : Population) → HasHeld a b (input_name input.Classes) generated_classes
+pub hold-all : {a b c d e f : HeldFiles} (p : Population) → HasHeld a b (input_name input.Classes) generated_classes
     → HasHeld b c (input_name input.Recodes) generated_recodes → HasHeld c d (input_name input.Ptable) (generated_ptable p.start)
     → HasHeld d e (input_name input.People) (generated_people p.persons p.start)
     → HasHeld e f (input_name input.Script) (generated_script p.persons p.start) → HoldGenerated p f
-hold-all a b c d e f p one two three four five input.Classes =
+hold-all p one two three four five input.Classes =
     five.others (input_name input.Classes) (differ (codes "classes") (codes "script") refl)
     ∙ four.others (input_name input.Classes) (differ (codes "classes") (codes "people") refl)
     ∙ three.others (input_name input.Classes) (differ (codes "classes") (codes "ptable") refl)
     ∙ two.others (input_name input.Classes) (differ (codes "classes") (codes "recodes") refl)
     ∙ one.here
-hold-all a b c d e f p one two three four five input.Recodes =
+hold-all p one two three four five input.Recodes =
     five.others (input_name input.Recodes) (differ (codes "recodes") (codes "script") refl)
     ∙ four.others (input_name input.Recodes) (differ (codes "recodes") (codes "people") refl)
     ∙ three.others (input_name input.Recodes) (differ (codes "recodes") (codes "ptable") refl)
     ∙ two.here
-hold-all a b c d e f p one two three four five input.Ptable =
+hold-all p one two three four five input.Ptable =
     five.others (input_name input.Ptable) (differ (codes "ptable") (codes "script") refl)
     ∙ four.others (input_name input.Ptable) (differ (codes "ptable") (codes "people") refl)
     ∙ three.here
-hold-all a b c d e f p one two three four five input.People =
+hold-all p one two three four five input.People =
     five.others (input_name input.People) (differ (codes "people") (codes "script") refl)
     ∙ four.here
-hold-all a b c d e f p one two three four five input.Dwellings = tt
-hold-all a b c d e f p one two three four five input.Links = tt
-hold-all a b c d e f p one two three four five input.Script =
+hold-all p one two three four five input.Dwellings = tt
+hold-all p one two three four five input.Links = tt
+hold-all p one two three four five input.Script =
     five.here
 
 -- so they are the contents of the script that runs over them

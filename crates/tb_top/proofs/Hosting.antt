@@ -10,7 +10,7 @@ use Rattle.tb_host.specs.Hosting.{Hosts, HostsAll}
 use Rattle.tb_host.specs.Sessions.{IsHosted, IsLeftAt}
 use Rattle.tb_io.proofs.FaultLemmas.{HasRisen-earlier}
 use Rattle.tb_keep.specs.JournalRuns.{after_playing}
-use Rattle.tb_keep.specs.Recoveries.{JournalSeen}
+use Rattle.tb_keep.specs.Seen.{IsAsItWas, JournalSeen, StandsAsBefore}
 use Rattle.tb_keep.specs.declared.recovery.JournalFault.{JournalFault}
 use Rattle.tb_model.specs.Releases.{ReleaseValue}
 use Rattle.tb_model.specs.Setups.{SetupValue}
@@ -32,6 +32,7 @@ use Rattle.tb_top.specs.Services.{IsIdle, ports_of}
 use Rattle.tb_top.specs.declared.command.Command.{Command}
 use Rattle.tb_top.proofs.Boards.{same-base}
 use Rattle.tb_top.proofs.DiskKept.{KeepsDisk, served-on-disk}
+use Rattle.tb_top.proofs.Earlier.{earlier, stands-earlier, stays-earlier, until-earlier}
 use Rattle.tb_top.proofs.PortLemmas.{all-same, all-unserved, each-idle, each-unserved, each-whole, idle-whole, risen-whole, same-idle, take-fresh, unserved}
 use Rattle.tb_top.proofs.Serving.{IsFinal, done_or_net, ending_of, final_is, keeps_by_final, risen-by, serves-alone, some_by, whole_by_output}
 
@@ -39,31 +40,33 @@ use Rattle.tb_top.proofs.Serving.{IsFinal, done_or_net, ending_of, final_is, kee
 
 module _ (census : CensusValue) (service : Service) (before after : List PortValue) (saw : JournalSeen) (out : Output) (s : Status)
     (faults : ℕ) (le : faults ≤ saw.faults) (up : saw.faults ≤ saw.faults_after)
-    (could_leave : List ℕ → Type 0) (could : (image : List ℕ) → saw.could_leave image → could_leave image) where
-  -- and what a stop could leave then
-  abbrev earlier : JournalSeen
-  earlier = record saw { could_leave = could_leave; faults = faults }
+    (could_leave : List ℕ → Type 0) (could : (image : List ℕ) → saw.could_leave image → could_leave image)
+    (moment : ℕ) (later : moment ≤ saw.moment) (came : (image : List ℕ) → saw.left_since moment image → could_leave image ⊎ saw.left_since saw.moment image) where
+  abbrev then : JournalSeen
+  then = earlier saw faults could_leave could moment came
 
-  pub run-earlier : IsHostRun census service before after saw out s → IsHostRun census service before after earlier out s
-  run-earlier (inl refused) = inl refused
-  run-earlier (inr (inl (none, same))) = inr (inl (none, same))
-  run-earlier (inr (inr (inl (same, rose, stands, ended)))) =
-      inr (inr (inl (
-        same,
-        HasRisen-earlier faults saw.faults saw.faults_after le rose up,
-        λ file h image left.
-            let one = stands file h image left in
-            record { first = one.first; left = could one.first one.left; same = one.same; stands = one.stands },
-        ended,
-      )))
-  run-earlier (inr (inr (inr (inl unbound)))) =
-      inr (inr (inr (inl (unbound.0, record { batches = unbound.1.batches; all = unbound.1.all; left = unbound.1.left }))))
+  stands : StandsAsBefore saw → StandsAsBefore then
+  stands = stands-earlier saw faults could_leave could moment came
+
+  stays : IsAsItWas saw → IsAsItWas then
+  stays = stays-earlier saw faults could_leave could moment came
+
+  pub run-earlier : IsHostRun census service before after saw out s → IsHostRun census service before after then out s
+  run-earlier (inl (fault, same, left, refused, ended)) = inl (fault, same, stays left, refused, ended)
+  run-earlier (inr (inl (none, same))) = inr (inl (none, stays same))
+  run-earlier (inr (inr (inl (same, rose, stood, ended)))) =
+      inr (inr (inl (same, HasRisen-earlier faults saw.faults saw.faults_after le rose up, stands stood, ended)))
+  run-earlier (inr (inr (inr (inl unbound)))) = inr (inr (inr (inl (
+    unbound.0,
+    record { batches = unbound.1.batches; all = unbound.1.all; left = unbound.1.left; ever = stands unbound.1.ever },
+  ))))
   run-earlier (inr (inr (inr (inr all)))) = inr (inr (inr (inr (record {
     batches = all.batches;
     recovered = all.recovered;
     first_moment = all.first_moment;
     first_faults = all.first_faults;
     since = omega (arith, le, all.since);
+    until = until-earlier saw faults could_leave could moment came later all.first_moment all.until;
     hosted = record {
       last = all.hosted.last;
       sessions = all.hosted.sessions;
@@ -94,9 +97,9 @@ module _ (setup : SetupValue) (opening : OpeningValue) (custodian : CustodianVal
       subst P (same-base setup opening custodian made first) (rw (sym one, sym two, sym three) h)
 
 -- a last line after which the sink is as it was before
-pub line-beside : (text : List ℕ) (final s : Status) (f between f' : ℕ) (t mid t' : Option (List ℕ)) → between ≡ f → mid ≡ t
+pub line-beside : (text : List ℕ) (final : Status) {s : Status} {f between f' : ℕ} {t mid : Option (List ℕ)} (t' : Option (List ℕ)) → between ≡ f → mid ≡ t
     → IsEnded text final (output mid t' between f') s → IsEnded text final (output t t' f f') s
-line-beside text final s f between f' t mid t' faults taken h =
+line-beside text final {s} {f} {f'} {mid} t' faults taken h =
     let P : Option (List ℕ) → ℕ → Type 0 = λ x n. IsEnded text final (output x t' n f') s in
     subst (λ x. P x f) taken (subst (P mid) faults h)
 
@@ -260,7 +263,7 @@ module _ (call : Call) (command : Command) (census : CensusValue) (journal : Lis
   by_run (inr (inl ((each, ended), left))) = by_no_memory each ended
   by_run (inr (inr (inl (same, rose, stands, ended)))) =
       by_same disk_line status.DiskFault tt (λ h. cc) (λ h. rose) (all-same n call.ports call.ports_after same rest)
-      (λ at h. inl (census, journal, inr (service, h), inr (rose, refl, refl))) ended
+      (λ at h. inl (census, journal, inr (service, h), inr (rose, stands, refl, refl))) ended
   by_run (inr (inr (inr (inl ((each, rose, ended), recovered))))) = by_unbound each rose ended
   by_run (inr (inr (inr (inr all)))) = by_all all
 

@@ -89,9 +89,9 @@ module _ (call : Call) (command : Command) (census : CensusValue) (journal : Lis
       (λ at h. subst (λ x. IsWhole call at x text) (sym is)
       (census, journal, inl (script, h), inl (fault, refused, left, refl, line)))
       (inr (inl (fault, is, line))) free ended
-  by_journal_line final text (inr (failed, is, line)) free ended =
+  by_journal_line final text (inr (failed, stood, is, line)) free ended =
       by_last_line final text (subst IsFinal (sym is) tt) (λ h. cc) (λ h. failed)
-      (λ at h. subst (λ x. IsWhole call at x text) (sym is) (inl (census, journal, inl (script, h), inr (failed, refl, line))))
+      (λ at h. subst (λ x. IsWhole call at x text) (sym is) (inl (census, journal, inl (script, h), inr (failed, stood, refl, line))))
       (inr (inr (is, line))) free ended
 
   -- a run that came to a script with a journal keeps all

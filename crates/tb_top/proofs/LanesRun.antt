@@ -78,8 +78,8 @@ phases-on-board setup opening custodian script n last made first go =
     (last, subst Q first (subst P made go), refl)
 
 -- the line that tells that memory ran out, after a text
-pub ended-after : (s : Status) (f between f' : ℕ) (t mid t' : Option (List ℕ)) (before : List ℕ) → f ≤ between → between ≤ f' → Took t mid before
+pub ended-after : {s : Status} {f between f' : ℕ} (t mid t' : Option (List ℕ)) (before : List ℕ) → f ≤ between → between ≤ f' → Took t mid before
     → IsEnded end.Memory s between f' mid t' → serves.IsEnded (before ++ last_line end.Memory) status.Memory (output t t' f f') s
-ended-after s f between f' t mid t' before le up took (inl (is, line)) = inl (is, Took-append t mid t' before (last_line end.Memory) took line)
-ended-after s f between f' t mid t' before le up took (inr (is, rose, part)) =
+ended-after t mid t' before le up took (inl (is, line)) = inl (is, Took-append t mid t' before (last_line end.Memory) took line)
+ended-after {f} {between} {f'} t mid t' before le up took (inr (is, rose, part)) =
     inr (is, TookPart-append t mid t' before (last_line end.Memory) took part, HasRisen-earlier f between f' le rose up)

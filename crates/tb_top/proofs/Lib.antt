@@ -2,6 +2,7 @@ pub mod AskingSteps
 pub mod Boards
 pub mod CommandWords
 pub mod DiskKept
+pub mod Earlier
 pub mod Finishing
 pub mod Following
 pub mod Generating

@@ -9,9 +9,9 @@ use Rattle.tb_base.specs.declared.records.Record.{Record}
 use Rattle.tb_base.specs.declared.keys.Keys.{Keys}
 use Rattle.tb_ptable.specs.Table.{TableValue}
 use Rattle.tb_model.specs.Schemas.{SchemaValue}
-use Rattle.tb_ptable.specs.Kinds.{fault_name as ptable_name}
+use Rattle.tb_ptable.specs.FaultNames.{fault_name as ptable_name}
 use Rattle.tb_ptable.specs.Lines.{perturbation_of}
-use Rattle.tb_records.specs.Kinds.{fault_name as people_name}
+use Rattle.tb_records.specs.FaultNames.{fault_name as people_name}
 use Rattle.tb_records.specs.People.{people_of}
 use Rattle.tb_rows.specs.FaultNames.{FaultNameValue}
 use Rattle.tb_rows.specs.declared.fault.Fault.{Fault}

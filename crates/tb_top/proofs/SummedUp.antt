@@ -10,8 +10,8 @@ use Rattle.tb_top.specs.Endings.{IsEnded}
 use Rattle.tb_top.specs.Outputs.{IsGenAnswered, IsScriptAnswered, IsSummedUp}
 use Rattle.tb_top.specs.Populations.{Population}
 
-module _ (population : Population) (census : CensusValue) (script : ScriptValue) (s : Status) (f f' : ℕ) (t t' : Option (List ℕ))
-    (steps steps' : ℕ) where
+module _ (population : Population) (census : CensusValue) (script : ScriptValue) {s : Status} {f f' : ℕ} (t t' : Option (List ℕ))
+    {steps steps' : ℕ} where
   -- a script that was answered to its end, and the text that its sink took
   pub summed : (answered : Status) (text : List ℕ) → answered ≡ status.Done
       → IsScriptAnswered (Script census script) answered 0 0 (Some []) (Some text) steps steps'

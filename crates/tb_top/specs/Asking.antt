@@ -6,15 +6,15 @@ use Rattle.tb_base.specs.declared.keys.Keys.{Keys}
 use Rattle.tb_model.specs.Releases.{ReleaseValue, first_release}
 use Rattle.tb_model.specs.Schemas.{SchemaValue}
 use Rattle.tb_model.specs.Setups.{SetupValue}
-use Rattle.tb_ptable.specs.Kinds.{fault_name as ptable_name}
+use Rattle.tb_ptable.specs.FaultNames.{fault_name as ptable_name}
 use Rattle.tb_ptable.specs.Lines.{perturbation_of}
 use Rattle.tb_ptable.specs.Table.{TableValue}
-use Rattle.tb_records.specs.Kinds.{fault_name as people_name}
+use Rattle.tb_records.specs.FaultNames.{fault_name as people_name}
 use Rattle.tb_records.specs.People.{people_of}
 use Rattle.tb_rows.specs.FaultNames.{FaultNameValue}
 use Rattle.tb_rows.specs.declared.fault.Fault.{Fault}
 use Rattle.tb_rows.specs.declared.fault.Fault.TheVariants as fault
-use Rattle.tb_schema.specs.Kinds.{fault_name as schema_name}
+use Rattle.tb_schema.specs.FaultNames.{fault_name as schema_name}
 use Rattle.tb_schema.specs.Recodes.{schema_of}
 use Rattle.tb_schema.specs.declared.fault.ClassFile.{ClassFile}
 use Rattle.tb_schema.specs.declared.fault.ClassFile.TheVariants as class_file
@@ -22,7 +22,7 @@ use Rattle.tb_schema.specs.declared.fault.SchemaFault.{SchemaFault}
 use Rattle.tb_schema.specs.declared.fault.SchemaFault.TheVariants as schema_fault
 use Rattle.tb_script.specs.Scripts.{ScriptValue, script_of}
 use Rattle.tb_model.specs.Units.{UnitsValue}
-use Rattle.tb_units.specs.Kinds.{fault_name as units_name}
+use Rattle.tb_units.specs.FaultNames.{fault_name as units_name}
 use Rattle.tb_units.specs.Units.{units_of}
 use Rattle.tb_units.specs.declared.fault.UnitsFault.{UnitsFault}
 use Rattle.tb_units.specs.declared.fault.UnitsFault.TheVariants as units_fault

@@ -9,7 +9,7 @@ use Rattle.tb_host.specs.Hosting.{HostsUntil}
 use Rattle.tb_host.specs.Sessions.{IsHosted, IsLeftAt}
 use Rattle.tb_keep.specs.JournalRuns.{IsJournalFault, after_playing}
 use Rattle.tb_keep.specs.Playing.{CanAllFollow}
-use Rattle.tb_keep.specs.Recoveries.{IsAsItWas, JournalSeen}
+use Rattle.tb_keep.specs.Seen.{IsAsItWas, JournalSeen}
 use Rattle.tb_keep.specs.declared.recovery.JournalFault.{JournalFault}
 use Rattle.tb_release.specs.declared.edits.Edit.{Edit}
 use Rattle.tb_serve.specs.Ports.{PortValue}
@@ -61,6 +61,7 @@ abbrev pub file_seen : DiskSeen → (journal : List ℕ) → JournalSeen
 file_seen disk journal = record {
   content = option_map (λ named. named journal) disk.named;
   content_after = disk.content;
+  moment = disk.moment;
   could_leave = disk.could_leave journal;
   may_leave = disk.may_leave;
   left_since = disk.left_since;

@@ -4,10 +4,11 @@ use Rattle.tb_base.specs.declared.status.Status.{Status}
 use Rattle.tb_base.specs.declared.status.Status.TheVariants as status
 use Rattle.tb_disk.specs.Images.{WhereTold}
 use Rattle.tb_io.specs.Faults.{HasRisen}
-use Rattle.tb_keep.specs.JournalRuns.{AreLinesKept, IsJournalFault, IsLeftAsItWas, JournalRun}
-use Rattle.tb_keep.specs.JournalRuns.{after_playing}
+use Rattle.tb_keep.specs.JournalRuns.{AreLinesKept, IsJournalFault, JournalRun, after_playing}
+use Rattle.tb_keep.specs.JournalRuns.{seen_of}
 use Rattle.tb_keep.specs.KeptRuns.{IsKeptReply}
 use Rattle.tb_keep.specs.Playing.{CanAllFollow}
+use Rattle.tb_keep.specs.Seen.{IsAsItWas, StandsAsBefore}
 use Rattle.tb_keep.specs.declared.recovery.JournalFault.{JournalFault}
 use Rattle.tb_keep.specs.declared.recovery.JournalFault.TheVariants as journal_fault
 use Rattle.tb_lines.specs.Outputs.{AreReplies, ReplyValue}
@@ -21,12 +22,13 @@ use Rattle.tb_top.specs.Endings.{fault_line, last_line}
 use Rattle.tb_top.specs.declared.endings.End.TheVariants as end
 
 -- what is seen of a disk: what each name had before it was attached, where that is told, and what a
--- stop could leave under it; whether it is attached at the end, and what a read then gives, where
+-- stop could leave under it; the moment before the call; whether it is attached at the end, and what a read then gives, where
 -- that is told; what a stop then may leave, and what one since a moment may have left; and its count
 -- of faults, before and after
 pub record DiskSeen : Type 1 where
   pub named : Option (List ℕ → List ℕ)
   pub could_leave : List ℕ → List ℕ → Type 0
+  pub moment : ℕ
   pub attached : Bool
   pub content : Option (List ℕ)
   pub may_leave : List ℕ → Type 0
@@ -37,10 +39,11 @@ pub record DiskSeen : Type 1 where
 -- the same of a disk by its ghost members, before and after a call
 abbrev pub disk_seen : {D : Type 0} → (D → Option (List ℕ → List ℕ))
     → (D → List ℕ → List ℕ → Type 0) → (D → Bool) → (D → Option (List ℕ))
-    → (D → List ℕ → Type 0) → (D → ℕ → List ℕ → Type 0) → (D → ℕ) → D → D → DiskSeen
-disk_seen named could_leave attached content may_leave left_since faults disk disk' = record {
+    → (D → List ℕ → Type 0) → (D → ℕ) → (D → ℕ → List ℕ → Type 0) → (D → ℕ) → D → D → DiskSeen
+disk_seen named could_leave attached content may_leave moment left_since faults disk disk' = record {
   named = named disk;
   could_leave = could_leave disk;
+  moment = moment disk;
   attached = attached disk';
   content = content disk';
   may_leave = may_leave disk';
@@ -82,6 +85,8 @@ abbrev pub kept_seen : DiskSeen → (journal : List ℕ) → (steps steps' : ℕ
 kept_seen disk journal steps steps' out = record {
   content = option_map (λ named. named journal) disk.named;
   content_after = disk.content;
+  moment = disk.moment;
+  could_leave = disk.could_leave journal;
   may_leave = disk.may_leave;
   left_since = disk.left_since;
   faults = disk.faults;
@@ -93,14 +98,16 @@ kept_seen disk journal steps steps' out = record {
 }
 
 -- a text is the last line of a run whose journal's file is refused, for this fault, and is left as
--- it was, or couldn't be read, since the disk failed; and that is its status
+-- it was, or couldn't be read, since the disk failed, and then each file that a stop in the run left
+-- stands as one that a stop before it could leave; and that is its status
 abbrev pub IsKeepLine : CensusValue → JournalRun → Status → List ℕ → Type 0
 IsKeepLine census saw s text =
     ((fault : JournalFault)
     × WhereTold saw.content (λ file.
     IsJournalFault census.setup (base_of census) file fault)
-    × IsLeftAsItWas saw × (s ≡ status.Journal) × (text ≡ journal_line fault))
-    ⊎ (HasRisen saw.faults saw.faults_after × (s ≡ status.DiskFault) × (text ≡ disk_line))
+    × IsAsItWas (seen_of saw) × (s ≡ status.Journal) × (text ≡ journal_line fault))
+    ⊎ (HasRisen saw.faults saw.faults_after × StandsAsBefore (seen_of saw)
+    × (s ≡ status.DiskFault) × (text ≡ disk_line))
 
 -- these are replies to the lines of a script, from some batches on that can all follow
 abbrev pub AreKeepReplies : CensusValue → ScriptValue → List ReplyValue → Type 0

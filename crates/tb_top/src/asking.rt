@@ -12,13 +12,19 @@ use crate::command::read_command;
 use crate::endings::End;
 use crate::load::{Asked, load};
 use std::alloc::Global;
+use std::thread::Threads;
 use tb_io::Files;
 use tb_words::in_positions;
 
 /// What these arguments ask for: their own test decides whether they are a command's; then `clap`
 /// puts them into their positions, before any file is read, and the files are read. It takes memory
 /// for the arguments twice, for `clap`, and as `load` does.
-pub fn ask<F: Files>(alloc: Global, words: &[String], files: &mut F) -> Result<Asked, End>
+pub fn ask<F: Files, R: Threads + Sync>(
+    rt: &R,
+    alloc: Global,
+    words: &[String],
+    files: &mut F,
+) -> Result<Asked, End>
     ensures first { IfOk result AskedIsFirst }
     ensures kind { IfOk result (λ asked. is_service (asked_value asked)
         ≡ asks_to_serve (command_of (map string_bytes words.now))) }
@@ -40,5 +46,5 @@ pub fn ask<F: Files>(alloc: Global, words: &[String], files: &mut F) -> Result<A
     let Some(command) = read_command(told.as_slice()) else {
         return Err(End::Usage);
     };
-    load(alloc, files, &command)
+    load(rt, alloc, files, &command)
 }

@@ -13,6 +13,7 @@ use crate::endings::{End, Input};
 use crate::load::{Asked, Scripted, load_scripted};
 use crate::population::Population;
 use std::alloc::Global;
+use std::thread::Threads;
 use tb_base::Memory;
 use tb_gen::files_of;
 use tb_io::SureFiles;
@@ -34,7 +35,11 @@ fn hold_generated(alloc: Global, population: &Population) -> Result<SureFiles, M
 
 /// What is asked for over the generated files of a population, which are accepted. It takes memory
 /// for the files, for each while it is read, and for what it says.
-pub fn load_generated(alloc: Global, population: &Population) -> Result<Asked, End>
+pub fn load_generated<R: Threads + Sync>(
+    rt: &R,
+    alloc: Global,
+    population: &Population,
+) -> Result<Asked, End>
     ensures first { IfOk result AskedIsFirst }
     ensures kind { IfOk result (λ asked. is_service (asked_value asked) ≡ false) }
     ensures keeps { IfOk result (λ asked. is_keep (asked_value asked) ≡ false) }
@@ -44,7 +49,7 @@ pub fn load_generated(alloc: Global, population: &Population) -> Result<Asked, E
     let mut files = hold_generated(alloc, population)?;
     let inputs = generated_inputs();
     let script = FileName::of(Input::Script.name());
-    let read = load_scripted(alloc, &mut files, &inputs, &script)?;
+    let read = load_scripted(rt, alloc, &mut files, &inputs, &script)?;
     let population = population.copy();
     let Scripted { census, script } = read;
     Ok(Asked::Gen {

@@ -3,6 +3,7 @@
 ghost use Rattle.std.specs.Prelude.{◌≡◌, ◌≤◌, ◌<◌, ◌+◌, All, drop, false, length, string_bytes};
 ghost use Rattle.std.specs.Prelude.{true, vec_len};
 ghost use Rattle.tb_base.specs.Records.{AllFit};
+ghost use Rattle.tb_disk.specs.Moments.{KeepsPast};
 ghost use Rattle.tb_model.specs.Schemas.{shape_of};
 ghost use Rattle.tb_serve.specs.Serves.{output};
 ghost use Rattle.tb_serve.specs.Stages.{IsFresh};
@@ -55,10 +56,12 @@ fn host_on_board<
     requires there { service.now.workers < length net.old }
     requires fresh { All IsFresh net.old }
     ensures disk_count { D.faults disk.old ≤ D.faults disk.new }
+    ensures past { KeepsPast D.moment D.left_since disk.old disk.new }
     ensures run { IsHostRun (census_over setup.now opening.start.base) service.now
         (ports_of service.now net.old) (ports_of service.now net.new) (record {
           content = D.content disk.old;
           content_after = D.content disk.new;
+          moment = D.moment disk.old;
           could_leave = D.may_leave disk.old;
           may_leave = D.may_leave disk.new;
           left_since = D.left_since disk.new;
@@ -103,7 +106,7 @@ fn host_opened<R: Threads + Wait + Sync, O: Sink, N: Listen + Send, D: Disk + Se
         net.old net.new result
         (output (O.taken out.old) (O.taken out.new) (O.faults out.old) (O.faults out.new))
         (disk_seen D.named D.could_leave D.attached D.content
-        D.may_leave D.left_since D.faults disk.old disk.new) }
+        D.may_leave D.moment D.left_since D.faults disk.old disk.new) }
 {
     match disk.attach(journal) {
         Done::All => {
@@ -134,7 +137,7 @@ fn host_from<R: Threads + Wait + Sync, O: Sink, N: Listen + Send, D: Disk + Send
         result
         (output (O.taken out.old) (O.taken out.new) (O.faults out.old) (O.faults out.new))
         (disk_seen D.named D.could_leave D.attached D.content
-        D.may_leave D.left_since D.faults disk.old disk.new) }
+        D.may_leave D.moment D.left_since D.faults disk.old disk.new) }
 {
     match Opening::new(alloc, setup.schema.shape(), base, FIRST_CAPACITY) {
         Ok(opening) => { host_opened(rt, alloc, setup, opening, journal, service, out, net, disk) }
@@ -160,7 +163,7 @@ fn host_census<R: Threads + Wait + Sync, O: Sink, N: Listen + Send, D: Disk + Se
     ensures { IsHostAnswered (census_value census) service.now journal.now net.old net.new result
         (output (O.taken out.old) (O.taken out.new) (O.faults out.old) (O.faults out.new))
         (disk_seen D.named D.could_leave D.attached D.content
-        D.may_leave D.left_since D.faults disk.old disk.new) }
+        D.may_leave D.moment D.left_since D.faults disk.old disk.new) }
 {
     let Census { setup, release } = census;
     host_from(rt, alloc, &setup, release, journal, service, out, net, disk)
@@ -187,7 +190,7 @@ pub(crate) fn answer_host<R: Threads + Wait + Sync, O: Sink, N: Listen + Send, D
         net.old.items net.new.items result
         (output (O.taken out.old) (O.taken out.new) (O.faults out.old) (O.faults out.new))
         (disk_seen D.named D.could_leave D.attached D.content
-        D.may_leave D.left_since D.faults disk.old disk.new) }
+        D.may_leave D.moment D.left_since D.faults disk.old disk.new) }
 {
     // Its clause tells that there is a port for each worker.
     let _ = service.port();

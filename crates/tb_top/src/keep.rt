@@ -2,6 +2,7 @@
 
 ghost use Rattle.std.specs.Prelude.{◌≡◌, ◌≤◌, false, string_bytes, true};
 ghost use Rattle.tb_base.specs.declared.status.Status.TheVariants as status;
+ghost use Rattle.tb_disk.specs.Moments.{KeepsPast};
 ghost use Rattle.tb_model.specs.Schemas.{shape_of};
 ghost use Rattle.tb_serve.specs.Serves.{IsEnded, output};
 ghost use Rattle.tb_top.specs.KeepOutputs.{IsKeepAnswered, disk_line, disk_seen, journal_line};
@@ -88,11 +89,14 @@ fn answer_on_board<B: Named, R: Threads + Wait + Sync, O: Sink, D: Disk, L: Ledg
     requires first { IsBase opening.start.base }
     requires attached { D.attached disk.old ≡ true }
     ensures disk_count { D.faults disk.old ≤ D.faults disk.new }
+    ensures past { KeepsPast D.moment D.left_since disk.old disk.new }
     ensures answered { IsKeepAnswered (census_over setup.now opening.start.base) script.now result
         (output (O.taken out.old) (O.taken out.new) (O.faults out.old) (O.faults out.new))
         (record {
           content = D.content disk.old;
           content_after = D.content disk.new;
+          moment = D.moment disk.old;
+          could_leave = D.may_leave disk.old;
           may_leave = D.may_leave disk.new;
           left_since = D.left_since disk.new;
           faults = D.faults disk.old;
@@ -136,7 +140,7 @@ fn keep_census<R: Threads + Wait + Sync, O: Sink, D: Disk, L: Ledger>(
         (O.faults out.old) (O.faults out.new) in
         IsKeepAnswered (census_value census) script.now result seen
         (kept_seen (disk_seen D.named D.could_leave D.attached D.content
-        D.may_leave D.left_since D.faults disk.old disk.new)
+        D.may_leave D.moment D.left_since D.faults disk.old disk.new)
         journal.now steps.old steps.new seen) }
 {
     let Census { setup, release } = census;
@@ -172,7 +176,7 @@ pub(crate) fn answer_keep<R: Threads + Wait + Sync, O: Sink, D: Disk, L: Ledger>
         (O.faults out.old) (O.faults out.new) in
         IsKeepAnswered (census_value census) script result seen
         (kept_seen (disk_seen D.named D.could_leave D.attached D.content
-        D.may_leave D.left_since D.faults disk.old disk.new)
+        D.may_leave D.moment D.left_since D.faults disk.old disk.new)
         (string_bytes journal) steps.old steps.new seen) }
 {
     let name = journal.as_str();

@@ -76,7 +76,7 @@ pub fn run_in_memory<N: Listen + Send, D: Disk + Send, L: Ledger>(
         let call = memory_call arguments files.old files.new out.old out.new
         net.old.items net.new.items
         (disk_seen D.named D.could_leave D.attached D.content
-        D.may_leave D.left_since D.faults disk.old disk.new) steps.old steps.new in
+        D.may_leave D.moment D.left_since D.faults disk.old disk.new) steps.old steps.new in
         Adds call files.old out.old out.new result }
     // A read fault's line names the file of the reading that failed, which was the last.
     ensures read { result ≡ status.ReadFault
@@ -85,7 +85,7 @@ pub fn run_in_memory<N: Listen + Send, D: Disk + Send, L: Ledger>(
         let call = memory_call arguments files.old files.new out.old out.new
         net.old.items net.new.items
         (disk_seen D.named D.could_leave D.attached D.content
-        D.may_leave D.left_since D.faults disk.old disk.new) steps.old steps.new in
+        D.may_leave D.moment D.left_since D.faults disk.old disk.new) steps.old steps.new in
         IsDefined call (bytes_of files.old.held) result }
 {
     tablebuilder(rt, alloc, words, files, out, net, disk, steps)

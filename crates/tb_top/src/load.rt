@@ -26,10 +26,11 @@ use crate::generated::load_generated;
 use crate::population::Population;
 use crate::service::Service;
 use std::alloc::Global;
+use std::thread::Threads;
 use tb_base::{Keys, People, Rules};
 use tb_io::{FileRead, Files};
 use tb_ptable::PTable;
-use tb_records::read_people;
+use tb_records::read_people_in_parts;
 use tb_release::Release;
 use tb_schema::Schema;
 use tb_script::{MOST_SCRIPT_BYTES, Script, ScriptFault};
@@ -193,8 +194,10 @@ fn load_ptable<F: Files>(
     }
 }
 
-// The persons of the microdata. The bytes of the file are freed at the return.
-fn load_people<F: Files>(
+// The persons of the microdata, which threads read where the file is long. The bytes of the file are
+// freed at the return.
+fn load_people<F: Files, R: Threads + Sync>(
+    rt: &R,
     alloc: Global,
     files: &mut F,
     name: &FileName<'_>,
@@ -210,14 +213,19 @@ fn load_people<F: Files>(
         (people_in schema.now) result }
 {
     let bytes = read_bytes(alloc, files, Input::People, name)?;
-    match read_people(alloc, schema, &bytes) {
+    match read_people_in_parts(rt, alloc, schema, &bytes) {
         Ok(people) => Ok(people),
         Err(fault) => Err(End::of(Input::People, fault)),
     }
 }
 
 // The setup and release 0, which is made when no file's bytes are held any more.
-fn load_census<F: Files>(alloc: Global, files: &mut F, inputs: &Inputs<'_>) -> Result<Census, End>
+fn load_census<F: Files, R: Threads + Sync>(
+    rt: &R,
+    alloc: Global,
+    files: &mut F,
+    inputs: &Inputs<'_>,
+) -> Result<Census, End>
     ensures first { IfOk result IsFirst }
     ensures loads { Loads
         (reading F.content F.faults F.readings files.old files.new)
@@ -228,7 +236,7 @@ fn load_census<F: Files>(alloc: Global, files: &mut F, inputs: &Inputs<'_>) -> R
 {
     let schema = load_schema(alloc, files, inputs)?;
     let ptable = load_ptable(alloc, files, &inputs.ptable, schema.keys())?;
-    let people = load_people(alloc, files, &inputs.people, &schema)?;
+    let people = load_people(rt, alloc, files, &inputs.people, &schema)?;
     let rules = Rules::new(alloc, inputs.threshold);
     let release = Release::first(alloc, people, rules)?;
     let setup = Setup {
@@ -286,7 +294,8 @@ fn with_units(census: Census, units: Units) -> Census
 }
 
 // The setup with dwellings, and release 0.
-fn load_counted<F: Files>(
+fn load_counted<F: Files, R: Threads + Sync>(
+    rt: &R,
     alloc: Global,
     files: &mut F,
     inputs: &Inputs<'_>,
@@ -301,7 +310,7 @@ fn load_counted<F: Files>(
         census_value
         (counted_in inputs.now) result }
 {
-    let census = load_census(alloc, files, inputs)?;
+    let census = load_census(rt, alloc, files, inputs)?;
     let keys = keys_of(&census.setup);
     let units = load_units(alloc, files, keys, dwellings, links)?;
     Ok(with_units(census, units))
@@ -325,7 +334,8 @@ fn load_script<F: Files>(alloc: Global, files: &mut F, name: &FileName<'_>) -> R
 }
 
 /// The census and the script of that name, which is read last.
-pub(crate) fn load_scripted<F: Files>(
+pub(crate) fn load_scripted<F: Files, R: Threads + Sync>(
+    rt: &R,
     alloc: Global,
     files: &mut F,
     inputs: &Inputs<'_>,
@@ -339,13 +349,14 @@ pub(crate) fn load_scripted<F: Files>(
         scripted_value
         (scripted_in inputs.now) result }
 {
-    let census = load_census(alloc, files, inputs)?;
+    let census = load_census(rt, alloc, files, inputs)?;
     let script = load_script(alloc, files, script)?;
     Ok(Scripted { census, script })
 }
 
 // The census with dwellings, and the script of that name, which is read last.
-fn load_counted_script<F: Files>(
+fn load_counted_script<F: Files, R: Threads + Sync>(
+    rt: &R,
     alloc: Global,
     files: &mut F,
     inputs: &Inputs<'_>,
@@ -362,13 +373,14 @@ fn load_counted_script<F: Files>(
         scripted_value
         (counted_script_in inputs.now) result }
 {
-    let census = load_counted(alloc, files, inputs, dwellings, links)?;
+    let census = load_counted(rt, alloc, files, inputs, dwellings, links)?;
     let script = load_script(alloc, files, script)?;
     Ok(Scripted { census, script })
 }
 
 // The census, and a journal's name and a service to have over it.
-fn load_host<F: Files>(
+fn load_host<F: Files, R: Threads + Sync>(
+    rt: &R,
     alloc: Global,
     files: &mut F,
     inputs: &Inputs<'_>,
@@ -385,7 +397,7 @@ fn load_host<F: Files>(
         asked_value
         (host_in inputs.now journal.now service.now) result }
 {
-    let census = load_census(alloc, files, inputs)?;
+    let census = load_census(rt, alloc, files, inputs)?;
     let journal = String::from_str(alloc, journal.as_str())?;
     let service = service.copy();
     Ok(Asked::Host {
@@ -399,7 +411,12 @@ fn load_host<F: Files>(
 /// PEOPLE and the task's, if it has any, each checked before the next is read, but for DWELLINGS
 /// and LINKS, which are checked once both are read. For a generated population it reads none, and
 /// makes them. It takes memory for each file while it is read, and for what it says.
-pub fn load<F: Files>(alloc: Global, files: &mut F, command: &Command<'_>) -> Result<Asked, End>
+pub fn load<F: Files, R: Threads + Sync>(
+    rt: &R,
+    alloc: Global,
+    files: &mut F,
+    command: &Command<'_>,
+) -> Result<Asked, End>
     ensures first { IfOk result AskedIsFirst }
     ensures kind { IfOk result (λ asked. is_service (asked_value asked)
         ≡ asks_to_serve (Some command.now)) }
@@ -416,12 +433,12 @@ pub fn load<F: Files>(alloc: Global, files: &mut F, command: &Command<'_>) -> Re
 {
     match command {
         Command::Script { inputs, script } => {
-            let read = load_scripted(alloc, files, inputs, script)?;
+            let read = load_scripted(rt, alloc, files, inputs, script)?;
             let Scripted { census, script } = read;
             Ok(Asked::Script { census, script })
         }
         Command::Lanes { inputs, script } => {
-            let read = load_scripted(alloc, files, inputs, script)?;
+            let read = load_scripted(rt, alloc, files, inputs, script)?;
             let Scripted { census, script } = read;
             Ok(Asked::Lanes { census, script })
         }
@@ -430,7 +447,7 @@ pub fn load<F: Files>(alloc: Global, files: &mut F, command: &Command<'_>) -> Re
             journal,
             script,
         } => {
-            let read = load_scripted(alloc, files, inputs, script)?;
+            let read = load_scripted(rt, alloc, files, inputs, script)?;
             let Scripted { census, script } = read;
             let journal = String::from_str(alloc, journal.as_str())?;
             Ok(Asked::Keep {
@@ -440,7 +457,7 @@ pub fn load<F: Files>(alloc: Global, files: &mut F, command: &Command<'_>) -> Re
             })
         }
         Command::Follow { inputs, script } => {
-            let read = load_scripted(alloc, files, inputs, script)?;
+            let read = load_scripted(rt, alloc, files, inputs, script)?;
             let Scripted { census, script } = read;
             Ok(Asked::Follow { census, script })
         }
@@ -450,7 +467,7 @@ pub fn load<F: Files>(alloc: Global, files: &mut F, command: &Command<'_>) -> Re
             links,
             script,
         } => {
-            let read = load_counted_script(alloc, files, inputs, dwellings, links, script)?;
+            let read = load_counted_script(rt, alloc, files, inputs, dwellings, links, script)?;
             let Scripted { census, script } = read;
             Ok(Asked::Script { census, script })
         }
@@ -458,17 +475,17 @@ pub fn load<F: Files>(alloc: Global, files: &mut F, command: &Command<'_>) -> Re
             inputs,
             journal,
             service,
-        } => load_host(alloc, files, inputs, journal, service),
+        } => load_host(rt, alloc, files, inputs, journal, service),
         Command::Mirror { inputs, service } => {
-            let census = load_census(alloc, files, inputs)?;
+            let census = load_census(rt, alloc, files, inputs)?;
             let service = service.copy();
             Ok(Asked::Mirror { census, service })
         }
         Command::Serve { inputs, service } => {
-            let census = load_census(alloc, files, inputs)?;
+            let census = load_census(rt, alloc, files, inputs)?;
             let service = service.copy();
             Ok(Asked::Serve { census, service })
         }
-        Command::Gen { population } => load_generated(alloc, population),
+        Command::Gen { population } => load_generated(rt, alloc, population),
     }
 }

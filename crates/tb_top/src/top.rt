@@ -191,7 +191,7 @@ fn answer<R: Threads + Wait + Sync, O: Sink, N: Listen + Send, D: Disk + Send, L
     requires attached { D.attached disk.old ≡ false }
     ensures { IsAnswered (asked_value asked) net.old.items net.new.items
         (disk_seen D.named D.could_leave D.attached D.content
-        D.may_leave D.left_since D.faults disk.old disk.new) result
+        D.may_leave D.moment D.left_since D.faults disk.old disk.new) result
         (O.faults out.old) (O.faults out.new) (O.taken out.old) (O.taken out.new)
         steps.old steps.new }
 {
@@ -276,10 +276,10 @@ pub fn tablebuilder<F: Files, O: Sink, N: Listen + Send, D: Disk + Send, L: Ledg
         (output (O.taken out.old) (O.taken out.new) (O.faults out.old) (O.faults out.new))
         net.old.items net.new.items
         (disk_seen D.named D.could_leave D.attached D.content
-        D.may_leave D.left_since D.faults disk.old disk.new) steps.old steps.new)
+        D.may_leave D.moment D.left_since D.faults disk.old disk.new) steps.old steps.new)
         result }
 {
-    match ask(alloc, words, files) {
+    match ask(rt, alloc, words, files) {
         Ok(asked) => answer(rt, alloc, asked, out, net, disk, steps),
         Err(end) => end_by(&end, out),
     }

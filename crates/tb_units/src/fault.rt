@@ -2,7 +2,7 @@
 
 ghost use Rattle.std.specs.Prelude.{◌≡◌};
 ghost use Rattle.tb_units.specs.Faults.{in_file as value_in_file};
-ghost use Rattle.tb_units.specs.Kinds.{fault_name};
+ghost use Rattle.tb_units.specs.FaultNames.{fault_name};
 
 use tb_rows::{Fault, FaultKind, FaultName};
 use thiserror::Error;

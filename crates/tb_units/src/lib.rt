@@ -11,8 +11,8 @@
 //! (what each says, or its first fault), `specs/Whole` (what is true of all that was read),
 //! `specs/Pairs` (pairs by their first numbers), `specs/Chains` and `specs/Slots` (the chains and
 //! the array), `specs/Forms` (how links are kept), `specs/Faults` (which file a fault is in) and
-//! `specs/Kinds` (the numbers and words of the faults); `laws` says what that means for a whole
-//! file (`specs/WholeFiles`).
+//! `specs/FaultNames` (the numbers and words of the faults); `laws` says what that means for a
+//! whole file (`specs/WholeFiles`).
 //!
 //! Of the lemmas, `proofs/PairLemmas` serves the look-ups by hash, `SlotLemmas` those by the array,
 //! `ChainLemmas` one more link in the chains, `Sound` what is true of all that was read, and

@@ -111,15 +111,15 @@ module _ {S : Type 0} (Legal : S → List (List ℕ) → List ReplyValue → S �
   none_came a b p can at_end same calm = (none_served a b p can same, calm, subst (λ (o : Option (List Connection)). IsAtEnd o) (sym same.to_come) at_end)
 
   -- more sessions served after others
-  pub served_more : (a b c : ListenerValue) (p q r : S) (vs ws : List Visit) → AreServed Legal fresh a b p q vs → AreServed Legal fresh b c q r ws → AreServed Legal fresh a c p r (vs ++ ws)
-  served_more a b c p q r vs ws x y = record {
+  pub served_more : {a b c : ListenerValue} {p q r : S} {vs ws : List Visit} → AreServed Legal fresh a b p q vs → AreServed Legal fresh b c q r ws → AreServed Legal fresh a c p r (vs ++ ws)
+  served_more {a} {b} {c} {p} {q} {r} {vs} {ws} x y = record {
     given = given_more a b c vs ws x.given y.given;
     port = y.port ∙ x.port;
     lead = visits_more p q r vs ws x.lead y.lead;
   }
 
   none_more : (a b c : ListenerValue) (p q r : S) (vs : List Visit) → AreServed Legal fresh a b p q vs → AreServed Legal fresh b c q r [] → AreServed Legal fresh a c p r vs
-  none_more a b c p q r vs x y = subst (λ (l : List Visit). AreServed Legal fresh a c p r l) (append-nil vs) (served_more a b c p q r vs [] x y)
+  none_more a b c p q r vs x y = subst (λ (l : List Visit). AreServed Legal fresh a c p r l) (append-nil vs) (served_more x y)
 
   -- a worker stops where it served all that it was to
   pub worked_all : (most : ℕ) (a b : ListenerValue) (p q : S) (vs : List Visit) → AreServed Legal fresh a b p q vs → length vs ≡ most → IsCalm a b → HasWorked Legal fresh most a b p q most false
@@ -131,9 +131,9 @@ module _ {S : Type 0} (Legal : S → List (List ℕ) → List ReplyValue → S �
   }
 
   -- where none is left to come
-  pub worked_out : (most served : ℕ) (a b c : ListenerValue) (p q r : S) (vs : List Visit) → AreServed Legal fresh a b p q vs → length vs ≡ served → IsCalm a b → served ≤ most
+  pub worked_out : (most served : ℕ) {a b c : ListenerValue} {p q r : S} {vs : List Visit} → AreServed Legal fresh a b p q vs → length vs ≡ served → IsCalm a b → served ≤ most
       → HasStepped Legal fresh b c q r next.NoneCame → HasWorked Legal fresh most a c p r served false
-  worked_out most served a b c p q r vs x n calm le step = record {
+  worked_out most served {a} {b} {c} {p} {q} {r} {vs} x n calm le step = record {
     visits = vs;
     visited = none_more a b c p q r vs x step.0;
     counted = sym n;
@@ -141,9 +141,9 @@ module _ {S : Type 0} (Legal : S → List (List ℕ) → List ReplyValue → S �
   }
 
   -- and where the accept failed
-  pub worked_badly : (most served : ℕ) (a b c : ListenerValue) (p q r : S) (vs : List Visit) → AreServed Legal fresh a b p q vs → length vs ≡ served → served ≤ most
+  pub worked_badly : (most served : ℕ) {a b c : ListenerValue} {p q r : S} {vs : List Visit} → AreServed Legal fresh a b p q vs → length vs ≡ served → served ≤ most
       → HasStepped Legal fresh b c q r next.Failed → HasWorked Legal fresh most a c p r served true
-  worked_badly most served a b c p q r vs x n le step = record {
+  worked_badly most served {a} {b} {c} {p} {q} {r} {vs} x n le step = record {
     visits = vs;
     visited = none_more a b c p q r vs x step.0;
     counted = sym n;

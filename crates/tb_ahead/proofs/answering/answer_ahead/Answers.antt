@@ -8,7 +8,7 @@ returns-then-asks_to_publish-clause-replied g c =
     let done = c.publish_ahead.ensures.replied in
     record {
       reply = done.reply;
-      step = as_asked g.W.WriteAhead.target g.W.WriteAhead.live g.W.WriteAhead.faults g.W.WriteAhead.StandsFor (g.P.Publisher.Step c.args.setting.now) (g.P.Publisher.publishes c.args.line.now)
+      step = as_asked g.W.WriteAhead.Continues g.W.WriteAhead.live g.W.WriteAhead.faults g.W.WriteAhead.StandsFor (g.P.Publisher.Step c.args.setting.now) (g.P.Publisher.publishes c.args.line.now)
           (keeper (g.P.Publisher.base c.args.party.now) (g.P.Publisher.state c.args.party.now) c.args.ahead.now) c.args.line.now done.reply
           (keeper (g.P.Publisher.base c.publish_ahead.new.party) (g.P.Publisher.state c.publish_ahead.new.party) c.publish_ahead.new.ahead)
           (sym c.asks_to_publish.ensures ∙ c.if-asks_to_publish.true) done.step;
@@ -24,7 +24,7 @@ returns-clause-replied g c =
       reply = done.reply;
       step = (
         c.answer_line.ensures.base,
-        refl,
+        g.met.W.WriteAhead.continues_itself c.args.ahead.now,
         other_line (g.P.Publisher.Step c.args.setting.now base) base c.args.line.now (g.P.Publisher.state c.args.party.now) (g.P.Publisher.state c.answer_line.new.self)
             (g.W.WriteAhead.StandsFor c.args.ahead.now) (g.W.WriteAhead.StandsFor c.args.ahead.now) _ _ _ _ _ done.reply
             (sym c.asks_to_publish.ensures ∙ c.if-asks_to_publish.false) done.step refl refl (λ since batches further stands. stands),

@@ -18,7 +18,7 @@ returns-in-Refused-clause-replied g c =
       reply = done.reply;
       step = (
         c.answer_line.ensures.base ∙ tried.base,
-        refl,
+        g.met.W.WriteAhead.continues_itself c.args.ahead.now,
         by_refusal (Own base) base c.args.line.now old new
             (g.W.WriteAhead.StandsFor c.args.ahead.now) (g.W.WriteAhead.StandsFor c.args.ahead.now) _ _ _ _ refl refl (λ since batches further stands. stands) kind edit why done.reply
             (g.met.P.Publisher.publishing c.args.setting.now base old c.args.line.now done.reply new c.requires.asks own),
@@ -36,7 +36,7 @@ returns-in-Memory-clause-replied g c =
       reply = free_reply memory_line;
       step = (
         tried.base,
-        refl,
+        g.met.W.WriteAhead.continues_itself c.args.ahead.now,
         by_memory (g.P.Publisher.Step c.args.setting.now base) base c.args.line.now (g.P.Publisher.state c.args.party.now) (g.P.Publisher.state c.try_next.new.self)
             (g.W.WriteAhead.StandsFor c.args.ahead.now) (g.W.WriteAhead.StandsFor c.args.ahead.now) _ _ _ _ refl (omega arith) (λ since batches further stands. stands) tried.state,
       );

@@ -15,9 +15,9 @@ returns-in-Kept-clause-replied g c =
       reply = done.reply;
       step = (
         c.answer_line-done.ensures.base,
-        c.close_unless_none.ensures.target ∙ c.in-Kept.ensures.target,
+        g.met.W.WriteAhead.continues_on c.args.ahead.now c.put_held.new.ahead c.close_unless_none.new.ahead c.in-Kept.ensures.continues c.close_unless_none.ensures.continues,
         by_kept (g.P.Publisher.Step c.args.setting.now base) base c.args.line.now old new
-            (g.W.WriteAhead.StandsFor c.args.ahead.now) (g.W.WriteAhead.StandsFor c.put_held.new.ahead) (g.W.WriteAhead.StandsFor c.close_unless_none.new.ahead) _ _ _ _ _ _
+            (g.W.WriteAhead.StandsFor c.args.ahead.now) (g.W.WriteAhead.StandsFor c.put_held.new.ahead) (g.W.WriteAhead.StandsFor c.close_unless_none.new.ahead)
             c.in-Kept.ensures.kept c.close_unless_none.ensures.closes c.close_unless_none.ensures.count c.requires.follows (g.met.W.WriteAhead.further c.close_unless_none.new.ahead) done.reply
             (g.met.P.Publisher.publishing c.args.setting.now base old c.args.line.now done.reply new c.requires.asks done.step),
       );
@@ -33,7 +33,7 @@ returns-in-DiskFault-clause-replied g c =
       reply = free_reply unkept_line;
       step = (
         refl,
-        c.in-DiskFault.ensures.target,
+        c.in-DiskFault.ensures.continues,
         by_unkept (g.P.Publisher.Step c.args.setting.now base) base c.args.line.now old old
             (g.W.WriteAhead.StandsFor c.args.ahead.now) (g.W.WriteAhead.StandsFor c.put_held.new.ahead) _ _ _ _ c.in-DiskFault.ensures.kept c.requires.follows refl,
       );
@@ -50,7 +50,7 @@ returns-in-Memory-clause-replied g c =
       reply = free_reply memory_line;
       step = (
         refl,
-        c.in-Memory.ensures.target,
+        c.in-Memory.ensures.continues,
         by_no_memory (g.P.Publisher.Step c.args.setting.now base) base c.args.line.now old old
             (g.W.WriteAhead.StandsFor c.args.ahead.now) (g.W.WriteAhead.StandsFor c.put_held.new.ahead) _ _ _ _ c.in-Memory.ensures.kept refl,
       );

@@ -63,7 +63,7 @@ returns-clause-cells c =
     cube-narrowed kept c.args.vars.now c.deref-2.result.now kept.cells c.in_ok-cells.cells.items c.cube.invariant.cube.whole c.len.ensures.ascending
     among few fits steps refl (c.in_ok-cells.ensures.many ∙ long)
     (λ p i below. c.in_ok-cells.ensures.sums p i (omega (arith, below, c.in_ok-cells.ensures.many))) in
-    made-cube _ _ _ _ _ _ c.in_ok-copy.ensures c.in_ok-copy-2.ensures cells
+    made-cube c.in_ok-copy.ensures c.in_ok-copy-2.ensures cells
     ∙ ap (narrowed_to c.args.vars.now) c.cube.view_is
 
 pub returns-clause-held : goal.returns-clause-held

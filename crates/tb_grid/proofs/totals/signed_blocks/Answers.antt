@@ -17,12 +17,12 @@ loop-block-preserved c =
           elim (cases_lt o b) [
             | inl h ↦
                 let low : at o < b * (n * m) = block-before o b n m (n - 1) r h (omega arith) below in
-                same-sign c.args.sign (modulus p) _ _ _ _ _ _ refl refl (sym (c.signed_rows.ensures.rest p (at o) (inl (omega arith))))
+                same-sign c.args.sign (modulus p) refl refl (sym (c.signed_rows.ensures.rest p (at o) (inl (omega arith))))
                 (c.loop-block.invariant.last p o r h below)
             | inr h ↦
                 let here : o ≡ b = omega arith in
                 let was = λ (i : ℕ) (after : b * (n * m) ≤ i). c.loop-block.invariant.later p i after in
-                rw here (same-sign c.args.sign (modulus p) _ _ _ _ _ _
+                rw here (same-sign c.args.sign (modulus p)
                 (sum-range _ _ 0 (n - 1) (λ e _. was (b * (n * m) + e * m + r) (omega arith))) (was (at b) (omega arith)) refl
                 (c.signed_rows.ensures.last p r below))
           ];

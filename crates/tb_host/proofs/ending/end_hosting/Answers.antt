@@ -7,7 +7,7 @@ pub returns-then-live : goal.returns-then-live
 returns-then-live g c = record { ended = where_live c.args.live c.args.ports.now c.args.release _ _ (search rules) c.end_with_report.ensures.ended }
 
 pub returns-in-All : goal.returns-in-All
-returns-in-All g c = record { ended = where_not_live c.args.live c.args.ports.now c.args.release _ _ (search rules) (ended_well _ _ _ _ _ _ _ c.in-All.ensures.written refl) }
+returns-in-All g c = record { ended = where_not_live c.args.live c.args.ports.now c.args.release _ _ (search rules) (ended_well c.in-All.ensures.written refl) }
 
 pub returns-in-Failed : goal.returns-in-Failed
-returns-in-Failed g c = record { ended = where_not_live c.args.live c.args.ports.now c.args.release _ _ (search rules) (ended_badly _ _ _ _ _ _ c.in-Failed.ensures.written) }
+returns-in-Failed g c = record { ended = where_not_live c.args.live c.args.ports.now c.args.release _ _ (search rules) (ended_badly c.in-Failed.ensures.written) }

@@ -3,7 +3,7 @@ use Rattle.std.specs.Prelude.{Result}
 use Rattle.std.proofs.Math.Seq.{take-append_seam}
 use Rattle.tb_base.specs.declared.status.Status.{Status}
 use Rattle.tb_host.specs.Hosting.{Hosts}
-use Rattle.tb_keep.specs.Recoveries.{JournalSeen}
+use Rattle.tb_keep.specs.Seen.{JournalSeen}
 use Rattle.tb_keep.specs.declared.recovery.JournalFault.{JournalFault}
 use Rattle.tb_model.specs.Releases.{ReleaseValue}
 use Rattle.tb_model.specs.Setups.{SetupValue}

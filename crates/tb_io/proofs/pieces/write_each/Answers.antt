@@ -6,7 +6,7 @@ use Rattle.tb_io.proofs.pieces.write_each.Goals as goal
 
 pub returns-in-Failed : goal.returns-in-Failed
 returns-in-Failed g c = record {
-  written = cut_written _ _ _ _ _ _ c.loop-piece.invariant.count c.write.ensures.count (c.in-Failed.ensures.failed refl)
+  written = cut_written c.loop-piece.invariant.count c.write.ensures.count (c.in-Failed.ensures.failed refl)
       (TookPart-more _ _ _ (map (λ p. p.now) c.args.pieces.now) c.loop-piece.piece-index _ (rw length-map c.loop-piece-test.true) (get_or-map _ c.args.pieces.now c.loop-piece.piece-index _ [] c.loop-piece-test.true) c.loop-piece.invariant.took (c.in-Failed.ensures.part refl));
 }
 

@@ -1,5 +1,6 @@
 use Rattle.std.proofs.Common.{refl}
 use Rattle.tb_disk.proofs.Going.{joins, weaker}
+use Rattle.tb_disk.proofs.Past.{past-then}
 use Rattle.tb_disk.proofs.Telling.{forward, back, Leads-then}
 use Rattle.tb_journal.specs.Records.{payload_behind}
 use Rattle.tb_journal.specs.Stops.{EndsWithOrWithout}
@@ -16,7 +17,7 @@ write_through-requires-in-All-clause-durable g c = λ next told. let was = back 
 
 pub returns-in-All-clause-put : goal.returns-in-All-clause-put
 returns-in-All-clause-put g c = λ all.
-    Leads-then _ _ _ _ _ _ (c.in-All.ensures.through refl) (c.write_through-in-All.ensures.through all)
+    Leads-then _ _ (c.in-All.ensures.through refl) (c.write_through-in-All.ensures.through all)
     (λ file next last was first second. puts file c.args.place (payload_behind c.args.behind.now) c.args.behind.now c.saturating_add.result _ (c.requires.ready file was) c.requires.payload c.requires.behind c.saturating_add.ensures next _ first last _ second)
 
 pub returns-in-All-clause-any_moment : goal.returns-in-All-clause-any_moment
@@ -34,3 +35,7 @@ pub returns-in-Failed-clause-any_moment : goal.returns-in-Failed-clause-any_mome
 returns-in-Failed-clause-any_moment g c = λ file told.
     weaker g.D.Disk.moment g.D.Disk.left_since c.args.disk.now c.write_through.new.disk _ (EndsWithOrWithout file (payload_behind c.args.behind.now)) (c.write_through.ensures.any_moment file told)
     (first-leaves file c.args.place (payload_behind c.args.behind.now) c.args.behind.now c.saturating_add.result _ (c.requires.ready file told) c.requires.payload c.requires.behind c.saturating_add.ensures)
+
+pub returns-in-All-clause-past : goal.returns-in-All-clause-past
+returns-in-All-clause-past g c =
+    past-then g.D.Disk.moment g.D.Disk.left_since c.args.disk.now c.write_through.new.disk c.write_through-in-All.new.disk c.write_through.ensures.past c.write_through-in-All.ensures.past

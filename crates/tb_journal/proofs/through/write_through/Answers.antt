@@ -2,6 +2,7 @@ use Rattle.std.proofs.Common.{length, refl, sym, ◌∙◌, ap}
 use Rattle.std.specs.Prelude.{is_none}
 use Rattle.tb_disk.specs.Images.{Torn}
 use Rattle.tb_disk.proofs.Going.{starts, goes_on}
+use Rattle.tb_disk.proofs.Past.{past-call, past-then}
 use Rattle.tb_disk.proofs.Telling.{Leads-same, Leads-tells}
 use Rattle.tb_disk.proofs.Tearing.{Torn-follows, Torn-start}
 use Rattle.tb_journal.proofs.through.write_through.Goals as goal
@@ -34,3 +35,12 @@ returns-in-Failed-clause-tells g c = Leads-tells _ _ _ (c.in-Failed.ensures.outs
 
 pub returns-in-All-clause-tells : goal.returns-in-All-clause-tells
 returns-in-All-clause-tells g c = ap is_none c.sync.ensures.same ∙ Leads-tells _ _ _ (c.in-All.ensures.written refl)
+
+pub returns-in-Failed-clause-past : goal.returns-in-Failed-clause-past
+returns-in-Failed-clause-past g c = past-call g.D.Disk.may_leave g.D.Disk.moment g.D.Disk.left_since g.met.D.Disk.counts_now c.args.disk.now (g.met.D.Disk.only_now c.args.disk.now) c.write_at.new.self c.write_at.ensures.time
+
+pub returns-in-All-clause-past : goal.returns-in-All-clause-past
+returns-in-All-clause-past g c =
+    past-then g.D.Disk.moment g.D.Disk.left_since c.args.disk.now c.write_at.new.self c.sync.new.self
+    (past-call g.D.Disk.may_leave g.D.Disk.moment g.D.Disk.left_since g.met.D.Disk.counts_now c.args.disk.now (g.met.D.Disk.only_now c.args.disk.now) c.write_at.new.self c.write_at.ensures.time)
+    (past-call g.D.Disk.may_leave g.D.Disk.moment g.D.Disk.left_since g.met.D.Disk.counts_now c.write_at.new.self (g.met.D.Disk.only_now c.write_at.new.self) c.sync.new.self c.sync.ensures.time)

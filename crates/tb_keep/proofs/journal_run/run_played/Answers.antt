@@ -1,4 +1,5 @@
 use Rattle.std.proofs.Common.{rules, ◌∙◌, ap}
+use Rattle.tb_disk.proofs.Past.{past-as}
 use Rattle.tb_session.specs.declared.custody.Custody.{Custody}
 use Rattle.tb_keep.proofs.JournalRunning.{lines-kept}
 use Rattle.tb_keep.proofs.journal_run.run_played.Goals as goal
@@ -13,3 +14,8 @@ pub returns-clause-unwritten : goal.returns-clause-unwritten
 returns-clause-unwritten g c = λ is.
     let (base, into, reaches) = c.run_kept-end.ensures.run in
     search rules
+
+pub returns-clause-past : goal.returns-clause-past
+returns-clause-past g c =
+    let (base, into, reaches) = c.run_kept-end.ensures.run in
+    past-as g.D.Disk.moment g.D.Disk.left_since c.args.disk.now _ _ (search rules) into.1

@@ -11,7 +11,7 @@ play_next-requires-clause-few g c = omega (arith, c.loop-read.invariant.few, c.l
 pub loop-read-init : goal.loop-read-init
 loop-read-init g c =
     none-read g.D.Disk.content g.D.Disk.may_leave g.D.Disk.moment g.D.Disk.left_since g.D.Disk.faults g.D.Disk.attached g.B.Named.name c.args.setup.now c.args.custodian.now c.args.disk.now
-    c.args.journal.now c.requires.own c.requires.attached c.requires.opened c.requires.on (g.met.D.Disk.only_now c.args.disk.now)
+    c.args.journal.now c.requires.own c.requires.attached c.requires.opened c.requires.on g.met.D.Disk.counts_now (g.met.D.Disk.only_now c.args.disk.now)
 
 pub loop-read-preserved : goal.loop-read-preserved
 loop-read-preserved g c =

@@ -22,13 +22,13 @@ write_one-requires-clause-tells g c =
 pub loop-n-preserved : goal.loop-n-preserved
 loop-n-preserved g c = λ texts tell.
     let told = ap (λ (l : Lane g.row.G.Denot). l.sink) c.index-lanes-n.is ∙ tell c.loop-n.n c.index-lanes-n.result c.loop-n-test.true in
-    lane_written c.args.script.now c.args.phase texts _ _ _ _ _ _ c.loop-n.n (c.loop-n.invariant texts tell)
+    lane_written c.args.script.now c.args.phase texts c.loop-n.n (c.loop-n.invariant texts tell)
     (c.in-All.ensures (texts c.loop-n.n) told)
 
 pub returns-in-Failed : goal.returns-in-Failed
 returns-in-Failed g c = λ texts tell.
     let told = ap (λ (l : Lane g.row.G.Denot). l.sink) c.index-lanes-n.is ∙ tell c.loop-n.n c.index-lanes-n.result c.loop-n-test.true in
-    lane_cut c.args.script.now c.args.phase texts _ _ _ _ _ _ c.loop-n.n (length (lanes_of c.args.script.now.lines)) (omega (arith, c.loop-n-test.true, c.requires.all))
+    lane_cut c.args.script.now c.args.phase texts c.loop-n.n (length (lanes_of c.args.script.now.lines)) (omega (arith, c.loop-n-test.true, c.requires.all))
     (c.loop-n.invariant texts tell) (c.in-Failed.ensures (texts c.loop-n.n) told)
 
 pub returns : goal.returns

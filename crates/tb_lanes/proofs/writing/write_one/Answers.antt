@@ -9,7 +9,7 @@ pub returns-then-not-lane : goal.returns-then-not-lane
 returns-then-not-lane g c = λ text tells.
     let script = c.args.script.now in
     let none = sym c.requires.knows ∙ c.if-not-lane.true in
-    written_as _ _ _ _ _ _ _ (says_nothing (lane_at script c.args.n) (lines_at script c.args.phase c.args.n) text none)
+    written_as (says_nothing (lane_at script c.args.n) (lines_at script c.args.phase c.args.n) text none)
     (all_written _ _ _ _ _ (omega arith) (Took-nothing _))
 
 pub returns : goal.returns
@@ -18,7 +18,7 @@ returns g c = λ text tells.
     let some = sym c.requires.knows ∙ c.if-not-lane.false in
     let name = c.as_bytes.ensures.value ∙ c.lane_name.ensures in
     let said = c.text_in-text.ensures text tells in
-    written_as _ _ _ _ _ _ _
+    written_as
     (ap (λ (l : List ℕ). lane_line l ++ c.text_in-text.result.now) name ∙ ap (λ (t : List ℕ). lane_line (lane_at script c.args.n) ++ t) said
     ∙ says_text (lane_at script c.args.n) (lines_at script c.args.phase c.args.n) text some)
     c.write_lane.ensures

@@ -17,30 +17,30 @@ lines-init g c = record {
 
 pub returns-in-End-clause-session : goal.returns-in-End-clause-session
 returns-in-End-clause-session g c =
-    session-end (AtPrice (g.A.Answerer.Step c.args.setting.now tt)) _ _ _ _ _ _ _ _ _ c.lines.invariant.so_far _ c.next_line.new.self.ahead _ (g.S.Source.left c.next_line.new.source) c.lines-test.true c.in-End.ensures.next c.in-End.ensures.takes
+    session-end (AtPrice (g.A.Answerer.Step c.args.setting.now tt)) c.lines.invariant.so_far _ c.next_line.new.self.ahead _ (g.S.Source.left c.next_line.new.source) c.lines-test.true c.in-End.ensures.next c.in-End.ensures.takes
     (λ t. ap g.S.Source.left (c.in-End.ensures.ended t).1)
 
 pub returns-in-TooLong-clause-session : goal.returns-in-TooLong-clause-session
 returns-in-TooLong-clause-session g c =
     let goes = had_not c.lines.lines.ended next_line.TooLong (λ t. (c.in-TooLong.ensures.ended t).0) (λ e. (cc)) in
-    session-long (AtPrice (g.A.Answerer.Step c.args.setting.now tt)) _ _ _ _ _ _ _ _ _ c.lines.invariant.so_far c.refuse.result _ c.next_line.new.self.ahead _ _ _ c.lines-test.true goes (c.in-TooLong.ensures.next goes) (c.in-TooLong.ensures.takes goes) c.refuse.ensures.refused
+    session-long (AtPrice (g.A.Answerer.Step c.args.setting.now tt)) c.lines.invariant.so_far c.refuse.result _ c.next_line.new.self.ahead _ _ _ c.lines-test.true goes (c.in-TooLong.ensures.next goes) (c.in-TooLong.ensures.takes goes) c.refuse.ensures.refused
 
 pub returns-in-ReadFault-clause-session : goal.returns-in-ReadFault-clause-session
 returns-in-ReadFault-clause-session g c =
     let goes = had_not c.lines.lines.ended next_line.ReadFault (λ t. (c.in-ReadFault.ensures.ended t).0) (λ e. (cc)) in
-    session-broken (AtPrice (g.A.Answerer.Step c.args.setting.now tt)) _ _ _ _ _ _ _ _ _ c.lines.invariant.so_far _ c.next_line.new.self.ahead _ (g.S.Source.left c.next_line.new.source) c.lines-test.true goes (c.in-ReadFault.ensures.takes goes)
+    session-broken (AtPrice (g.A.Answerer.Step c.args.setting.now tt)) c.lines.invariant.so_far _ c.next_line.new.self.ahead _ (g.S.Source.left c.next_line.new.source) c.lines-test.true goes (c.in-ReadFault.ensures.takes goes)
 
 pub returns-then-is_quit-clause-session : goal.returns-then-is_quit-clause-session
 returns-then-is_quit-clause-session g c =
     let goes = had_not c.lines.lines.ended next_line.Line (λ t. (c.in-Line.ensures.ended t).0) (λ e. (cc)) in
-    session-quit (AtPrice (g.A.Answerer.Step c.args.setting.now tt)) _ _ _ _ _ _ _ _ _ c.lines.invariant.so_far _ c.next_line.new.self.ahead _ (g.S.Source.left c.next_line.new.source) c.lines-test.true goes (c.in-Line.ensures.next goes) (c.in-Line.ensures.takes goes)
+    session-quit (AtPrice (g.A.Answerer.Step c.args.setting.now tt)) c.lines.invariant.so_far _ c.next_line.new.self.ahead _ (g.S.Source.left c.next_line.new.source) c.lines-test.true goes (c.in-Line.ensures.next goes) (c.in-Line.ensures.takes goes)
     (c.in-Line.ensures.short refl) (ap is_quit (sym c.line-line.ensures) ∙ sym c.is_quit.ensures ∙ c.if-is_quit.true)
 
 pub returns-in-Failed-clause-session : goal.returns-in-Failed-clause-session
 returns-in-Failed-clause-session g c =
     let h = c.in-Failed.ensures.replied in
     let goes = had_not c.lines.lines.ended next_line.Line (λ t. (c.in-Line.ensures.ended t).0) (λ e. (cc)) in
-    session-cut (AtPrice (g.A.Answerer.Step c.args.setting.now tt)) _ _ _ _ _ _ _ _ _ c.lines.invariant.so_far (charged (g.A.Answerer.state c.answer.new.self) c.answer.new.steps) c.next_line.new.self.line c.next_line.new.self.ahead _ h.reply (g.S.Source.left c.next_line.new.source) _ c.lines-test.true
+    session-cut (AtPrice (g.A.Answerer.Step c.args.setting.now tt)) c.lines.invariant.so_far (charged (g.A.Answerer.state c.answer.new.self) c.answer.new.steps) c.next_line.new.self.line c.next_line.new.self.ahead _ h.reply (g.S.Source.left c.next_line.new.source) _ c.lines-test.true
     goes (c.in-Line.ensures.next goes) (c.in-Line.ensures.takes goes) (c.in-Line.ensures.end goes) (c.in-Line.ensures.short refl) (ap is_quit (sym c.line-line.ensures) ∙ sym c.is_quit.ensures ∙ c.if-is_quit.false)
     (subst (λ (l : List ℕ). g.A.Answerer.Step c.args.setting.now tt (g.A.Answerer.state c.lines.party) l h.reply (g.A.Answerer.state c.answer.new.self)) c.line-line.ensures h.step, h.cost) (h.written.part refl)
 
@@ -53,11 +53,11 @@ lines-preserved g c =
       reads = omega (arith, c.lines.invariant.reads, c.in-Line.ensures.count);
       writes = omega (arith, c.lines.invariant.writes, h.written.count);
       live = c.in-Line.ensures.live.1 refl;
-      so_far = so_far-more (AtPrice (g.A.Answerer.Step c.args.setting.now tt)) _ _ _ _ _ _ _ _ _ c.lines.invariant.so_far (charged (g.A.Answerer.state c.answer.new.self) c.answer.new.steps) c.next_line.new.self.line c.next_line.new.self.ahead c.next_line.new.self.ended h.reply (g.S.Source.left c.next_line.new.source) _
+      so_far = so_far-more (AtPrice (g.A.Answerer.Step c.args.setting.now tt)) c.lines.invariant.so_far (charged (g.A.Answerer.state c.answer.new.self) c.answer.new.steps) c.next_line.new.self.line c.next_line.new.self.ahead c.next_line.new.self.ended h.reply (g.S.Source.left c.next_line.new.source) _
           goes (c.in-Line.ensures.next goes) (c.in-Line.ensures.takes goes) (c.in-Line.ensures.end goes) (c.in-Line.ensures.short refl) (ap is_quit (sym c.line-line.ensures) ∙ sym c.is_quit.ensures ∙ c.if-is_quit.false)
           (subst (λ (l : List ℕ). g.A.Answerer.Step c.args.setting.now tt (g.A.Answerer.state c.lines.party) l h.reply (g.A.Answerer.state c.answer.new.self)) c.line-line.ensures h.step, h.cost) (h.written.all refl);
     }
 
 pub returns-clause-session : goal.returns-clause-session
 returns-clause-session g c =
-    session-full (AtPrice (g.A.Answerer.Step c.args.setting.now tt)) _ _ _ _ _ _ _ _ _ c.lines.invariant.so_far (omega arith)
+    session-full (AtPrice (g.A.Answerer.Step c.args.setting.now tt)) c.lines.invariant.so_far (omega arith)

@@ -21,7 +21,7 @@ returns-in-Failed-clause-answered g c =
     let h = c.in-Failed.ensures.replied in
     let (line, here, asks, is) = same_line (g.T.LineList.Asks c.args.lines.now) g.T.LineList.text (g.T.LineList.lines c.args.lines.now) c.loop-i.i c.who-who.result c.line-line.result.now c.who-who.ensures c.line-line.ensures.text in
     let step = subst (λ (t : List ℕ). g.A.Answerer.Step c.args.setting.now c.who-who.result (g.A.Answerer.state c.loop-i.party) t h.reply (g.A.Answerer.state c.answer.new.self)) is h.step in
-    answered-cut (AtPrice (StepBy (g.T.LineList.Asks c.args.lines.now) g.T.LineList.text (g.A.Answerer.Step c.args.setting.now))) (g.T.LineList.lines c.args.lines.now) c.loop-i.i _ _ _ _ _ _ (omega arith) c.loop-i.invariant.so_far
+    answered-cut (AtPrice (StepBy (g.T.LineList.Asks c.args.lines.now) g.T.LineList.text (g.A.Answerer.Step c.args.setting.now))) (g.T.LineList.lines c.args.lines.now) c.loop-i.i (omega arith) c.loop-i.invariant.so_far
     line h.reply here ((c.who-who.result, asks, step), h.cost) (h.written.part refl)
 
 pub loop-i-preserved : goal.loop-i-preserved
@@ -32,7 +32,7 @@ loop-i-preserved g c =
     record {
       ready = c.in-All.ensures.ready;
       count = omega (arith, c.loop-i.invariant.count, h.written.count);
-      so_far = answered-more (AtPrice (StepBy (g.T.LineList.Asks c.args.lines.now) g.T.LineList.text (g.A.Answerer.Step c.args.setting.now))) (g.T.LineList.lines c.args.lines.now) c.loop-i.i _ _ _ _ _ _ (omega arith) c.loop-i.invariant.so_far
+      so_far = answered-more (AtPrice (StepBy (g.T.LineList.Asks c.args.lines.now) g.T.LineList.text (g.A.Answerer.Step c.args.setting.now))) (g.T.LineList.lines c.args.lines.now) c.loop-i.i (omega arith) c.loop-i.invariant.so_far
           line h.reply here ((c.who-who.result, asks, step), h.cost) (h.written.all refl);
     }
 

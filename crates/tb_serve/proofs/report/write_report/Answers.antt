@@ -7,10 +7,10 @@ use Rattle.tb_serve.proofs.report.write_report.Goals as goal
 
 pub returns-in-All : goal.returns-in-All
 returns-in-All g c = record {
-  written = written_as _ _ _ _ _ _ _ (ap (λ failed. concat (worker_lines 0 c.args.ports.now) ++ closing c.args.release failed)
+  written = written_as (ap (λ failed. concat (worker_lines 0 c.args.ports.now) ++ closing c.args.release failed)
       c.requires.failed)
-      (written_then _ _ _ _ _ _ _ _ _ c.in-All.ensures.written c.write_closing.ensures.written);
+      (written_then c.in-All.ensures.written c.write_closing.ensures.written);
 }
 
 pub returns-in-Failed : goal.returns-in-Failed
-returns-in-Failed g c = record { written = cut_before _ _ _ _ _ _ c.in-Failed.ensures.written }
+returns-in-Failed g c = record { written = cut_before _ c.in-Failed.ensures.written }

@@ -5,13 +5,13 @@ use Rattle.tb_serve.proofs.report.write_workers.Goals as goal
 
 pub loop-i-preserved : goal.loop-i-preserved
 loop-i-preserved g c =
-    line_more _ _ _ _ _ _ c.args.ports.now c.loop-i.i c.served-served.result c.index-ports-i.result (omega arith)
+    line_more c.args.ports.now c.loop-i.i c.served-served.result c.index-ports-i.result (omega arith)
     (c.served-served.ensures ∙ ap (λ (p : PortValue). p.served) c.index-ports-i.is) c.loop-i.invariant
     c.in-All.ensures.written
 
 pub returns-in-Failed : goal.returns-in-Failed
 returns-in-Failed g c = record {
-  written = line_cut _ _ _ _ _ _ c.args.ports.now c.loop-i.i c.served-served.result c.index-ports-i.result (omega arith)
+  written = line_cut c.args.ports.now c.loop-i.i c.served-served.result c.index-ports-i.result (omega arith)
       (c.served-served.ensures ∙ ap (λ (p : PortValue). p.served) c.index-ports-i.is) c.loop-i.invariant
       c.in-Failed.ensures.written;
 }

@@ -6,6 +6,6 @@ use Rattle.tb_session.proofs.reply.write_batch_refusal.Goals as goal
 
 pub returns : goal.returns
 returns g c = record {
-  written = written_as c.write_all.result _ _ _ _ _ _
-      (batch-parts _ _ _ _ _ _ c.print_number-edit_len.ensures.digits (c.print_number-number_len.ensures.digits ∙ ap decimal (c.from.ensures ∙ c.number.ensures)) (c.as_bytes-word.ensures.value ∙ c.word.ensures)) c.write_all.ensures.written;
+  written = written_as {w = c.write_all.result}
+      (batch-parts c.print_number-edit_len.ensures.digits (c.print_number-number_len.ensures.digits ∙ ap decimal (c.from.ensures ∙ c.number.ensures)) (c.as_bytes-word.ensures.value ∙ c.word.ensures)) c.write_all.ensures.written;
 }

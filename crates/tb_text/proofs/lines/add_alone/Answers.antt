@@ -10,8 +10,8 @@ returns-then-at-cells-clause-on g c = nothing_added _ _ _ _ (rw (drop_all c.args
 pub returns-in_err-add_line-clause-cut : goal.returns-in_err-add_line-clause-cut
 returns-in_err-add_line-clause-cut g c =
     on_err c.from_residual.result _
-    (cut_as _ _ _ _ _ _ (ap (λ x. c.args.waiting.now ++ x) (alone_line c.args.setup.now c.args.rules.now _ c.args.cells.now c.args.at _ _ (omega arith) c.shown-shown.ensures)) c.in_err-add_line.ensures.cut)
+    (cut_as (ap (λ x. c.args.waiting.now ++ x) (alone_line c.args.setup.now c.args.rules.now _ c.args.cells.now c.args.at _ _ (omega arith) c.shown-shown.ensures)) c.in_err-add_line.ensures.cut)
 
 pub returns-clause-on : goal.returns-clause-on
 returns-clause-on g c =
-    on_as _ _ _ _ _ _ _ (ap (λ x. c.args.waiting.now ++ x) (alone_line c.args.setup.now c.args.rules.now _ c.args.cells.now c.args.at _ _ (omega arith) c.shown-shown.ensures)) c.in_ok-add_line.ensures.on
+    on_as (ap (λ x. c.args.waiting.now ++ x) (alone_line c.args.setup.now c.args.rules.now _ c.args.cells.now c.args.at _ _ (omega arith) c.shown-shown.ensures)) c.in_ok-add_line.ensures.on

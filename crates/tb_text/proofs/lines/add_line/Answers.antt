@@ -5,7 +5,7 @@ use Rattle.tb_text.proofs.lines.add_line.Goals as goal
 
 pub returns-then-fit_line-clause-on : goal.returns-then-fit_line-clause-on
 returns-then-fit_line-clause-on g c =
-    waits _ _ _ _ c.args.waiting.now _ c.args.waiting.now (line_of (take c.args.begin_len c.args.begin.now) (take c.args.field_len c.args.field.now) c.args.shown)
+    waits (line_of (take c.args.begin_len c.args.begin.now) (take c.args.field_len c.args.field.now) c.args.shown)
     (c.fit_line.ensures.fit c.if-fit_line.true) (all_waits _ _ c.args.waiting.now)
 
 pub returns-clause-on : goal.returns-clause-on

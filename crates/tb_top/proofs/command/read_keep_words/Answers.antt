@@ -7,7 +7,7 @@ pub returns : goal.returns
 returns c =
     let words = c.args.words.now in
     let eight : length words ≡ 8 = omega (arith, c.in-len8.len_at_least, c.in-len8.len_below) in
-    c.read_keep.ensures ∙ keep-named (map string_bytes words) _ _ _ _ _ _ _ _ (length-map words string_bytes ∙ eight)
+    c.read_keep.ensures ∙ keep-named (map string_bytes words) (length-map words string_bytes ∙ eight)
     (word-read words string_bytes 0 c.command-item.result c.as_str.result.now
     (omega (arith, c.in-len8.len_at_least)) c.command-item.is c.as_str.ensures.value)
     (is-equal _ c.if-ne.ensures)

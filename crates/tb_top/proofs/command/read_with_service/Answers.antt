@@ -7,7 +7,7 @@ pub returns : goal.returns
 returns c =
     let words = c.args.words.now in
     let nine : length words ≡ 9 = omega (arith, c.in-len9.len_at_least, c.in-len9.len_below) in
-    c.read_service_inputs.ensures ∙ with-service c.args.word.now (map string_bytes words) _ _ _ _ _ _ _ _ _ (length-map words string_bytes ∙ nine)
+    c.read_service_inputs.ensures ∙ with-service c.args.word.now (map string_bytes words) (length-map words string_bytes ∙ nine)
     (word-read words string_bytes 0 c.command-item.result c.as_str.result.now
     (omega (arith, c.in-len9.len_at_least)) c.command-item.is c.as_str.ensures.value)
     (is-equal _ c.if-ne.ensures)

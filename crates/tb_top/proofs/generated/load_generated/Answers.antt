@@ -28,13 +28,13 @@ made_of p q files inputs name read content sure held is one two h =
     (loads-gen p q inputs generated_inputs name (input_name input.Script) read is one two h)
 
 pub returns-clause-makes : goal.returns-clause-makes
-returns-clause-makes c =
+returns-clause-makes g c =
     made_of c.args.population.now c.copy-population.result c.in_ok-files.files _ _ (Ok c.in_ok-read.read) refl HasRisen-zero
     c.in_ok-files.ensures.held c.copy-population.ensures c.generated_inputs-inputs.ensures (c.of-script.ensures ∙ c.name.ensures)
     c.in_ok-read.ensures.loads
 
 pub returns-in_err-read-clause-makes : goal.returns-in_err-read-clause-makes
-returns-in_err-read-clause-makes c =
+returns-in_err-read-clause-makes g c =
     let p = err_from_is_err_and c.from_residual-in_err-read.result c.from_residual-in_err-read.ensures.1 in
     let made = made_of c.args.population.now c.args.population.now c.in_ok-files.files _ _ (Err _) refl HasRisen-zero
     c.in_ok-files.ensures.held refl c.generated_inputs-inputs.ensures (c.of-script.ensures ∙ c.name.ensures)
@@ -42,7 +42,7 @@ returns-in_err-read-clause-makes c =
     rw (p.1, p.2) made
 
 pub returns-in_err-read-clause-accepted : goal.returns-in_err-read-clause-accepted
-returns-in_err-read-clause-accepted c =
+returns-in_err-read-clause-accepted g c =
     let p = err_from_is_err_and c.from_residual-in_err-read.result c.from_residual-in_err-read.ensures.1 in
     let made = made_of c.args.population.now c.args.population.now c.in_ok-files.files _ _ (Err _) refl HasRisen-zero
     c.in_ok-files.ensures.held refl c.generated_inputs-inputs.ensures (c.of-script.ensures ∙ c.name.ensures)

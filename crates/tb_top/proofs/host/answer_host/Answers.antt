@@ -19,6 +19,6 @@ returns g c =
     let back : take c.args.net.now.len (new ++ drop (length new) ports) ≡ new = written-back c.args.net.now.len ports new full same in
     let out = output (g.O.Sink.taken c.args.out.now) (g.O.Sink.taken c.host_census.new.out) (g.O.Sink.faults c.args.out.now)
     (g.O.Sink.faults c.host_census.new.out) in
-    let disk = disk_seen g.D.Disk.named g.D.Disk.could_leave g.D.Disk.attached g.D.Disk.content g.D.Disk.may_leave g.D.Disk.left_since g.D.Disk.faults c.args.disk.now c.host_census.new.disk in
+    let disk = disk_seen g.D.Disk.named g.D.Disk.could_leave g.D.Disk.attached g.D.Disk.content g.D.Disk.may_leave g.D.Disk.moment g.D.Disk.left_since g.D.Disk.faults c.args.disk.now c.host_census.new.disk in
     subst (λ (ps : List PortValue). IsHostAnswered (census_value c.args.census) c.args.service.now (string_bytes c.args.journal) ports ps c.host_census.result out disk) (sym back)
     (rw (c.as_str-name.ensures.value, value) at c.host_census.ensures)

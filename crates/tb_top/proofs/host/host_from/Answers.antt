@@ -13,7 +13,7 @@ pub returns-in-Ok : goal.returns-in-Ok
 returns-in-Ok g c =
     let out = output (g.O.Sink.taken c.args.out.now) (g.O.Sink.taken c.host_opened.new.out) (g.O.Sink.faults c.args.out.now)
     (g.O.Sink.faults c.host_opened.new.out) in
-    let disk = disk_seen g.D.Disk.named g.D.Disk.could_leave g.D.Disk.attached g.D.Disk.content g.D.Disk.may_leave g.D.Disk.left_since g.D.Disk.faults c.args.disk.now c.host_opened.new.disk in
+    let disk = disk_seen g.D.Disk.named g.D.Disk.could_leave g.D.Disk.attached g.D.Disk.content g.D.Disk.may_leave g.D.Disk.moment g.D.Disk.left_since g.D.Disk.faults c.args.disk.now c.host_opened.new.disk in
     subst (λ (base : ReleaseValue). IsHostAnswered (census_over c.args.setup.now base) c.args.service.now c.args.journal.now c.args.net.now
     c.host_opened.new.net c.host_opened.result out disk) (ap (λ (start : StartValue). start.base) c.in-Ok.ensures) c.host_opened.ensures
 

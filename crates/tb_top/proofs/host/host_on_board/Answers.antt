@@ -1,6 +1,6 @@
 use Rattle.std.proofs.Common.{refl, Ok, Err, inl, inr}
 use Rattle.tb_base.specs.declared.status.Status.TheVariants as status
-use Rattle.tb_keep.specs.Recoveries.{JournalSeen}
+use Rattle.tb_keep.specs.Seen.{JournalSeen}
 use Rattle.tb_serve.specs.Serves.{output}
 use Rattle.tb_top.specs.KeepOutputs.{journal_line}
 use Rattle.tb_top.proofs.Hosting.{hosts-on-board, line-beside}
@@ -19,6 +19,7 @@ returns-clause-run g c =
     let saw : JournalSeen = record {
       content = g.D.Disk.content c.args.disk.now;
       content_after = g.D.Disk.content disk;
+      moment = g.D.Disk.moment c.args.disk.now;
       could_leave = g.D.Disk.may_leave c.args.disk.now;
       may_leave = g.D.Disk.may_leave disk;
       left_since = g.D.Disk.left_since disk;
@@ -30,4 +31,4 @@ returns-clause-run g c =
     let (ports, taken, faults, left, refused) = hosts-on-board c.args.setup.now c.args.opening _ c.new-board.ensures.custodian c.requires.first
     c.args.service.now c.args.net.now c.serve_with_journal.new.net saw out _ _ _ c.port-port.ensures.port c.workers-workers.ensures
     c.sessions-sessions.ensures (Err fault) c.in-Err.ensures.hosts in
-    inl (fault, ports, left, refused, line-beside (journal_line fault) status.Journal _ _ _ _ _ _ _ faults taken c.end_refused.ensures.ended)
+    inl (fault, ports, left, refused, line-beside (journal_line fault) status.Journal _ faults taken c.end_refused.ensures.ended)

@@ -31,7 +31,7 @@ returns-in-Ran-Memory-clause-answered g c =
     c.in-Ran-Memory.field-0 run_end.Memory _ c.in-Ran-Memory.field-0-is c.in-Ran-Memory.ensures.run in
     inr (
       none.1,
-      inl (line-later (last_line end.Memory) status.Memory _ _ _ _ _ _ _ c.in-Ran-Memory.ensures.count c.end_by.ensures.count none.0
+      inl (line-later (last_line end.Memory) status.Memory _ c.in-Ran-Memory.ensures.count c.end_by.ensures.count none.0
           (ended-so end.Memory _ _ _ _ _ c.end_by.ensures.ended)),
     )
 
@@ -45,21 +45,21 @@ returns-in-Refused-clause-answered g c =
         status.Journal,
         journal_line fault,
         inl (fault, fault-on-board c.args.setup.now c.args.opening _ c.new-board.ensures.custodian c.requires.first _ fault told, left, refl, refl),
-        line-later (journal_line fault) status.Journal _ _ _ _ _ _ _ c.in-Refused.ensures.count c.end_refused.ensures.count none.0
+        line-later (journal_line fault) status.Journal _ c.in-Refused.ensures.count c.end_refused.ensures.count none.0
             c.end_refused.ensures.ended,
       ),
     )
 
 pub returns-clause-answered : goal.returns-clause-answered
 returns-clause-answered g c =
-    let none = c.in-DiskFault.ensures.run in
+    let (none, stood) = c.in-DiskFault.ensures.run in
     inr (
       none.1,
       inr (
         status.DiskFault,
         disk_line,
-        inr (c.in-DiskFault.ensures.disk_failed refl, refl, refl),
-        line-later disk_line status.DiskFault _ _ _ _ _ _ _ c.in-DiskFault.ensures.count c.end_by_disk.ensures.count none.0
+        inr (c.in-DiskFault.ensures.disk_failed refl, stood, refl, refl),
+        line-later disk_line status.DiskFault _ c.in-DiskFault.ensures.count c.end_by_disk.ensures.count none.0
             c.end_by_disk.ensures.ended,
       ),
     )

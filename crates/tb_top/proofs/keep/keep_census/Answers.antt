@@ -1,6 +1,7 @@
-use Rattle.std.proofs.Common.{subst, ℕ, List, Option, refl, inl, inr}
+use Rattle.std.proofs.Common.{subst, ℕ, List, Option, refl, inl, inr, ⊎_elim}
 use Rattle.tb_base.specs.declared.status.Status.TheVariants as status
 use Rattle.tb_board.specs.Starts.{StartValue}
+use Rattle.tb_journal.proofs.Beginning.{as-one-now}
 use Rattle.tb_keep.specs.JournalRuns.{JournalRun}
 use Rattle.tb_serve.specs.Serves.{output}
 use Rattle.tb_top.specs.KeepOutputs.{IsKeepAnswered, disk_line}
@@ -14,9 +15,11 @@ returns-in_default g c = inr (refl, inl (ended-so end.Memory _ _ _ _ _ c.end_by.
 
 pub returns-in-All : goal.returns-in-All
 returns-in-All g c =
-    let saw : Option (List ℕ) → ℕ → JournalRun = λ content faults. record {
+    let saw : Option (List ℕ) → ℕ → ℕ → (List ℕ → Type 0) → JournalRun = λ content faults moment could_leave. record {
       content = content;
       content_after = g.D.Disk.content c.answer_on_board.new.disk;
+      moment = moment;
+      could_leave = could_leave;
       may_leave = g.D.Disk.may_leave c.answer_on_board.new.disk;
       left_since = g.D.Disk.left_since c.answer_on_board.new.disk;
       faults = faults;
@@ -30,13 +33,27 @@ returns-in-All g c =
     (g.O.Sink.faults c.answer_on_board.new.out) in
     let script = c.args.script.now in
     let content = g.D.Disk.content c.attach.new.self in
-    let faults = g.D.Disk.faults c.attach.new.self in
-    let answered = subst (λ (start : StartValue). IsKeepAnswered (census_over c.args.census.setup start.base) script c.answer_on_board.result out (saw content faults))
+    let now = saw content (g.D.Disk.faults c.attach.new.self) (g.D.Disk.moment c.attach.new.self) (g.D.Disk.may_leave c.attach.new.self) in
+    let could_leave = g.D.Disk.could_leave c.args.disk.now c.args.journal.now in
+    let moment = g.D.Disk.moment c.args.disk.now in
+    let answered = subst (λ (start : StartValue). IsKeepAnswered (census_over c.args.census.setup start.base) script c.answer_on_board.result out now)
     {y = record { shape = c.shape.result.now; base = c.args.census.release }} c.in-Ok.ensures c.answer_on_board.ensures.answered in
-    subst (λ (told : Option (List ℕ)). IsKeepAnswered (census_value c.args.census) script c.answer_on_board.result out (saw told (g.D.Disk.faults c.args.disk.now)))
+    subst (λ (told : Option (List ℕ)). IsKeepAnswered (census_value c.args.census) script c.answer_on_board.result out (saw told (g.D.Disk.faults c.args.disk.now) moment could_leave))
     (c.in-All.ensures.found refl)
-    (answered-earlier (census_value c.args.census) script c.answer_on_board.result out (saw content faults) (g.D.Disk.faults c.args.disk.now)
-    c.in-All.ensures.count c.answer_on_board.ensures.disk_count answered)
+    (answered-earlier (census_value c.args.census) script c.answer_on_board.result out now (g.D.Disk.faults c.args.disk.now)
+    c.in-All.ensures.count c.answer_on_board.ensures.disk_count could_leave c.in-All.ensures.left moment c.in-All.ensures.later
+    (λ image left. ⊎_elim (λ was. inl (c.in-All.ensures.any_moment image was)) (λ since. inr since)
+    (c.answer_on_board.ensures.past.nothing_else moment image c.in-All.ensures.later left)) answered)
 
 pub returns : goal.returns
-returns g c = inr (refl, inr (status.DiskFault, disk_line, inr (c.in-Failed.ensures.failed refl, refl, refl), c.end_by_disk.ensures.ended))
+returns g c =
+    let could_leave = g.D.Disk.could_leave c.args.disk.now c.args.journal.now in
+    inr (
+      refl,
+      inr (
+        status.DiskFault,
+        disk_line,
+        inr (c.in-Failed.ensures.failed refl, λ file told image left. as-one-now could_leave image (c.in-Failed.ensures.any_moment image left), refl, refl),
+        c.end_by_disk.ensures.ended,
+      ),
+    )

@@ -13,5 +13,5 @@ returns g c = (
   status.Memory,
   [] ++ last_line end.Memory,
   inr (refl, (0, [], omega arith, (begun_with (after_seeing []), refl, refl), refl)),
-  ended-after _ _ _ _ _ _ _ [] (omega arith) c.end_by.ensures.count (Took-nothing _) c.end_by.ensures.ended,
+  ended-after _ _ _ [] (omega arith) c.end_by.ensures.count (Took-nothing _) c.end_by.ensures.ended,
 )

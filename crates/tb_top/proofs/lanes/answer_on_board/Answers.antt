@@ -13,7 +13,7 @@ returns-in_default g c = (
   status.Memory,
   [] ++ last_line end.Memory,
   inr (refl, (0, [], omega arith, (begun_with (after_seeing []), refl, refl), refl)),
-  ended-after _ _ _ _ _ _ _ [] (omega arith) c.end_by.ensures.count (Took-nothing _) c.end_by.ensures.ended,
+  ended-after _ _ _ [] (omega arith) c.end_by.ensures.count (Took-nothing _) c.end_by.ensures.ended,
 )
 
 pub returns-in-Done : goal.returns-in-Done
@@ -40,5 +40,5 @@ returns g c =
       status.Memory,
       last.text ++ last_line end.Memory,
       inr (refl, (n, last.text, few, phases-on-board _ c.args.opening _ c.args.script.now n last c.new-board.ensures.custodian c.requires.first go, refl)),
-      ended-after _ _ _ _ _ _ _ last.text c.in-Memory.ensures.count c.end_by-in-Memory.ensures.count took c.end_by-in-Memory.ensures.ended,
+      ended-after _ _ _ last.text c.in-Memory.ensures.count c.end_by-in-Memory.ensures.count took c.end_by-in-Memory.ensures.ended,
     )

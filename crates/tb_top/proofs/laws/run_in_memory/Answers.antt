@@ -9,7 +9,7 @@ pub returns-clause-read : goal.returns-clause-read
 returns-clause-read g c = λ h.
     memory_read_fault (memory_call (map string_bytes c.args.words.now) c.args.files.now c.tablebuilder.new.files c.args.out.now
     c.tablebuilder.new.out c.args.net.now.items c.tablebuilder.new.net.items
-    (disk_seen g.D.Disk.named g.D.Disk.could_leave g.D.Disk.attached g.D.Disk.content g.D.Disk.may_leave g.D.Disk.left_since g.D.Disk.faults c.args.disk.now c.tablebuilder.new.disk) c.args.steps.now
+    (disk_seen g.D.Disk.named g.D.Disk.could_leave g.D.Disk.attached g.D.Disk.content g.D.Disk.may_leave g.D.Disk.moment g.D.Disk.left_since g.D.Disk.faults c.args.disk.now c.tablebuilder.new.disk) c.args.steps.now
     c.tablebuilder.new.steps)
     (bytes_of c.args.files.now.held) c.tablebuilder.result c.args.out.now.taken c.tablebuilder.new.out.taken
     c.tablebuilder.ensures.text h

@@ -20,7 +20,7 @@ returns-clause-defined g c = elim c.tablebuilder.ensures.exact [
         | inr most ↦ elim most [
           | inl net ↦ inr (inr (inl net))
           | inr journal ↦ elim journal [
-            | inl line ↦ inr (inr (inr (elim line.1.3 [ inl refused ↦ inl refused.3 | inr failed ↦ inr failed.1 ])))
+            | inl line ↦ inr (inr (inr (elim line.1.3 [ inl refused ↦ inl refused.3 | inr failed ↦ inr failed.2 ])))
             | inr disk ↦ inr (inr (inr (inr disk.0)))
           ]
         ]

@@ -34,4 +34,4 @@ returns-in-WriteFault g c =
 pub returns : goal.returns
 returns g c =
     let before = c.in-Memory.ensures.run in
-    inr (inr (before.1, ended-later end.Memory _ _ _ _ _ _ _ c.in-Memory.ensures.count c.end_by.ensures.count before.0 c.end_by.ensures.ended))
+    inr (inr (before.1, ended-later end.Memory _ c.in-Memory.ensures.count c.end_by.ensures.count before.0 c.end_by.ensures.ended))

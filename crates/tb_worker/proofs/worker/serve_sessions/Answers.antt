@@ -26,7 +26,7 @@ loop-served-preserved g c =
       ready = c.in-Served.ensures.ready;
       so_far = (
         vs ++ one,
-        served_more (Lead (g.A.Answerer.Step c.args.setting.now tt)) g.A.Answerer.fresh _ _ _ _ _ _ vs one so_far.1 step.1,
+        served_more (Lead (g.A.Answerer.Step c.args.setting.now tt)) g.A.Answerer.fresh so_far.1 step.1,
         omega (arith, length-append vs one, so_far.2),
         calm_more (g.N.Listen.seen c.args.listener.now) (g.N.Listen.seen c.loop-served.listener) (g.N.Listen.seen c.serve_next.new.listener) one so_far.3 step.1.given step.2,
       );
@@ -45,11 +45,11 @@ returns-clause-worked g c =
 pub returns-in-NoneCame-clause-worked : goal.returns-in-NoneCame-clause-worked
 returns-in-NoneCame-clause-worked g c =
     let so_far = c.loop-served.invariant.so_far in
-    worked_out (Lead (g.A.Answerer.Step c.args.setting.now tt)) g.A.Answerer.fresh c.args.sessions c.loop-served.served _ _ _ _ _ _ so_far.0 so_far.1 so_far.2 so_far.3
+    worked_out (Lead (g.A.Answerer.Step c.args.setting.now tt)) g.A.Answerer.fresh c.args.sessions c.loop-served.served so_far.1 so_far.2 so_far.3
     (omega arith) c.in-NoneCame.ensures.step
 
 pub returns-in-Failed-clause-worked : goal.returns-in-Failed-clause-worked
 returns-in-Failed-clause-worked g c =
     let so_far = c.loop-served.invariant.so_far in
-    worked_badly (Lead (g.A.Answerer.Step c.args.setting.now tt)) g.A.Answerer.fresh c.args.sessions c.loop-served.served _ _ _ _ _ _ so_far.0 so_far.1 so_far.2
+    worked_badly (Lead (g.A.Answerer.Step c.args.setting.now tt)) g.A.Answerer.fresh c.args.sessions c.loop-served.served so_far.1 so_far.2
     (omega arith) c.in-Failed.ensures.step

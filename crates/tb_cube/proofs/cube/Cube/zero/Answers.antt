@@ -13,4 +13,4 @@ pub returns : goal.returns
 returns c =
     let count : c.cells_over.result ≡ product (map (slice_index c.args.shape.now) c.args.vars.now) = omega (arith, c.cells_over.ensures, c.requires.few) in
     let cells : c.in_ok-cells.cells.items ≡ cube_of c.args.shape.now c.args.vars.now [] = c.in_ok-cells.ensures.items_if_clones_equal (λ y h. h) ∙ rw c.empty.ensures (cube-empty c.args.shape.now c.args.vars.now c.cells_over.result count) in
-    made-cube _ _ _ _ _ _ c.in_ok-copy.ensures c.in_ok-copy-2.ensures cells
+    made-cube c.in_ok-copy.ensures c.in_ok-copy-2.ensures cells

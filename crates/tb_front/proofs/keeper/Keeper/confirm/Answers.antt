@@ -3,7 +3,7 @@ use Rattle.tb_front.proofs.Moves.{keeper_confirms, loads}
 use Rattle.tb_front.proofs.keeper.Keeper.confirm.Goals as goal
 
 pub join_seat-requires : goal.join_seat-requires
-join_seat-requires g c = (search rules, search rules, search rules, search rules, keeper_confirms _ _ _ _ _ _ (ap (λ m. m.0.role) c.self.invariant) (ap (λ m. m.0.role) c.seat.invariant))
+join_seat-requires g c = (search rules, search rules, search rules, search rules, keeper_confirms _ (ap (λ m. m.0.role) c.self.invariant) (ap (λ m. m.0.role) c.seat.invariant))
 
 pub load-requires : goal.load-requires
 load-requires g c = (search rules, search rules, loads _ _ _ _)

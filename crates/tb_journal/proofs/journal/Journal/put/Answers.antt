@@ -1,6 +1,7 @@
 use Rattle.std.proofs.Common.{List, ℕ, take, inl, refl, sym, subst}
 use Rattle.tb_disk.specs.Moments.{LeavesOnly}
 use Rattle.tb_disk.proofs.Going.{starts}
+use Rattle.tb_disk.proofs.Past.{past-none}
 use Rattle.tb_disk.proofs.Telling.{back, Leads-same}
 use Rattle.tb_spelling.specs.Spelling.{spelled}
 use Rattle.tb_journal.specs.Records.{stands_for}
@@ -28,3 +29,6 @@ returns-in-Err-clause-any_moment g c = λ file told.
     let on = c.requires.on file told in
     starts g.D.Disk.moment g.D.Disk.left_since c.args.disk.now (EndsWithOrWithout file (spelled c.args.edits.now))
     (λ image left. inl (subst (Ends (take 8 file) (stands_for file)) (sym (on.durable image (g.met.D.Disk.only_now c.args.disk.now image left))) (ends-on file _ c.args.self.now c.requires.at_end on)))
+
+pub returns-in-Err-clause-past : goal.returns-in-Err-clause-past
+returns-in-Err-clause-past g c = past-none g.D.Disk.may_leave g.D.Disk.moment g.D.Disk.left_since g.met.D.Disk.counts_now c.args.disk.now (g.met.D.Disk.only_now c.args.disk.now)

@@ -4,13 +4,13 @@ use Rattle.tb_session.specs.ReplyTexts.{reply_text}
 use Rattle.tb_session.proofs.reply.Reply.write.Goals as goal
 
 pub returns-in-BatchRefused : goal.returns-in-BatchRefused
-returns-in-BatchRefused g c = written_as c.write_batch_refusal.result _ _ _ _ _ _ (ap reply_text (sym c.in-BatchRefused.is)) c.write_batch_refusal.ensures.written
+returns-in-BatchRefused g c = written_as {w = c.write_batch_refusal.result} (ap reply_text (sym c.in-BatchRefused.is)) c.write_batch_refusal.ensures.written
 
 pub returns-in-Stats : goal.returns-in-Stats
-returns-in-Stats g c = written_as c.write_stats.result _ _ _ _ _ _ (ap reply_text (sym c.in-Stats.is)) c.write_stats.ensures.written
+returns-in-Stats g c = written_as {w = c.write_stats.result} (ap reply_text (sym c.in-Stats.is)) c.write_stats.ensures.written
 
 pub returns-in-NoSuchRelease : goal.returns-in-NoSuchRelease
-returns-in-NoSuchRelease g c = written_as c.write_number.result _ _ _ _ _ _ (ap reply_text (sym c.in-NoSuchRelease.is)) c.write_number.ensures.written
+returns-in-NoSuchRelease g c = written_as {w = c.write_number.result} (ap reply_text (sym c.in-NoSuchRelease.is)) c.write_number.ensures.written
 
 pub returns-in-EditRefused : goal.returns-in-EditRefused
-returns-in-EditRefused g c = written_as c.write_fault.result _ _ _ _ _ _ (ap reply_text (sym c.in-EditRefused.is)) c.write_fault.ensures.written
+returns-in-EditRefused g c = written_as {w = c.write_fault.result} (ap reply_text (sym c.in-EditRefused.is)) c.write_fault.ensures.written

@@ -12,6 +12,6 @@ returns-in-Ok c =
     let inside = c.self.inside in
     let end = end_of (pvalues_in inside.setup.now c.args.rules.now) c.args.rules.now.threshold in
     c.in_ok-text-in-Ok.ensures
-    ∙ ap (λ xs. xs ++ line_text (codes ".")) (kept_whole _ _ _ _ _ _ c.new-whole.ensures c.in-Ok.ensures.on)
+    ∙ ap (λ xs. xs ++ line_text (codes ".")) (kept_whole c.new-whole.ensures c.in-Ok.ensures.on)
     ∙ ap (λ (fs : List (List (List ℕ))). (inside.waiting ++ lines_under end [] fs c.args.cells.now) ++ line_text (codes ".")) c.deref.ensures.value
     ∙ ap (λ (p : PreparedValue). prepared_text p c.args.rules.now c.args.cells.now) c.self.view_is

@@ -12,16 +12,16 @@ pub returns-in-Ok : goal.returns-in-Ok
 returns-in-Ok g c =
     let inside = c.self.inside in
     let end = end_of (pvalues_in inside.setup.now c.args.rules.now) c.args.rules.now.threshold in
-    written_as c.finish.result _ _ _ _ _ _
+    written_as {w = c.finish.result}
     (ap (λ (fs : List (List (List ℕ))). (inside.waiting ++ lines_under end [] fs c.args.cells.now) ++ line_text (codes ".")) c.deref.ensures.value
     ∙ ap (λ (p : PreparedValue). prepared_text p c.args.rules.now c.args.cells.now) c.self.view_is)
-    (last_write _ _ _ _ _ _ _ _ _ _ c.in-Ok.ensures.on c.finish.ensures.written)
+    (last_write _ c.in-Ok.ensures.on c.finish.ensures.written)
 
 pub returns : goal.returns
 returns g c =
     let inside = c.self.inside in
     let end = end_of (pvalues_in inside.setup.now c.args.rules.now) c.args.rules.now.threshold in
-    written_as _ _ _ _ _ _ _
+    written_as
     (ap (λ (fs : List (List (List ℕ))). (inside.waiting ++ lines_under end [] fs c.args.cells.now) ++ line_text (codes ".")) c.deref.ensures.value
     ∙ ap (λ (p : PreparedValue). prepared_text p c.args.rules.now c.args.cells.now) c.self.view_is)
-    (cut_write _ _ _ _ _ _ c.in-Err.ensures.cut)
+    (cut_write _ c.in-Err.ensures.cut)

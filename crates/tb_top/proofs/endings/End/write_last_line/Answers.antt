@@ -5,12 +5,12 @@ use Rattle.tb_top.proofs.endings.End.write_last_line.Goals as goal
 
 pub returns-in-Unread : goal.returns-in-Unread
 returns-in-Unread g c = rw c.in-Unread.is record {
-  written = written_as c.write_all-in-Unread.result _ _ _ _ _ _ (grind (arith, common_steps)) c.write_all-in-Unread.ensures.written;
+  written = written_as {w = c.write_all-in-Unread.result} (grind (arith, common_steps)) c.write_all-in-Unread.ensures.written;
 }
 
 pub returns-in-BadLine : goal.returns-in-BadLine
 returns-in-BadLine g c = rw c.in-BadLine.is record {
-  written = written_as c.write_all-in-BadLine.result _ _ _ _ _ _ (grind (arith, common_steps)) c.write_all-in-BadLine.ensures.written;
+  written = written_as {w = c.write_all-in-BadLine.result} (grind (arith, common_steps)) c.write_all-in-BadLine.ensures.written;
 }
 
 pub returns-in-Memory : goal.returns-in-Memory

@@ -1,0 +1,92 @@
+-- The people of a file out of those of its parts.
+use Rattle.std.proofs.Common.{◌≡◌, ◌∙◌, sym, ap, subst, refl, ℕ, List, [], ◌∷◌, ◌++◌, ◌<◌, ◌≤◌, length, map, take, get_or, Option, None, Some, Result, Ok, Err, Bor, append-nil, append_assoc}
+use Rattle.std.specs.Prelude.{flat_map, IfOk, IfSome, MatchResult, Contains}
+use Rattle.std.specs.List.{AllZip}
+use Rattle.std.specs.declared.vec.Vec.{Vec}
+use Rattle.std.proofs.lemmas.List.{length_push, map-append, take_more}
+use Rattle.tb_base.specs.Persons.{AreDistinct}
+use Rattle.tb_base.specs.Records.{AllFit}
+use Rattle.tb_base.specs.declared.people.TheConstants.{MOST_PERSONS}
+use Rattle.tb_base.specs.declared.records.Record.{Record}
+use Rattle.tb_model.specs.Schemas.{SchemaValue, shape_of}
+use Rattle.tb_rows.specs.Columns.{HeaderValue}
+use Rattle.tb_rows.specs.Cutting.{all_records}
+use Rattle.tb_rows.specs.Formats.{line_under}
+use Rattle.tb_rows.specs.Records.{records_of}
+use Rattle.tb_rows.specs.WholeFiles.{IsFile}
+use Rattle.tb_rows.proofs.WholeFiles.{accepted_where}
+use Rattle.tb_records.specs.Lines.{AreLines}
+use Rattle.tb_records.specs.People.{people_file, people_of}
+use Rattle.tb_records.specs.WholeFiles.{ArePeople}
+use Rattle.tb_records.proofs.Fitting.{people-fit}
+use Rattle.tb_records.proofs.WholeFiles.{are_people}
+
+-- the lines of all parts are those of all their records
+lines-joined : {Z : Type 0} (schema : SchemaValue) (header : HeaderValue) (parts : List (Bor (List ℕ))) (lists : List (Vec Record Z))
+    → AllZip (λ (part : Bor (List ℕ)) (list : Vec Record Z). AreLines schema header part.now list.items) parts lists
+    → map (line_under (people_file schema) header.width header.indices) (all_records parts) ≡ map (λ one. Ok one) (flat_map (λ (list : Vec Record Z). list.items) lists)
+unfolding AreLines
+lines-joined schema header [] [] h = refl
+lines-joined schema header [] (list ∷ lists) h = absurd h
+lines-joined schema header (part ∷ parts) [] h = absurd h
+lines-joined {Z} schema header (part ∷ parts) (list ∷ lists) h =
+    map-append (line_under (people_file schema) header.width header.indices) (records_of part.now) (all_records parts)
+    ∙ ap (λ rs. rs ++ map (line_under (people_file schema) header.width header.indices) (all_records parts)) h.0
+    ∙ ap (λ rs. map (λ one. Ok one) list.items ++ rs) (lines-joined schema header parts lists h.1)
+    ∙ sym (map-append (λ one. Ok one) list.items (flat_map (λ (list : Vec Record Z). list.items) lists))
+
+-- where they may stand together, they are the people
+pub people-joined : {Z : Type 0} (schema : SchemaValue) (bytes : List ℕ) (header : HeaderValue) (parts : List (Bor (List ℕ))) (lists : List (Vec Record Z)) (people : List Record)
+    → IsFile (people_file schema) bytes header.width header.indices (all_records parts)
+    → AllZip (λ (part : Bor (List ℕ)) (list : Vec Record Z). AreLines schema header part.now list.items) parts lists
+    → people ≡ flat_map (λ (list : Vec Record Z). list.items) lists → AreDistinct people → length people ≤ MOST_PERSONS → people_of schema bytes ≡ Ok people
+people-joined schema bytes header parts lists people file each all distinct few =
+    (accepted_where (people_file schema) ArePeople (are_people schema) bytes people).1 (
+      header.width,
+      header.indices,
+      all_records parts,
+      people,
+      people,
+      file,
+      record { each = lines-joined schema header parts lists each ∙ ap (λ rs. map (λ one. Ok one) rs) (sym all); together = ((distinct, few), refl) },
+      refl,
+    )
+
+pub found-joined : {Z : Type 0} (schema : SchemaValue) (bytes : List ℕ) (header : HeaderValue) (parts : List (Bor (List ℕ))) (lists : List (Vec Record Z)) (found : Option (List Record))
+    → IsFile (people_file schema) bytes header.width header.indices (all_records parts)
+    → AllZip (λ (part : Bor (List ℕ)) (list : Vec Record Z). AreLines schema header part.now list.items) parts lists
+    → IfSome found (λ people. people ≡ flat_map (λ (list : Vec Record Z). list.items) lists) → IfSome found AreDistinct → IfSome found (λ people. length people ≤ MOST_PERSONS)
+    → IfSome found (λ people. people_of schema bytes ≡ Ok people)
+found-joined schema bytes header parts lists None file each all distinct few = tt
+found-joined schema bytes header parts lists (Some people) file each all distinct few = people-joined schema bytes header parts lists people file each all distinct few
+
+pub found-fit : (schema : SchemaValue) (bytes : List ℕ) (found : Option (List Record)) → IfSome found (λ people. people_of schema bytes ≡ Ok people) → IfSome found (λ people. AllFit (shape_of schema) people)
+found-fit schema bytes None h = tt
+found-fit schema bytes (Some people) h = (people-fit schema bytes people h).0
+
+-- one more list
+pub list-more : {Z : Type 0} (lists : List (Vec Record Z)) (list : Vec Record Z) → flat_map (λ (list : Vec Record Z). list.items) (lists ++ list ∷ []) ≡ flat_map (λ (list : Vec Record Z). list.items) lists ++ list.items
+list-more [] list = append-nil list.items
+list-more {Z} (first ∷ lists) list = ap (λ rs. first.items ++ rs) (list-more lists list) ∙ sym (append_assoc first.items (flat_map (λ (list : Vec Record Z). list.items) lists) list.items)
+
+-- what each part gave, of parts that were all read
+all-read : {X Y : Type 0} (E : Type 0) (R : X → Y → Type 0) (parts : List X) (lists : List Y) → AllZip (λ part (result : Result Y E). IfOk result (λ list. R part list)) parts (map (λ list. Ok list) lists) → AllZip R parts lists
+all-read E R [] [] h = tt
+all-read E R [] (list ∷ lists) h = absurd h
+all-read E R (part ∷ parts) [] h = absurd h
+all-read E R (part ∷ parts) (list ∷ lists) h = (h.0, all-read E R parts lists h.1)
+
+pub all-collected : {X Y E Z : Type 0} (R : X → Y → Type 0) (parts : List X) (results : List (Result Y E)) (r : Result (Vec Y Z) E)
+    → AllZip (λ part (result : Result Y E). IfOk result (λ list. R part list)) parts results
+    → MatchResult r (λ v. (lists : List Y) × (results ≡ map (λ list. Ok list) lists) × (v.items ≡ lists)) (λ e. Contains results (Err e))
+    → IfOk r (λ v. AllZip R parts v.items)
+all-collected {X} {Y} {E} R parts results (Ok v) each (lists, are, items) =
+    subst (λ ls. AllZip R parts ls) (sym items) (all-read E R parts lists (subst (λ rs. AllZip (λ part (result : Result Y E). IfOk result (λ list. R part list)) parts rs) are each))
+all-collected R parts results (Err e) each h = tt
+
+-- the first of a list, one more
+pub further : {X : Type 0} (yielded all : List X) (one : X) → yielded ≡ take (length yielded) all → (length yielded < length all) × (one ≡ get_or all (length yielded) one)
+    → yielded ++ one ∷ [] ≡ take (length (yielded ++ one ∷ [])) all
+further yielded all one so_far next =
+    ap (λ rs. rs ++ one ∷ []) so_far ∙ ap (λ r. take (length yielded) all ++ r ∷ []) next.1 ∙ sym (take_more all (length yielded) one next.0)
+    ∙ ap (λ n. take n all) (sym (length_push yielded one))
