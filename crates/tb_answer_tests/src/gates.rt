@@ -5,7 +5,7 @@ ghost use Rattle.tb_model.specs.Schemas.{shape_of};
 ghost use Rattle.tb_session.specs.Parties.{IsPartyOf};
 
 use super::asking::ask_all;
-use super::making::{analyst, opening, owner};
+use super::making::analyst;
 use std::alloc::Global;
 use std::marker::Brand;
 use std::sync::Wait;
@@ -16,8 +16,10 @@ use std::thread::{Threads, join};
 use tb_base::{Memory, Steps};
 use tb_board::{Board, Named, Opening};
 use tb_build::{Gate, Open};
+use tb_comparison::is_text;
 use tb_io::MemSink;
-use tb_session::Party;
+use tb_session::{Party, Setting};
+use tb_small_boards::{opening, owner};
 use tb_small_values::setup;
 use tb_text::Setup;
 
@@ -68,15 +70,12 @@ const OTHERS: &[u8] = b"held 1\nheld 2\nheld 3\npublished 4\nrelease 4\nSEX,coun
 
 // The first caller asks, and waits at the gate; then it asks again, and isn't there again.
 fn ask_twice<B: Named, R: Threads + Wait + Sync>(
-    rt: &R,
-    alloc: Global,
-    setup: &Setup,
-    board: &Board<B>,
+    setting: &Setting<'_, B, R>,
     party: &mut Party,
     flags: &Flags,
     sink: &mut MemSink,
 ) -> bool
-    requires own { IsPartyOf B.name (shape_of setup.now.schema) party.old }
+    requires own { IsPartyOf B.name (shape_of setting.now.setup.now.schema) party.old }
 {
     let mut gate = Flagged {
         flags,
@@ -84,102 +83,85 @@ fn ask_twice<B: Named, R: Threads + Wait + Sync>(
         late: false,
     };
     let lines = "table SEX\ntable SEX";
-    let all = ask_all(rt, alloc, setup, board, party, lines, sink, &mut gate);
+    let all = ask_all(setting, party, lines, sink, &mut gate);
     flags.answered.store(true, Ordering::SeqCst);
     all && gate.times == 1 && !gate.late
 }
 
 // Whether the first caller gets its replies so.
-fn ask_first<B: Named, R: Threads + Wait + Sync>(
-    rt: &R,
-    alloc: Global,
-    setup: &Setup,
-    board: &Board<B>,
+fn ask_first<B: Named, R: Threads + Wait + Sync + Eprint>(
+    setting: &Setting<'_, B, R>,
     mut party: Party,
     flags: &Flags,
 ) -> Option<bool>
-    requires own { IsPartyOf B.name (shape_of setup.now.schema) party }
+    requires own { IsPartyOf B.name (shape_of setting.now.setup.now.schema) party }
 {
-    let mut sink = MemSink::new(alloc, 200).ok()?;
-    let right = ask_twice(rt, alloc, setup, board, &mut party, flags, &mut sink);
-    Some(right && sink.taken() == FIRST)
+    let mut sink = MemSink::new(setting.alloc, 200).ok()?;
+    let right = ask_twice(setting, &mut party, flags, &mut sink);
+    Some(is_text(setting.rt, sink.taken(), FIRST) && right)
 }
 
 // The custodian publishes and another caller is answered before the first may go on; in the end
 // the custodian asks for the desk's numbers.
 fn publish_and_ask<B: Named, R: Threads + Wait + Sync>(
-    rt: &R,
-    alloc: Global,
-    setup: &Setup,
-    board: &Board<B>,
+    setting: &Setting<'_, B, R>,
     own: &mut Party,
     party: &mut Party,
     flags: &Flags,
     sink: &mut MemSink,
 ) -> bool
-    requires own { IsPartyOf B.name (shape_of setup.now.schema) own.old }
-    requires party { IsPartyOf B.name (shape_of setup.now.schema) party.old }
+    requires own { IsPartyOf B.name (shape_of setting.now.setup.now.schema) own.old }
+    requires party { IsPartyOf B.name (shape_of setting.now.setup.now.schema) party.old }
 {
     let there = waits_for(&flags.there);
     let edits = "threshold 1\ndrop 104\npvalue 3 64 5\npublish";
-    let published = ask_all(rt, alloc, setup, board, own, edits, sink, &mut Open);
-    let asked = ask_all(rt, alloc, setup, board, party, "table SEX", sink, &mut Open);
+    let published = ask_all(setting, own, edits, sink, &mut Open);
+    let asked = ask_all(setting, party, "table SEX", sink, &mut Open);
     flags.open.store(true, Ordering::SeqCst);
     let answered = waits_for(&flags.answered);
-    let told = ask_all(rt, alloc, setup, board, own, "stats", sink, &mut Open);
+    let told = ask_all(setting, own, "stats", sink, &mut Open);
     there && published && asked && answered && told
 }
 
 // Whether the others get their replies so.
-fn go_on<B: Named, R: Threads + Wait + Sync>(
-    rt: &R,
-    alloc: Global,
-    setup: &Setup,
-    board: &Board<B>,
+fn go_on<B: Named, R: Threads + Wait + Sync + Eprint>(
+    setting: &Setting<'_, B, R>,
     mut own: Party,
     mut party: Party,
     flags: &Flags,
 ) -> Option<bool>
-    requires own { IsPartyOf B.name (shape_of setup.now.schema) own }
-    requires party { IsPartyOf B.name (shape_of setup.now.schema) party }
+    requires own { IsPartyOf B.name (shape_of setting.now.setup.now.schema) own }
+    requires party { IsPartyOf B.name (shape_of setting.now.setup.now.schema) party }
 {
-    let mut sink = MemSink::new(alloc, 400).ok()?;
-    let right = publish_and_ask(
-        rt, alloc, setup, board, &mut own, &mut party, flags, &mut sink,
-    );
-    Some(right && sink.taken() == OTHERS)
+    let mut sink = MemSink::new(setting.alloc, 400).ok()?;
+    let right = publish_and_ask(setting, &mut own, &mut party, flags, &mut sink);
+    Some(is_text(setting.rt, sink.taken(), OTHERS) && right)
 }
 
 // Whether the custodian publishes three releases.
 fn publish_three<B: Named, R: Threads + Wait + Sync>(
-    rt: &R,
-    alloc: Global,
-    setup: &Setup,
-    board: &Board<B>,
+    setting: &Setting<'_, B, R>,
     own: &mut Party,
 ) -> Option<bool>
-    requires own { IsPartyOf B.name (shape_of setup.now.schema) own.old }
-    ensures own { IsPartyOf B.name (shape_of setup.now.schema) own.new }
+    requires own { IsPartyOf B.name (shape_of setting.now.setup.now.schema) own.old }
+    ensures own { IsPartyOf B.name (shape_of setting.now.setup.now.schema) own.new }
 {
-    let mut sink = MemSink::new(alloc, 200).ok()?;
+    let mut sink = MemSink::new(setting.alloc, 200).ok()?;
     let lines = "amend 101 AGE=16-64\npublish\namend 101 AGE=65+\npublish\n\
         amend 101 AGE=0-15\npublish";
-    Some(ask_all(rt, alloc, setup, board, own, lines, &mut sink, &mut Open))
+    Some(ask_all(setting, own, lines, &mut sink, &mut Open))
 }
 
 // Whether both get their replies, one beside the other.
-fn are_answered<B: Named + Send + Sync, R: Threads + Wait + Sync>(
-    rt: &R,
-    alloc: Global,
-    setup: &Setup,
-    board: &Board<B>,
+fn are_answered<B: Named + Send + Sync, R: Threads + Wait + Sync + Eprint>(
+    setting: &Setting<'_, B, R>,
     own: Party,
     one: Party,
     two: Party,
 ) -> bool
-    requires own { IsPartyOf B.name (shape_of setup.now.schema) own }
-    requires one { IsPartyOf B.name (shape_of setup.now.schema) one }
-    requires two { IsPartyOf B.name (shape_of setup.now.schema) two }
+    requires own { IsPartyOf B.name (shape_of setting.now.setup.now.schema) own }
+    requires one { IsPartyOf B.name (shape_of setting.now.setup.now.schema) one }
+    requires two { IsPartyOf B.name (shape_of setting.now.setup.now.schema) two }
 {
     let flags = Flags {
         there: AtomicBool::new(false),
@@ -187,20 +169,20 @@ fn are_answered<B: Named + Send + Sync, R: Threads + Wait + Sync>(
         answered: AtomicBool::new(false),
     };
     let (first, others) = join(
-        rt,
+        setting.rt,
         || -> Option<bool>
-            requires { IsPartyOf B.name (shape_of setup.now.schema) one }
-        { ask_first(rt, alloc, setup, board, one, &flags) },
+            requires { IsPartyOf B.name (shape_of setting.now.setup.now.schema) one }
+        { ask_first(setting, one, &flags) },
         || -> Option<bool>
-            requires { IsPartyOf B.name (shape_of setup.now.schema) own
-                × IsPartyOf B.name (shape_of setup.now.schema) two }
-        { go_on(rt, alloc, setup, board, own, two, &flags) },
+            requires { IsPartyOf B.name (shape_of setting.now.setup.now.schema) own
+                × IsPartyOf B.name (shape_of setting.now.setup.now.schema) two }
+        { go_on(setting, own, two, &flags) },
     );
     first == Some(true) && others == Some(true)
 }
 
 // The same over a new board, after three releases.
-fn beside<B: Named + Send + Sync, R: Threads + Wait + Sync>(
+fn beside<B: Named + Send + Sync, R: Threads + Wait + Sync + Eprint>(
     rt: &R,
     alloc: Global,
     setup: &Setup,
@@ -213,11 +195,17 @@ fn beside<B: Named + Send + Sync, R: Threads + Wait + Sync>(
     let one = analyst(rt, setup, &board, &mut custodian);
     let two = analyst(rt, setup, &board, &mut custodian);
     let mut own = owner::<B>(alloc, setup, custodian);
-    let published = publish_three(rt, alloc, setup, &board, &mut own);
-    are_answered(rt, alloc, setup, &board, own, one, two) && published == Some(true)
+    let setting = Setting {
+        setup,
+        board: &board,
+        rt,
+        alloc,
+    };
+    let published = publish_three(&setting, &mut own);
+    are_answered(&setting, own, one, two) && published == Some(true)
 }
 
-fn beside_over<R: Threads + Wait + Sync>(
+fn beside_over<R: Threads + Wait + Sync + Eprint>(
     rt: &R,
     alloc: Global,
     setup: &Setup,
@@ -226,7 +214,10 @@ fn beside_over<R: Threads + Wait + Sync>(
     Ok(beside::<Brand, R>(rt, alloc, setup, opening))
 }
 
-fn beside_over_small<R: Threads + Wait + Sync>(rt: &R, alloc: Global) -> Result<bool, Memory> {
+fn beside_over_small<R: Threads + Wait + Sync + Eprint>(
+    rt: &R,
+    alloc: Global,
+) -> Result<bool, Memory> {
     let setup = setup(alloc)?;
     beside_over(rt, alloc, &setup)
 }

@@ -6,7 +6,7 @@ ghost use Rattle.tb_model.specs.Schemas.{shape_of};
 ghost use Rattle.tb_session.specs.Parties.{IsPartyOf};
 
 use super::asking::ask;
-use super::making::{analyst, opening, owner};
+use super::making::analyst;
 use std::alloc::Global;
 use std::marker::Brand;
 use std::sync::Wait;
@@ -15,8 +15,10 @@ use std::thread::Threads;
 use tb_base::Memory;
 use tb_board::{Board, Named, Opening};
 use tb_build::Open;
+use tb_comparison::is_text;
 use tb_io::MemSink;
-use tb_session::Party;
+use tb_session::{Party, Setting};
+use tb_small_boards::{opening, owner};
 use tb_small_values::setup_with_units;
 use tb_text::Setup;
 
@@ -56,36 +58,30 @@ fn line_of(alloc: Global, row: &Row) -> Result<Vec<u8>, Memory> {
 }
 
 // Whether a party is answered so.
-fn is_answered<B: Named, R: Threads + Wait + Sync>(
-    rt: &R,
-    alloc: Global,
-    setup: &Setup,
-    board: &Board<B>,
+fn is_answered<B: Named, R: Threads + Wait + Sync + Eprint>(
+    setting: &Setting<'_, B, R>,
     party: &mut Party,
     row: &Row,
 ) -> Option<bool>
-    requires own { IsPartyOf B.name (shape_of setup.now.schema) party.old }
-    ensures own { IsPartyOf B.name (shape_of setup.now.schema) party.new }
+    requires own { IsPartyOf B.name (shape_of setting.now.setup.now.schema) party.old }
+    ensures own { IsPartyOf B.name (shape_of setting.now.setup.now.schema) party.new }
 {
-    let line = line_of(alloc, row).ok()?;
-    let mut sink = MemSink::new(alloc, 200).ok()?;
-    let all = ask(rt, alloc, setup, board, party, &line, &mut sink, &mut Open);
-    Some(all && sink.taken() == row.3)
+    let line = line_of(setting.alloc, row).ok()?;
+    let mut sink = MemSink::new(setting.alloc, 200).ok()?;
+    let all = ask(setting, party, &line, &mut sink, &mut Open);
+    Some(is_text(setting.rt, sink.taken(), row.3) && all)
 }
 
 // Whether it is so of all rows.
-fn are_answered<B: Named, R: Threads + Wait + Sync>(
-    rt: &R,
-    alloc: Global,
-    setup: &Setup,
-    board: &Board<B>,
+fn are_answered<B: Named, R: Threads + Wait + Sync + Eprint>(
+    setting: &Setting<'_, B, R>,
     party: &mut Party,
 ) -> bool
-    requires own { IsPartyOf B.name (shape_of setup.now.schema) party.old }
-    ensures own { IsPartyOf B.name (shape_of setup.now.schema) party.new }
+    requires own { IsPartyOf B.name (shape_of setting.now.setup.now.schema) party.old }
+    ensures own { IsPartyOf B.name (shape_of setting.now.setup.now.schema) party.new }
 {
     for row in rows() {
-        if is_answered(rt, alloc, setup, board, party, row) != Some(true) {
+        if is_answered(setting, party, row) != Some(true) {
             return false;
         }
     }
@@ -93,7 +89,7 @@ fn are_answered<B: Named, R: Threads + Wait + Sync>(
 }
 
 // Whether both parties of a new board are answered so.
-fn are_answered_over<B: Named, R: Threads + Wait + Sync>(
+fn are_answered_over<B: Named, R: Threads + Wait + Sync + Eprint>(
     rt: &R,
     alloc: Global,
     setup: &Setup,
@@ -105,12 +101,18 @@ fn are_answered_over<B: Named, R: Threads + Wait + Sync>(
     let (board, mut custodian) = Board::<B>::new(opening);
     let mut party = analyst(rt, setup, &board, &mut custodian);
     let mut own = owner::<B>(alloc, setup, custodian);
-    let first = are_answered(rt, alloc, setup, &board, &mut party);
-    let then = are_answered(rt, alloc, setup, &board, &mut own);
+    let setting = Setting {
+        setup,
+        board: &board,
+        rt,
+        alloc,
+    };
+    let first = are_answered(&setting, &mut party);
+    let then = are_answered(&setting, &mut own);
     first && then
 }
 
-fn homes_over<R: Threads + Wait + Sync>(
+fn homes_over<R: Threads + Wait + Sync + Eprint>(
     rt: &R,
     alloc: Global,
     setup: &Setup,
@@ -119,7 +121,10 @@ fn homes_over<R: Threads + Wait + Sync>(
     Ok(are_answered_over::<Brand, R>(rt, alloc, setup, opening))
 }
 
-fn homes_over_small<R: Threads + Wait + Sync>(rt: &R, alloc: Global) -> Result<bool, Memory> {
+fn homes_over_small<R: Threads + Wait + Sync + Eprint>(
+    rt: &R,
+    alloc: Global,
+) -> Result<bool, Memory> {
     let setup = setup_with_units(alloc)?;
     homes_over(rt, alloc, &setup)
 }

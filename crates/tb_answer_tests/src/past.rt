@@ -5,7 +5,7 @@ ghost use Rattle.tb_model.specs.Schemas.{shape_of};
 ghost use Rattle.tb_session.specs.Parties.{IsPartyOf};
 
 use super::asking::{ask, ask_all};
-use super::making::{analyst, opening, owner};
+use super::making::analyst;
 use std::alloc::Global;
 use std::marker::Brand;
 use std::sync::Wait;
@@ -14,8 +14,10 @@ use std::thread::Threads;
 use tb_base::{Memory, print_number};
 use tb_board::{Board, Named, Opening};
 use tb_build::Open;
+use tb_comparison::is_text;
 use tb_io::MemSink;
-use tb_session::Party;
+use tb_session::{Party, Setting};
+use tb_small_boards::{opening, owner};
 use tb_small_values::setup;
 use tb_text::Setup;
 
@@ -38,27 +40,24 @@ fn edits_to(number: u32) -> &'static str {
 
 // Publishes one release after another, and asks for a table of each when it is the current one.
 fn ask_present<B: Named, R: Threads + Wait + Sync>(
-    rt: &R,
-    alloc: Global,
-    setup: &Setup,
-    board: &Board<B>,
+    setting: &Setting<'_, B, R>,
     own: &mut Party,
     party: &mut Party,
     replies: &mut MemSink,
     tables: &mut MemSink,
 ) -> bool
-    requires own { IsPartyOf B.name (shape_of setup.now.schema) own.old }
-    requires party { IsPartyOf B.name (shape_of setup.now.schema) party.old }
-    ensures own { IsPartyOf B.name (shape_of setup.now.schema) own.new }
-    ensures party { IsPartyOf B.name (shape_of setup.now.schema) party.new }
+    requires own { IsPartyOf B.name (shape_of setting.now.setup.now.schema) own.old }
+    requires party { IsPartyOf B.name (shape_of setting.now.setup.now.schema) party.old }
+    ensures own { IsPartyOf B.name (shape_of setting.now.setup.now.schema) own.new }
+    ensures party { IsPartyOf B.name (shape_of setting.now.setup.now.schema) party.new }
 {
-    if !ask(rt, alloc, setup, board, party, QUERY, tables, &mut Open) {
+    if !ask(setting, party, QUERY, tables, &mut Open) {
         return false;
     }
     for number in 1..RELEASES + 1 {
         let edits = edits_to(number);
-        let published = ask_all(rt, alloc, setup, board, own, edits, replies, &mut Open);
-        let asked = ask(rt, alloc, setup, board, party, QUERY, tables, &mut Open);
+        let published = ask_all(setting, own, edits, replies, &mut Open);
+        let asked = ask(setting, party, QUERY, tables, &mut Open);
         if !published || !asked {
             return false;
         }
@@ -79,37 +78,31 @@ fn line_at(alloc: Global, number: u32) -> Result<Vec<u8>, Memory> {
 
 // Asks for the table of a release that may be an earlier one.
 fn ask_at<B: Named, R: Threads + Wait + Sync>(
-    rt: &R,
-    alloc: Global,
-    setup: &Setup,
-    board: &Board<B>,
+    setting: &Setting<'_, B, R>,
     party: &mut Party,
     number: u32,
     tables: &mut MemSink,
 ) -> bool
-    requires own { IsPartyOf B.name (shape_of setup.now.schema) party.old }
-    ensures own { IsPartyOf B.name (shape_of setup.now.schema) party.new }
+    requires own { IsPartyOf B.name (shape_of setting.now.setup.now.schema) party.old }
+    ensures own { IsPartyOf B.name (shape_of setting.now.setup.now.schema) party.new }
 {
-    match line_at(alloc, number) {
-        Ok(line) => ask(rt, alloc, setup, board, party, &line, tables, &mut Open),
+    match line_at(setting.alloc, number) {
+        Ok(line) => ask(setting, party, &line, tables, &mut Open),
         Err(_) => false,
     }
 }
 
 // Asks for the table of each release, the first one first.
 fn ask_past<B: Named, R: Threads + Wait + Sync>(
-    rt: &R,
-    alloc: Global,
-    setup: &Setup,
-    board: &Board<B>,
+    setting: &Setting<'_, B, R>,
     party: &mut Party,
     tables: &mut MemSink,
 ) -> bool
-    requires own { IsPartyOf B.name (shape_of setup.now.schema) party.old }
-    ensures own { IsPartyOf B.name (shape_of setup.now.schema) party.new }
+    requires own { IsPartyOf B.name (shape_of setting.now.setup.now.schema) party.old }
+    ensures own { IsPartyOf B.name (shape_of setting.now.setup.now.schema) party.new }
 {
     for number in 0..RELEASES + 1 {
-        if !ask_at(rt, alloc, setup, board, party, number, tables) {
+        if !ask_at(setting, party, number, tables) {
             return false;
         }
     }
@@ -117,36 +110,24 @@ fn ask_past<B: Named, R: Threads + Wait + Sync>(
 }
 
 // Whether the tables are the same, and not all alike.
-fn are_equal<B: Named, R: Threads + Wait + Sync>(
-    rt: &R,
-    alloc: Global,
-    setup: &Setup,
-    board: &Board<B>,
+fn are_equal<B: Named, R: Threads + Wait + Sync + Eprint>(
+    setting: &Setting<'_, B, R>,
     own: &mut Party,
     party: &mut Party,
 ) -> Option<bool>
-    requires own { IsPartyOf B.name (shape_of setup.now.schema) own.old }
-    requires party { IsPartyOf B.name (shape_of setup.now.schema) party.old }
+    requires own { IsPartyOf B.name (shape_of setting.now.setup.now.schema) own.old }
+    requires party { IsPartyOf B.name (shape_of setting.now.setup.now.schema) party.old }
 {
-    let mut replies = MemSink::new(alloc, 3000).ok()?;
-    let mut present = MemSink::new(alloc, 12_000).ok()?;
-    let mut past = MemSink::new(alloc, 12_000).ok()?;
-    let first = ask_present(
-        rt,
-        alloc,
-        setup,
-        board,
-        own,
-        party,
-        &mut replies,
-        &mut present,
-    );
-    let then = ask_past(rt, alloc, setup, board, own, &mut past);
-    Some(first && then && past.taken() == present.taken())
+    let mut replies = MemSink::new(setting.alloc, 3000).ok()?;
+    let mut present = MemSink::new(setting.alloc, 12_000).ok()?;
+    let mut past = MemSink::new(setting.alloc, 12_000).ok()?;
+    let first = ask_present(setting, own, party, &mut replies, &mut present);
+    let then = ask_past(setting, own, &mut past);
+    Some(is_text(setting.rt, past.taken(), present.taken()) && first && then)
 }
 
 // The same over a new board.
-fn are_equal_over<B: Named, R: Threads + Wait + Sync>(
+fn are_equal_over<B: Named, R: Threads + Wait + Sync + Eprint>(
     rt: &R,
     alloc: Global,
     setup: &Setup,
@@ -158,10 +139,16 @@ fn are_equal_over<B: Named, R: Threads + Wait + Sync>(
     let (board, mut custodian) = Board::<B>::new(opening);
     let mut party = analyst(rt, setup, &board, &mut custodian);
     let mut own = owner::<B>(alloc, setup, custodian);
-    are_equal(rt, alloc, setup, &board, &mut own, &mut party) == Some(true)
+    let setting = Setting {
+        setup,
+        board: &board,
+        rt,
+        alloc,
+    };
+    are_equal(&setting, &mut own, &mut party) == Some(true)
 }
 
-fn past_over<R: Threads + Wait + Sync>(
+fn past_over<R: Threads + Wait + Sync + Eprint>(
     rt: &R,
     alloc: Global,
     setup: &Setup,
@@ -170,7 +157,10 @@ fn past_over<R: Threads + Wait + Sync>(
     Ok(are_equal_over::<Brand, R>(rt, alloc, setup, opening))
 }
 
-fn past_over_small<R: Threads + Wait + Sync>(rt: &R, alloc: Global) -> Result<bool, Memory> {
+fn past_over_small<R: Threads + Wait + Sync + Eprint>(
+    rt: &R,
+    alloc: Global,
+) -> Result<bool, Memory> {
     let setup = setup(alloc)?;
     past_over(rt, alloc, &setup)
 }

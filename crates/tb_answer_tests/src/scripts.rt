@@ -3,7 +3,6 @@
 ghost use Rattle.std.specs.Prelude.{◌≡◌, ◌<◌};
 ghost use Rattle.tb_model.specs.Schemas.{shape_of};
 
-use super::making::opening;
 use std::alloc::Global;
 use std::marker::Brand;
 use std::sync::Wait;
@@ -12,8 +11,10 @@ use std::test::Fail;
 use std::thread::Threads;
 use tb_base::{Memory, Steps};
 use tb_board::{Board, Named, Opening};
+use tb_comparison::is_text;
 use tb_io::MemSink;
-use tb_script::{MOST_SCRIPT_BYTES, RunEnd, Script, run_script};
+use tb_script::{RunEnd, Script, run_script};
+use tb_small_boards::{opening, read_script};
 use tb_small_values::setup;
 use tb_text::Setup;
 
@@ -149,18 +150,8 @@ fn replies_to<R: Threads + Wait + Sync>(
     Ok(run::<Brand, R>(rt, alloc, setup, opening, script, sink))
 }
 
-fn read(alloc: Global, script: &[u8]) -> Result<Script, Memory> {
-    if script.len() as u64 > MOST_SCRIPT_BYTES {
-        return Err(Memory);
-    }
-    match Script::read(alloc, script) {
-        Ok(script) => Ok(script),
-        Err(_) => Err(Memory),
-    }
-}
-
 // Whether these are the replies to a script.
-fn answers<R: Threads + Wait + Sync>(
+fn answers<R: Threads + Wait + Sync + Eprint>(
     rt: &R,
     alloc: Global,
     setup: &Setup,
@@ -169,21 +160,21 @@ fn answers<R: Threads + Wait + Sync>(
 ) -> Result<bool, Memory> {
     let mut sink = MemSink::new(alloc, 700)?;
     let done = replies_to(rt, alloc, setup, script, &mut sink)?;
-    Ok(done && sink.taken() == replies)
+    Ok(is_text(rt, sink.taken(), replies) && done)
 }
 
-fn is_so<R: Threads + Wait + Sync>(
+fn is_so<R: Threads + Wait + Sync + Eprint>(
     rt: &R,
     alloc: Global,
     setup: &Setup,
     row: &Row,
 ) -> Result<bool, Memory> {
-    let script = read(alloc, row.script)?;
+    let script = read_script(alloc, row.script)?;
     answers(rt, alloc, setup, &script, row.replies)
 }
 
 // The place of the first row of which it isn't.
-fn wrong_row<R: Threads + Wait + Sync>(
+fn wrong_row<R: Threads + Wait + Sync + Eprint>(
     rt: &R,
     alloc: Global,
     setup: &Setup,
@@ -196,7 +187,7 @@ fn wrong_row<R: Threads + Wait + Sync>(
     Ok(None)
 }
 
-fn wrong_row_over_small<R: Threads + Wait + Sync>(
+fn wrong_row_over_small<R: Threads + Wait + Sync + Eprint>(
     rt: &R,
     alloc: Global,
 ) -> Result<Option<usize>, Memory> {

@@ -5,7 +5,7 @@ ghost use Rattle.tb_model.specs.Schemas.{shape_of};
 ghost use Rattle.tb_session.specs.Parties.{IsPartyOf};
 
 use super::asking::ask_all;
-use super::making::{analyst, opening};
+use super::making::analyst;
 use std::alloc::Global;
 use std::marker::Brand;
 use std::sync::Wait;
@@ -15,8 +15,10 @@ use std::thread::Threads;
 use tb_base::{Memory, Steps};
 use tb_board::{Board, Named, Opening};
 use tb_build::Gate;
+use tb_comparison::is_text;
 use tb_io::MemSink;
-use tb_session::Party;
+use tb_session::{Party, Setting};
+use tb_small_boards::opening;
 use tb_small_values::setup;
 use tb_text::Setup;
 
@@ -38,26 +40,21 @@ const REPLIES: &[u8] = b"release 0\nAREA,SEX,count\nE1,1,2\nE1,2,0\nE2,1,1\nE2,2
     release 0\nSEX,count\n1,1\n2,2\n.\n";
 
 // Whether a caller is answered so, and is at the gate for the first table alone.
-fn asks<B: Named, R: Threads + Wait + Sync>(
-    rt: &R,
-    alloc: Global,
-    setup: &Setup,
-    board: &Board<B>,
+fn asks<B: Named, R: Threads + Wait + Sync + Eprint>(
+    setting: &Setting<'_, B, R>,
     mut party: Party,
 ) -> Option<bool>
-    requires own { IsPartyOf B.name (shape_of setup.now.schema) party }
+    requires own { IsPartyOf B.name (shape_of setting.now.setup.now.schema) party }
 {
     let mut gate = Counted { times: 0 };
-    let mut sink = MemSink::new(alloc, 200).ok()?;
+    let mut sink = MemSink::new(setting.alloc, 200).ok()?;
     let lines = "table AREA by SEX\ntable SEX";
-    let all = ask_all(
-        rt, alloc, setup, board, &mut party, lines, &mut sink, &mut gate,
-    );
-    Some(all && gate.times == 1 && sink.taken() == REPLIES)
+    let all = ask_all(setting, &mut party, lines, &mut sink, &mut gate);
+    Some(is_text(setting.rt, sink.taken(), REPLIES) && all && gate.times == 1)
 }
 
 // The same over a new board.
-fn asks_over<B: Named, R: Threads + Wait + Sync>(
+fn asks_over<B: Named, R: Threads + Wait + Sync + Eprint>(
     rt: &R,
     alloc: Global,
     setup: &Setup,
@@ -68,10 +65,16 @@ fn asks_over<B: Named, R: Threads + Wait + Sync>(
 {
     let (board, mut custodian) = Board::<B>::new(opening);
     let party = analyst(rt, setup, &board, &mut custodian);
-    asks(rt, alloc, setup, &board, party) == Some(true)
+    let setting = Setting {
+        setup,
+        board: &board,
+        rt,
+        alloc,
+    };
+    asks(&setting, party) == Some(true)
 }
 
-fn is_asked_over<R: Threads + Wait + Sync>(
+fn is_asked_over<R: Threads + Wait + Sync + Eprint>(
     rt: &R,
     alloc: Global,
     setup: &Setup,
@@ -80,7 +83,10 @@ fn is_asked_over<R: Threads + Wait + Sync>(
     Ok(asks_over::<Brand, R>(rt, alloc, setup, opening))
 }
 
-fn is_asked_over_small<R: Threads + Wait + Sync>(rt: &R, alloc: Global) -> Result<bool, Memory> {
+fn is_asked_over_small<R: Threads + Wait + Sync + Eprint>(
+    rt: &R,
+    alloc: Global,
+) -> Result<bool, Memory> {
     let setup = setup(alloc)?;
     is_asked_over(rt, alloc, &setup)
 }

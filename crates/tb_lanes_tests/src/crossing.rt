@@ -3,7 +3,7 @@
 ghost use Rattle.std.specs.Prelude.{◌≡◌, length, vec_len};
 ghost use Rattle.tb_script.specs.Scripts.{lanes_of};
 
-use super::making::{opening, read, run_past};
+use super::making::run_past;
 use std::alloc::Global;
 use std::marker::Brand;
 use std::sync::Wait;
@@ -15,6 +15,7 @@ use tb_base::{Memory, Steps};
 use tb_build::Gate;
 use tb_io::SureSink;
 use tb_script::{RunEnd, Script};
+use tb_small_boards::{opening, read_script};
 use tb_small_values::setup;
 use tb_text::Setup;
 
@@ -107,7 +108,7 @@ fn lanes_meet<R: Threads + Wait + Sync>(
     alloc: Global,
     setup: &Setup,
 ) -> Result<bool, Memory> {
-    let script = read(alloc, b"a table SEX\nb table AREA\n")?;
+    let script = read_script(alloc, b"a table SEX\nb table AREA\n")?;
     meet(rt, alloc, setup, &script)
 }
 

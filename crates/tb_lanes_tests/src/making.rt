@@ -1,6 +1,6 @@
-// A board over the small setup, and scripts that are run over that.
+// Scripts that are run over a board of the small setup.
 
-ghost use Rattle.std.specs.Prelude.{◌≡◌, IfOk, length, vec_len};
+ghost use Rattle.std.specs.Prelude.{◌≡◌, length, vec_len};
 ghost use Rattle.tb_model.specs.Schemas.{shape_of};
 ghost use Rattle.tb_script.specs.Scripts.{lanes_of};
 
@@ -13,34 +13,9 @@ use tb_board::{Board, Named, Opening};
 use tb_build::Gate;
 use tb_io::Sink;
 use tb_lanes::{open_gates, run_lanes};
-use tb_schema::Schema;
-use tb_script::{MOST_SCRIPT_BYTES, RunEnd, Script};
-use tb_small_values::release;
+use tb_script::{RunEnd, Script};
+use tb_small_boards::{opening, read_script};
 use tb_text::Setup;
-
-fn opening_over(alloc: Global, schema: &Schema) -> Result<Opening, Memory>
-    ensures { IfOk result (λ opening. opening.start.shape ≡ shape_of schema.now) }
-{
-    let release = release(alloc, schema)?;
-    Opening::new(alloc, schema.shape(), release, 64)
-}
-
-// A board of four persons, for at most 64 cubes.
-pub fn opening(alloc: Global, setup: &Setup) -> Result<Opening, Memory>
-    ensures { IfOk result (λ opening. opening.start.shape ≡ shape_of setup.now.schema) }
-{
-    opening_over(alloc, &setup.schema)
-}
-
-pub fn read(alloc: Global, script: &[u8]) -> Result<Script, Memory> {
-    if script.len() as u64 > MOST_SCRIPT_BYTES {
-        return Err(Memory);
-    }
-    match Script::read(alloc, script) {
-        Ok(script) => Ok(script),
-        Err(_) => Err(Memory),
-    }
-}
 
 // Runs a script over a board, each lane past its gate.
 pub fn run_past<B: Named + Send + Sync, R: Threads + Wait + Sync, K: Sink, G: Gate + Send + Drop>(
@@ -81,6 +56,6 @@ pub fn run<R: Threads + Wait + Sync, K: Sink>(
     script: &[u8],
     sink: &mut K,
 ) -> Result<RunEnd, Memory> {
-    let script = read(alloc, script)?;
+    let script = read_script(alloc, script)?;
     run_open(rt, alloc, setup, &script, sink)
 }

@@ -29,7 +29,7 @@ fn lanes(alloc: Global, start: &[u8], before: &[u8], after: &[u8]) -> Result<Vec
 }
 
 // Whether each of 64 lanes is answered that its line is refused.
-fn are_answered<R: Threads + Wait + Sync>(
+fn are_answered<R: Threads + Wait + Sync + Eprint>(
     rt: &R,
     alloc: Global,
     setup: &Setup,
@@ -39,7 +39,7 @@ fn are_answered<R: Threads + Wait + Sync>(
     writes(rt, alloc, setup, &script, &text, &text)
 }
 
-fn are_answered_over_small<R: Threads + Wait + Sync>(
+fn are_answered_over_small<R: Threads + Wait + Sync + Eprint>(
     rt: &R,
     alloc: Global,
 ) -> Result<bool, Memory> {

@@ -6,6 +6,7 @@ use std::sync::Wait;
 use std::test::Fail;
 use std::thread::Threads;
 use tb_base::Memory;
+use tb_comparison::{is_either_text, is_text};
 use tb_io::{MemSink, SureSink};
 use tb_script::RunEnd;
 use tb_small_values::setup;
@@ -71,7 +72,7 @@ fn rows() -> &'static [Row] {
 }
 
 // Whether a script's run writes one of two texts.
-pub fn writes<R: Threads + Wait + Sync>(
+pub fn writes<R: Threads + Wait + Sync + Eprint>(
     rt: &R,
     alloc: Global,
     setup: &Setup,
@@ -82,11 +83,11 @@ pub fn writes<R: Threads + Wait + Sync>(
     let mut sink = SureSink::new(alloc);
     let end = run(rt, alloc, setup, script, &mut sink)?;
     let text = sink.text()?;
-    Ok(end == RunEnd::Done && (text == one || text == other))
+    Ok(is_either_text(rt, text, one, other) && end == RunEnd::Done)
 }
 
 // The first row that isn't so.
-fn first_wrong<R: Threads + Wait + Sync>(
+fn first_wrong<R: Threads + Wait + Sync + Eprint>(
     rt: &R,
     alloc: Global,
     setup: &Setup,
@@ -99,7 +100,7 @@ fn first_wrong<R: Threads + Wait + Sync>(
     Ok("none")
 }
 
-fn first_wrong_over_small<R: Threads + Wait + Sync>(
+fn first_wrong_over_small<R: Threads + Wait + Sync + Eprint>(
     rt: &R,
     alloc: Global,
 ) -> Result<&'static str, Memory> {
@@ -125,7 +126,10 @@ const AFTER: &[u8] =
 
 // Who asks beside a publication sees the release before it or after it; who asks in the next phase
 // sees the one after it.
-fn writes_over_small<R: Threads + Wait + Sync>(rt: &R, alloc: Global) -> Result<bool, Memory> {
+fn writes_over_small<R: Threads + Wait + Sync + Eprint>(
+    rt: &R,
+    alloc: Global,
+) -> Result<bool, Memory> {
     let setup = setup(alloc)?;
     writes(rt, alloc, &setup, BESIDE, BEFORE, AFTER)
 }
@@ -137,7 +141,7 @@ fn ample_memory_is_enough(rt: HostRuntime) -> Result<(), Fail> {
 }
 
 // How a script's run ends in a sink of ten bytes, and whether it took these.
-fn is_cut<R: Threads + Wait + Sync>(
+fn is_cut<R: Threads + Wait + Sync + Eprint>(
     rt: &R,
     alloc: Global,
     setup: &Setup,
@@ -146,10 +150,13 @@ fn is_cut<R: Threads + Wait + Sync>(
 ) -> Result<bool, Memory> {
     let mut ten = MemSink::new(alloc, 10)?;
     let end = run(rt, alloc, setup, script, &mut ten)?;
-    Ok(end == RunEnd::WriteFault && ten.taken() == want)
+    Ok(is_text(rt, ten.taken(), want) && end == RunEnd::WriteFault)
 }
 
-fn is_cut_over_small<R: Threads + Wait + Sync>(rt: &R, alloc: Global) -> Result<bool, Memory> {
+fn is_cut_over_small<R: Threads + Wait + Sync + Eprint>(
+    rt: &R,
+    alloc: Global,
+) -> Result<bool, Memory> {
     let setup = setup(alloc)?;
     is_cut(rt, alloc, &setup, b"a publish\n", b"phase 1\nla")
 }

@@ -4,4 +4,4 @@ use Rattle.tb_answer_tests.proofs.asking.ask_all.Given as goal
 
 -- the party is still one of the board
 abbrev pub invariant-loop-line : goal.invariant-loop-line
-invariant-loop-line g l = IsPartyOf g.B.Named.name (shape_of l.setup.schema) l.party
+invariant-loop-line g l = IsPartyOf g.B.Named.name (shape_of l.setting.setup.now.schema) l.party

@@ -4,4 +4,4 @@ use Rattle.tb_answer_tests.proofs.homes.are_answered.Given as goal
 
 -- the party is still one of the board
 abbrev pub invariant-loop-row : goal.invariant-loop-row
-invariant-loop-row g l = IsPartyOf g.B.Named.name (shape_of l.setup.schema) l.party
+invariant-loop-row g l = IsPartyOf g.B.Named.name (shape_of l.setting.setup.now.schema) l.party

@@ -5,5 +5,5 @@ use Rattle.tb_answer_tests.proofs.past.ask_present.Given as goal
 -- the parties are still ones of the board
 abbrev pub invariant-loop-number : goal.invariant-loop-number
 invariant-loop-number g l =
-    IsPartyOf g.B.Named.name (shape_of l.setup.schema) l.own
-    × IsPartyOf g.B.Named.name (shape_of l.setup.schema) l.party
+    IsPartyOf g.B.Named.name (shape_of l.setting.setup.now.schema) l.own
+    × IsPartyOf g.B.Named.name (shape_of l.setting.setup.now.schema) l.party
