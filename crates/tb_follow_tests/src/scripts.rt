@@ -10,10 +10,12 @@ use std::sync::ledger::{Blank, Ledger};
 use std::test::Fail;
 use std::thread::Threads;
 use tb_base::{Memory, Steps};
+use tb_comparison::is_text;
 use tb_follow::Follower;
 use tb_follow_lanes::run_follow;
 use tb_io::{MemSink, Wrote};
-use tb_script::{MOST_SCRIPT_BYTES, Script};
+use tb_script::Script;
+use tb_small_boards::read_script;
 use tb_small_values::setup;
 use tb_text::Setup;
 
@@ -161,19 +163,9 @@ fn run_from_base<R: Threads + Sync>(
     Ok(run(rt, alloc, setup, script, follower, sink))
 }
 
-fn read(alloc: Global, script: &[u8]) -> Result<Script, Memory> {
-    if script.len() as u64 > MOST_SCRIPT_BYTES {
-        return Err(Memory);
-    }
-    match Script::read(alloc, script) {
-        Ok(script) => Ok(script),
-        Err(_) => Err(Memory),
-    }
-}
-
 // Whether a sink of so many bytes takes these of a script's replies, and no write fails exactly
 // where it could take more.
-fn is_taken<R: Threads + Sync>(
+fn is_taken<R: Threads + Sync + Eprint>(
     rt: &R,
     alloc: Global,
     setup: &Setup,
@@ -183,23 +175,24 @@ fn is_taken<R: Threads + Sync>(
 ) -> Result<bool, Memory> {
     let mut sink = MemSink::new(alloc, bound)?;
     let all = run_from_base(rt, alloc, setup, script, &mut sink)?;
-    Ok(all == (first.len() < bound) && sink.taken() == first)
+    let same = is_text(rt, sink.taken(), first);
+    Ok(all == (first.len() < bound) && same)
 }
 
 // Whether a script gets these replies.
-fn is_answered<R: Threads + Sync>(
+fn is_answered<R: Threads + Sync + Eprint>(
     rt: &R,
     alloc: Global,
     setup: &Setup,
     script: &str,
     replies: &str,
 ) -> Result<bool, Memory> {
-    let script = read(alloc, script.as_bytes())?;
+    let script = read_script(alloc, script.as_bytes())?;
     is_taken(rt, alloc, setup, &script, 1000, replies.as_bytes())
 }
 
 // The place of the first row that is wrong.
-fn wrong_row<R: Threads + Sync>(
+fn wrong_row<R: Threads + Sync + Eprint>(
     rt: &R,
     alloc: Global,
     setup: &Setup,
@@ -212,7 +205,10 @@ fn wrong_row<R: Threads + Sync>(
     Ok(None)
 }
 
-fn wrong_row_over_small<R: Threads + Sync>(rt: &R, alloc: Global) -> Result<Option<usize>, Memory> {
+fn wrong_row_over_small<R: Threads + Sync + Eprint>(
+    rt: &R,
+    alloc: Global,
+) -> Result<Option<usize>, Memory> {
     let setup = setup(alloc)?;
     wrong_row(rt, alloc, &setup)
 }
@@ -229,7 +225,7 @@ const CUT: &[u8] = b"leader begin 1\nleader drop 104\nleader end\na table SEX\nl
 const REPLIES: &[u8] = b"begun 1\nheld 1\nat 1\nrelease 1\nSEX,count\n1,1\n2,0\n.\nbegun 2\n";
 
 // The least number of bytes for which a sink that takes no more doesn't get so many of the replies.
-fn wrong_cut<R: Threads + Sync>(
+fn wrong_cut<R: Threads + Sync + Eprint>(
     rt: &R,
     alloc: Global,
     setup: &Setup,
@@ -243,16 +239,19 @@ fn wrong_cut<R: Threads + Sync>(
     Ok(None)
 }
 
-fn wrong_cut_over<R: Threads + Sync>(
+fn wrong_cut_over<R: Threads + Sync + Eprint>(
     rt: &R,
     alloc: Global,
     setup: &Setup,
 ) -> Result<Option<usize>, Memory> {
-    let script = read(alloc, CUT)?;
+    let script = read_script(alloc, CUT)?;
     wrong_cut(rt, alloc, setup, &script)
 }
 
-fn wrong_cut_over_small<R: Threads + Sync>(rt: &R, alloc: Global) -> Result<Option<usize>, Memory> {
+fn wrong_cut_over_small<R: Threads + Sync + Eprint>(
+    rt: &R,
+    alloc: Global,
+) -> Result<Option<usize>, Memory> {
     let setup = setup(alloc)?;
     wrong_cut_over(rt, alloc, &setup)
 }
