@@ -11,52 +11,30 @@ use std::marker::Brand;
 use std::sync::Wait;
 use std::sync::ledger::{Blank, Ledger};
 use std::thread::Threads;
-use tb_base::{Memory, Status, Steps};
+use tb_base::{Status, Steps};
+use tb_comparison::is_status;
 use tb_io::{Listen, SureFiles};
 use tb_mem_disk::MemDisk;
 use tb_serve::Port;
-use tb_small::{CLASSES, PEOPLE, PTABLE, RECODES};
+use tb_small_runs::{small_files, words_of};
 use tb_top::tablebuilder;
 
-static SMALL: [(&str, &[u8]); 4] = [
-    ("classes", CLASSES),
-    ("recodes", RECODES),
-    ("ptable", PTABLE),
-    ("people", PEOPLE),
-];
-
-// The small setup: each file's name and bytes.
-fn small() -> &'static [(&'static str, &'static [u8])] {
-    &SMALL
+// A run: its arguments, how it is to end, and the text that it is to write.
+#[derive(Drop)]
+struct Run<'a> {
+    words: &'a [String],
+    end: Status,
+    text: &'a [u8],
 }
 
-fn small_files(alloc: Global) -> Result<SureFiles, Memory> {
-    let mut files = SureFiles::new(alloc);
-    for &(name, bytes) in small() {
-        files.hold(name, bytes)?;
-    }
-    Ok(files)
-}
-
-fn words_of(alloc: Global, command: &str) -> Result<Vec<String>, Memory> {
-    let mut words = Vec::new(alloc);
-    for word in command.split(' ') {
-        words.push(String::from_str(alloc, word)?)?;
-    }
-    Ok(words)
-}
-
-// Whether the command of these arguments ends so over these files, with a counter of its own, and
-// writes just this text.
-fn files_end_so<N: Listen + Send, R: Threads + Wait + Sync, L: Ledger>(
+// Whether a run over these files, with a counter of its own, ends so and writes just its text.
+fn files_end_so<N: Listen + Send, R: Threads + Wait + Sync + Eprint, L: Ledger>(
     rt: &R,
     alloc: Global,
-    words: &[String],
+    run: &Run<'_>,
     files: &mut SureFiles,
     net: &mut Vec<Port<N>>,
     disk: &mut MemDisk,
-    end: Status,
-    text: &[u8],
     blank: Blank,
 ) -> bool
     requires ports { vec_len net.old ≡ MOST_WORKERS + 1 }
@@ -67,20 +45,19 @@ fn files_end_so<N: Listen + Send, R: Threads + Wait + Sync, L: Ledger>(
     requires some { 0 < L.parts }
 {
     let mut steps = Steps::<L>::new(blank);
-    let mut out = Compared::with(text);
-    let status = tablebuilder(rt, alloc, words, files, &mut out, net, disk, &mut steps);
-    status == end && out.is_whole()
+    let mut out = Compared::with(run.text);
+    let status = tablebuilder(rt, alloc, run.words, files, &mut out, net, disk, &mut steps);
+    let same = is_status(rt, status.number(), run.end.number());
+    out.check(rt) && same
 }
 
-// Whether the command of these arguments ends so and writes just this text.
-fn words_end_so<N: Listen + Send, R: Threads + Wait + Sync>(
+// Whether a run ends so and writes just its text.
+fn run_ends_so<N: Listen + Send, R: Threads + Wait + Sync + Eprint>(
     rt: &R,
     alloc: Global,
-    words: &[String],
+    run: &Run<'_>,
     net: &mut Vec<Port<N>>,
     disk: &mut MemDisk,
-    end: Status,
-    text: &[u8],
 ) -> bool
     requires ports { vec_len net.old ≡ MOST_WORKERS + 1 }
     requires fresh { All IsFresh net.old.items }
@@ -89,7 +66,7 @@ fn words_end_so<N: Listen + Send, R: Threads + Wait + Sync>(
     match small_files(alloc) {
         Ok(mut files) => {
             let blank = Blank::new(1);
-            files_end_so::<N, R, Brand>(rt, alloc, words, &mut files, net, disk, end, text, blank)
+            files_end_so::<N, R, Brand>(rt, alloc, run, &mut files, net, disk, blank)
         }
         Err(_) => false,
     }
@@ -97,7 +74,7 @@ fn words_end_so<N: Listen + Send, R: Threads + Wait + Sync>(
 
 /// Runs a command over a disk with its journal, and returns whether it ends so and writes just this
 /// text. One blank parts the arguments.
-pub fn ends_over<N: Listen + Send, R: Threads + Wait + Sync>(
+pub fn ends_over<N: Listen + Send, R: Threads + Wait + Sync + Eprint>(
     rt: &R,
     alloc: Global,
     command: &str,
@@ -111,13 +88,16 @@ pub fn ends_over<N: Listen + Send, R: Threads + Wait + Sync>(
     requires attached { disk.old.attached ≡ false }
 {
     match words_of(alloc, command) {
-        Ok(words) => words_end_so(rt, alloc, &words, net, disk, end, text),
+        Ok(words) => {
+            let words = words.as_slice();
+            run_ends_so(rt, alloc, &Run { words, end, text }, net, disk)
+        }
         Err(_) => false,
     }
 }
 
 /// The same over a disk of its own, whose file is empty.
-pub fn ends_so<N: Listen + Send, R: Threads + Wait + Sync>(
+pub fn ends_so<N: Listen + Send, R: Threads + Wait + Sync + Eprint>(
     rt: &R,
     alloc: Global,
     command: &str,

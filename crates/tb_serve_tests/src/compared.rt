@@ -2,6 +2,7 @@
 
 ghost use Rattle.std.specs.Prelude.{None};
 
+use tb_comparison::tell;
 use tb_io::{Sink, Wrote};
 
 /// A sink that compares what it takes with a text: what is left of the text, and whether all pieces
@@ -25,6 +26,16 @@ impl<'a> Compared<'a> {
     pub fn is_whole(&self) -> bool {
         self.same && self.left.is_empty()
     }
+
+    /// The same, and where it isn't, what is left of the text is printed: from the first piece on
+    /// that was another.
+    pub fn check(&self, rt: &impl Eprint) -> bool {
+        let is = self.is_whole();
+        if !is {
+            tell(rt, "wanted, from some byte on,", self.left);
+        }
+        is
+    }
 }
 
 impl<'a> Sink for Compared<'a> {
@@ -34,8 +45,8 @@ impl<'a> Sink for Compared<'a> {
 
     fn write(&mut self, bytes: &[u8]) -> Wrote {
         match self.left.strip_prefix(bytes) {
-            Some(left) => self.left = left,
-            None => self.same = false,
+            Some(left) if self.same => self.left = left,
+            _ => self.same = false,
         }
         Wrote::All
     }

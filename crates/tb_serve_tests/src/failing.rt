@@ -49,7 +49,7 @@ fn sessions_at(net: &[Port<MemListen>]) -> (usize, usize) {
 
 // Whether nothing comes of the sessions, and this is written.
 fn ends_by_net_fault(
-    rt: &(impl Threads + Wait + Sync),
+    rt: &(impl Threads + Wait + Sync + Eprint),
     alloc: Global,
     net: &mut Vec<Port<MemListen>>,
     text: &[u8],
@@ -63,7 +63,7 @@ fn ends_by_net_fault(
 
 // The same of ports of which some calls fail.
 fn is_net_fault(
-    rt: &(impl Threads + Wait + Sync),
+    rt: &(impl Threads + Wait + Sync + Eprint),
     alloc: Global,
     own: u32,
     bind_fails: bool,

@@ -13,6 +13,7 @@ use std::sync::Wait;
 use std::test::Fail;
 use std::thread::Threads;
 use tb_base::{Memory, Status};
+use tb_comparison::is_text;
 use tb_io::MemListen;
 use tb_mem_disk::MemDisk;
 use tb_serve::Port;
@@ -161,7 +162,7 @@ fn ports(
 }
 
 // Whether the run of a row over this disk ends so, with the right replies.
-fn serves_so<R: Threads + Wait + Sync>(
+fn serves_so<R: Threads + Wait + Sync + Eprint>(
     rt: &R,
     alloc: Global,
     row: &Row,
@@ -173,13 +174,13 @@ fn serves_so<R: Threads + Wait + Sync>(
     let mut net = ports(alloc, lines, *bound, *accept, asked)?;
     Ok(
         ends_over(rt, alloc, command, &mut net, disk, *end, text)
-            && is_told(&net, 0, told)
-            && is_told(&net, 1, answered),
+            && is_told(rt, &net, 0, told)
+            && is_told(rt, &net, 1, answered),
     )
 }
 
 // Whether it does, and leaves the right bytes, where the fourth sync has this number.
-fn is_so<R: Threads + Wait + Sync>(
+fn is_so<R: Threads + Wait + Sync + Eprint>(
     rt: &R,
     alloc: Global,
     row: &Row,
@@ -187,7 +188,7 @@ fn is_so<R: Threads + Wait + Sync>(
 ) -> Result<bool, Memory> {
     let fails = if row.5.0 { fourth } else { 0 };
     let mut disk = MemDisk::new(alloc, row.1, &[fails])?;
-    Ok(serves_so(rt, alloc, row, &mut disk)? && disk.bytes() == row.8)
+    Ok(serves_so(rt, alloc, row, &mut disk)? && is_text(rt, disk.bytes(), row.8))
 }
 
 // The number, from 1, of the last of a disk's calls that were syncs, where these are four. 0 where
@@ -207,7 +208,7 @@ fn fourth_sync(disk: &MemDisk) -> u32 {
 }
 
 // That number in the run of a row. 0 where the run doesn't end so.
-fn fourth_sync_of<R: Threads + Wait + Sync>(
+fn fourth_sync_of<R: Threads + Wait + Sync + Eprint>(
     rt: &R,
     alloc: Global,
     row: &Row,
@@ -221,7 +222,10 @@ fn fourth_sync_of<R: Threads + Wait + Sync>(
 }
 
 // The same in that of the first, which publishes into a new journal.
-fn fourth_sync_of_first<R: Threads + Wait + Sync>(rt: &R, alloc: Global) -> Result<u32, Memory> {
+fn fourth_sync_of_first<R: Threads + Wait + Sync + Eprint>(
+    rt: &R,
+    alloc: Global,
+) -> Result<u32, Memory> {
     match rows().first() {
         Some(row) => fourth_sync_of(rt, alloc, row),
         None => Ok(0),
@@ -282,7 +286,7 @@ fn is_quiet(net: &[Port<MemListen>], place: usize) -> bool {
 }
 
 // Whether the run of a row ends so, and no session of two came back.
-fn serves_nobody<R: Threads + Wait + Sync>(
+fn serves_nobody<R: Threads + Wait + Sync + Eprint>(
     rt: &R,
     alloc: Global,
     row: &Unserved,
@@ -299,13 +303,13 @@ fn serves_nobody<R: Threads + Wait + Sync>(
 }
 
 // Whether it does, and leaves the file as it was.
-fn leaves_it<R: Threads + Wait + Sync>(
+fn leaves_it<R: Threads + Wait + Sync + Eprint>(
     rt: &R,
     alloc: Global,
     row: &Unserved,
 ) -> Result<bool, Memory> {
     let mut disk = MemDisk::new(alloc, row.1, &[row.2])?;
-    Ok(serves_nobody(rt, alloc, row, &mut disk)? && disk.bytes() == row.1)
+    Ok(serves_nobody(rt, alloc, row, &mut disk)? && is_text(rt, disk.bytes(), row.1))
 }
 
 #[test]

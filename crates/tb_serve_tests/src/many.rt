@@ -141,7 +141,7 @@ const REPORT: &[u8] =
     worker 8 sessions 100\nrelease 50\n";
 
 // Whether all sessions are served, and at each of the analysts' ports no number falls.
-fn many_tables<R: Threads + Wait + Sync>(rt: &R, alloc: Global) -> bool {
+fn many_tables<R: Threads + Wait + Sync + Eprint>(rt: &R, alloc: Global) -> bool {
     match ports(alloc) {
         Ok(mut net) => {
             let served = serves(rt, alloc, 5000, 8, SESSIONS, &mut net, REPORT);

@@ -89,10 +89,14 @@ fn ports(alloc: Global, lines: &str, bound: usize) -> Result<Vec<Port<MemListen>
 }
 
 // Whether the run of a row is done, with the right replies.
-fn is_so<R: Threads + Wait + Sync>(rt: &R, alloc: Global, row: &Row) -> Result<bool, Memory> {
+fn is_so<R: Threads + Wait + Sync + Eprint>(
+    rt: &R,
+    alloc: Global,
+    row: &Row,
+) -> Result<bool, Memory> {
     let (_, lines, told, bound, text) = row;
     let mut net = ports(alloc, lines, *bound)?;
-    Ok(ends_so(rt, alloc, COMMAND, &mut net, Status::Done, text) && is_told(&net, 0, told))
+    Ok(ends_so(rt, alloc, COMMAND, &mut net, Status::Done, text) && is_told(rt, &net, 0, told))
 }
 
 #[test]

@@ -5,6 +5,7 @@ ghost use Rattle.tb_serve.specs.Stages.{IsFresh};
 
 use std::alloc::Global;
 use tb_base::Memory;
+use tb_comparison::is_text;
 use tb_io::{MemListen, MemSink, MemSource};
 use tb_serve::Port;
 
@@ -122,10 +123,10 @@ pub fn fill(
 }
 
 // Whether as many sessions came back as there are parts, in order, and each was told its part.
-fn are_told(listener: &MemListen, replies: &str) -> bool {
+fn are_told(rt: &impl Eprint, listener: &MemListen, replies: &str) -> bool {
     let mut i = 0_usize;
     for part in replies.split('|') {
-        if i >= listener.back() || listener.writer_at(i).taken() != part.as_bytes() {
+        if i >= listener.back() || !is_text(rt, listener.writer_at(i).taken(), part.as_bytes()) {
             return false;
         }
         i = i.saturating_add(1);
@@ -135,9 +136,9 @@ fn are_told(listener: &MemListen, replies: &str) -> bool {
 
 /// Whether as many sessions came back at the port at this place as a text has parts, parted by `|`,
 /// in order, and each was told its part.
-pub fn is_told(net: &[Port<MemListen>], place: usize, replies: &str) -> bool {
+pub fn is_told(rt: &impl Eprint, net: &[Port<MemListen>], place: usize, replies: &str) -> bool {
     match net.get(place) {
-        Some(port) => are_told(&port.listener, replies),
+        Some(port) => are_told(rt, &port.listener, replies),
         None => false,
     }
 }

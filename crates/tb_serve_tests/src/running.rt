@@ -10,6 +10,7 @@ use std::alloc::Global;
 use std::sync::Wait;
 use std::thread::Threads;
 use tb_base::{Memory, Status};
+use tb_comparison::is_status;
 use tb_io::Listen;
 use tb_release::Release;
 use tb_serve::{Port, serve};
@@ -24,21 +25,34 @@ fn first(alloc: Global, setup: &Setup) -> Result<Release, Memory>
     release(alloc, &setup.schema)
 }
 
-// Serves a setup from its release 0 on, and returns whether that is done and writes just this text.
-fn serves_first<N: Listen + Send, R: Threads + Wait + Sync>(
-    rt: &R,
-    alloc: Global,
-    setup: &Setup,
+// What is served: up to so many sessions at each of the ports, from this one on; and the text that
+// is to be written.
+#[derive(Drop)]
+struct Service<'a> {
     port: u16,
     workers: u32,
     sessions: u32,
+    text: &'a [u8],
+}
+
+// Serves a setup from its release 0 on, and returns whether that is done and writes just the text.
+fn serves_first<N: Listen + Send, R: Threads + Wait + Sync + Eprint>(
+    rt: &R,
+    alloc: Global,
+    setup: &Setup,
+    service: Service<'_>,
     net: &mut Vec<Port<N>>,
-    text: &[u8],
 ) -> bool
-    requires numbers { port + workers < 65536 }
-    requires ports { workers < vec_len net.old }
+    requires numbers { service.port + service.workers < 65536 }
+    requires ports { service.workers < vec_len net.old }
     requires fresh { All IsFresh net.old.items }
 {
+    let Service {
+        port,
+        workers,
+        sessions,
+        text,
+    } = service;
     let mut out = Compared::with(text);
     match first(alloc, setup) {
         Ok(base) => {
@@ -46,7 +60,8 @@ fn serves_first<N: Listen + Send, R: Threads + Wait + Sync>(
             let status = serve(
                 rt, alloc, setup, base, port, workers, sessions, &mut out, ports,
             );
-            status == Status::Done && out.is_whole()
+            let same = is_status(rt, status.number(), Status::Done.number());
+            out.check(rt) && same
         }
         Err(_) => false,
     }
@@ -54,7 +69,7 @@ fn serves_first<N: Listen + Send, R: Threads + Wait + Sync>(
 
 /// Serves up to so many sessions at each of the ports, from this one on, and returns whether the
 /// call is done and writes just this text.
-pub fn serves<N: Listen + Send, R: Threads + Wait + Sync>(
+pub fn serves<N: Listen + Send, R: Threads + Wait + Sync + Eprint>(
     rt: &R,
     alloc: Global,
     port: u16,
@@ -67,8 +82,14 @@ pub fn serves<N: Listen + Send, R: Threads + Wait + Sync>(
     requires ports { workers < vec_len net.old }
     requires fresh { All IsFresh net.old.items }
 {
+    let service = Service {
+        port,
+        workers,
+        sessions,
+        text,
+    };
     match setup(alloc) {
-        Ok(setup) => serves_first(rt, alloc, &setup, port, workers, sessions, net, text),
+        Ok(setup) => serves_first(rt, alloc, &setup, service, net),
         Err(_) => false,
     }
 }

@@ -69,7 +69,7 @@ fn ports<'a>(alloc: Global, run: Run, replies: &'a Replies) -> Result<Vec<Port<T
 }
 
 // Whether a command serves the sessions of a run, and writes just this text.
-fn serves<R: Threads + Wait + Sync>(
+fn serves<R: Threads + Wait + Sync + Eprint>(
     rt: &R,
     alloc: Global,
     run: Run,
@@ -84,7 +84,7 @@ fn serves<R: Threads + Wait + Sync>(
 }
 
 // Whether both clients of a run get the right replies, and the command writes just this text.
-fn both_get_theirs<R: Threads + Wait + Sync>(
+fn both_get_theirs<R: Threads + Wait + Sync + Eprint>(
     rt: &R,
     alloc: Global,
     run: Run,

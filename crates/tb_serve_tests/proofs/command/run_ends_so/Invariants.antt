@@ -1,4 +1,4 @@
-use Rattle.tb_serve_tests.proofs.command.words_end_so.Given as goal
+use Rattle.tb_serve_tests.proofs.command.run_ends_so.Given as goal
 
 -- the ledger of the blank
 abbrev pub ghosts-files_end_so : goal.ghosts-files_end_so
