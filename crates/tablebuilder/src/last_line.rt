@@ -28,7 +28,8 @@ fn first_of(line: &[u8]) -> [u8; ROOM] {
 }
 
 /// The standard output, the last line that it took, where that tells of a refusal, and whether it
-/// took a report. It waits in a buffer, but that a reply that tells of a publication may be written out at once.
+/// took a report. It waits in a buffer, but that a reply that tells of a publication may be written
+/// out at once.
 #[derive(Drop)]
 pub struct LastLine<'a, P: Print> {
     out: RealSink<'a, P>,

@@ -53,8 +53,8 @@ pub enum Refusal<'a> {
     Unaccepted { sessions: u32 },
 }
 
-/// How a run ended: its status, its last line where that tells of a refusal, and whether a report of
-/// sessions stands in front of it.
+/// How a run ended: its status, its last line where that tells of a refusal, and whether a report
+/// of sessions stands in front of it.
 #[derive(Drop)]
 pub struct Ending<'a> {
     pub status: Status,
@@ -215,8 +215,8 @@ fn of_journal<'a>(command: &Command<'a>, line: &str) -> Option<Refusal<'a>> {
     }
 }
 
-// What a service must have had: clients that could be accepted, where there is a report of sessions,
-// and its ports where there is none.
+// What a service must have had: clients that could be accepted, where there is a report of
+// sessions, and its ports where there is none.
 fn of_net<'a>(service: &Service, reported: bool) -> Refusal<'a> {
     if reported {
         let sessions = service.sessions();
@@ -238,8 +238,9 @@ fn of_disk<'a>(command: &Command<'a>) -> Option<Refusal<'a>> {
 }
 
 impl<'a> Refusal<'a> {
-    /// Why a run of these arguments, of which there are none where they couldn't be read, and of their
-    /// command, of which there is none where they are refused, ended so. None where it was done.
+    /// Why a run of these arguments, of which there are none where they couldn't be read, and of
+    /// their command, of which there is none where they are refused, ended so. None where it was
+    /// done.
     pub fn of(
         words: Option<&'a [String]>,
         command: Option<&Command<'a>>,

@@ -109,7 +109,7 @@ fn ask_past<B: Named, R: Threads + Wait + Sync>(
     true
 }
 
-// Whether the tables are the same, and not all alike.
+// Whether the tables are the same.
 fn are_equal<B: Named, R: Threads + Wait + Sync + Eprint>(
     setting: &Setting<'_, B, R>,
     own: &mut Party,

@@ -20,8 +20,8 @@ use tb_base::Memory;
 use tb_front::{Front, Keeper};
 use tb_release::{Batch, EditFault, Edits, Release, next};
 
-/// What a publication adds: the next release, for the desk and for the custodian, and the batch that
-/// leads to it, for the desk and as the chain's entry.
+/// What a publication adds: the next release, for the desk and for the custodian, and the batch
+/// that leads to it, for the desk and as the chain's entry.
 #[derive(Drop)]
 pub struct Publication {
     release: Arc<Release>,

@@ -7,8 +7,9 @@
 //! `specs/Lists` (the lists), `Descriptions` (the reply to a line) and `Told` (the text of a
 //! `Description`).
 //!
-//! Of the proofs, `OneMore` has what one record more makes of a list, `Whole` the list by its parts,
-//! and `SameReplies` that equal schemas give equal replies, for the laws of those who answer.
+//! Of the proofs, `OneMore` has what one record more makes of a list, `Whole` the list by its
+//! parts, and `SameReplies` that equal schemas give equal replies, for the laws of those who
+//! answer.
 #![tactic(auto)]
 
 mod description;

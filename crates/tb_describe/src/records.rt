@@ -6,7 +6,6 @@ ghost use Rattle.tb_describe.specs.Writers.{IsBetweenRecords, written};
 ghost use Rattle.tb_model.specs.Texts.{line_text};
 
 use csv::{Writer, WriterBuilder};
-use std::alloc::Global;
 use tb_base::Memory;
 
 /// A writer of records that go on after a text. It holds some kilobytes, so it is not passed on in

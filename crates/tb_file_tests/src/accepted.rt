@@ -3,7 +3,7 @@
 ghost use Rattle.std.specs.Prelude.{◌<◌, length};
 
 use std::alloc::Global;
-use tb_base::{Keys, LAST_ROW, People, Record};
+use tb_base::{Keys, LAST_ROW, Record};
 use tb_ptable::PTable;
 use tb_records::read_people;
 use tb_schema::{NameOf, Schema};
@@ -293,10 +293,9 @@ fn is_record(one: &Record, want: &Person) -> bool {
     one.codes.at(0) == *sex && one.codes.at(1) == *age && one.codes.at(2) == *area
 }
 
-pub fn are_people(people: &People, want: &[Person]) -> bool {
+pub fn are_people(people: &[Record], want: &[Person]) -> bool {
     people.len() == want.len()
         && people
-            .all()
             .iter()
             .zip(want)
             .all(|(one, person)| is_record(one, person))
@@ -321,7 +320,7 @@ fn has_people(alloc: Global, classes: &[u8], file: &[u8], want: &[Person]) -> bo
         return false;
     };
     match read_people(alloc, &schema, file) {
-        Ok(people) => are_people(&people, want),
+        Ok(people) => are_people(people.all(), want),
         Err(_) => false,
     }
 }

@@ -5,7 +5,7 @@ use crate::faults::{ACCEPTED, Told, people_fault};
 use std::alloc::Global;
 use std::test::Fail;
 use std::thread::Threads;
-use tb_base::{Memory, People, print_number};
+use tb_base::{Memory, Record, print_number};
 use tb_records::{PeopleFault, read_people_in, read_people_in_parts};
 use tb_schema::Schema;
 use tb_small::CLASSES;
@@ -36,8 +36,8 @@ static ACCEPTED_TWO: [&'static [u8]; 8] = [
 ];
 
 // Whole files of the same two persons: a mark in front, a header after empty lines, one that a
-// carriage return ends, one with quotes, one with a line feed inside quotes, and another column with
-// line feeds inside quotes.
+// carriage return ends, one with quotes, one with a line feed inside quotes, and another column
+// with line feeds inside quotes.
 static WHOLE_TWO: [&'static [u8]; 6] = [
     b"\xEF\xBB\xBFperson,record_key,SEX,AGE,AREA\n7,2,1,0-15,E1\n5,3,2,65+,E2\n",
     b"\n\r\n\nperson,record_key,SEX,AGE,AREA\n7,2,1,0-15,E1\n5,3,2,65+,E2\n",
@@ -145,7 +145,7 @@ fn read_in(
     alloc: Global,
     file: &[u8],
     parts: usize,
-) -> Result<People, PeopleFault> {
+) -> Result<Vec<Record>, PeopleFault> {
     match Schema::read(alloc, CLASSES, None) {
         Ok(schema) => read_people_in(rt, alloc, &schema, file, parts),
         Err(_) => Err(PeopleFault::Memory),
@@ -234,10 +234,11 @@ fn add_line(file: &mut Vec<u8>, person: u32) -> Result<(), Memory> {
     Ok(())
 }
 
-// A long file of persons that ascend, and of one more.
-fn long_file(alloc: Global, last: u32) -> Result<Vec<u8>, Memory> {
+// A long file: a person, those from 2 on below `MANY`, and one more.
+fn long_file(alloc: Global, first: u32, last: u32) -> Result<Vec<u8>, Memory> {
     let mut file = Vec::from_slice(alloc, HEADER)?;
-    for person in 1..MANY {
+    add_line(&mut file, first)?;
+    for person in 2..MANY {
         add_line(&mut file, person)?;
     }
     add_line(&mut file, last)?;
@@ -248,7 +249,7 @@ fn read_long(
     rt: &(impl Threads + Sync),
     alloc: Global,
     file: &[u8],
-) -> Result<People, PeopleFault> {
+) -> Result<Vec<Record>, PeopleFault> {
     match Schema::read(alloc, CLASSES, None) {
         Ok(schema) => read_people_in_parts(rt, alloc, &schema, file),
         Err(_) => Err(PeopleFault::Memory),
@@ -256,25 +257,50 @@ fn read_long(
 }
 
 // Whether all persons of a long file come, in order.
-fn are_all(people: &People) -> bool {
+fn are_all(people: &[Record], first: u32, last: u32) -> bool {
     people.len() == MANY as usize
-        && people
-            .all()
-            .iter()
-            .enumerate()
-            .all(|(i, one)| one.person as usize == i + 1)
+        && people.iter().enumerate().all(|(i, one)| {
+            let want = match i {
+                0 => first,
+                _ if i + 1 == MANY as usize => last,
+                _ => i as u32 + 1,
+            };
+            one.person == want
+        })
+}
+
+// Whether a long file is read, with its first and its last person.
+fn is_read(rt: &(impl Threads + Sync), alloc: Global, first: u32, last: u32) -> bool {
+    let Ok(file) = long_file(alloc, first, last) else {
+        return false;
+    };
+    match read_long(rt, alloc, file.as_slice()) {
+        Ok(people) => are_all(&people, first, last),
+        Err(_) => false,
+    }
+}
+
+// Whether a long file's last person is refused as one who stands there twice.
+fn is_twice(rt: &(impl Threads + Sync), alloc: Global, first: u32, last: u32) -> bool {
+    let Ok(file) = long_file(alloc, first, last) else {
+        return false;
+    };
+    match read_long(rt, alloc, file.as_slice()) {
+        Ok(_) => false,
+        Err(fault) => people_fault(fault) == (5, "PersonTwice", MANY),
+    }
 }
 
 #[test]
-fn parts_of_long_files(rt: HostRuntime) -> Result<(), Fail> {
-    let whole = long_file(rt.alloc(), MANY)?;
-    let read = read_long(&rt, rt.alloc(), whole.as_slice());
-    assert!(rt; matches!(&read, Ok(people) if are_all(people)), "all");
-    let twice = long_file(rt.alloc(), 1)?;
-    let told = match read_long(&rt, rt.alloc(), twice.as_slice()) {
-        Ok(_) => ACCEPTED,
-        Err(fault) => people_fault(fault),
-    };
-    assert!(rt; told == (5, "PersonTwice", MANY), "twice");
-    Ok(())
+fn parts_of_long_files(rt: HostRuntime) {
+    assert!(rt; is_read(&rt, rt.alloc(), 1, MANY), "ascending");
+    assert!(rt; is_read(&rt, rt.alloc(), MANY, 1), "in another order");
+    assert!(rt;
+        is_twice(&rt, rt.alloc(), 1, 2),
+        "twice, ascending up to then"
+    );
+    assert!(rt;
+        is_twice(&rt, rt.alloc(), MANY, MANY),
+        "twice, in another order"
+    );
 }

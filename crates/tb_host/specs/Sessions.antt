@@ -34,10 +34,10 @@ IsHosted setup base most first last (suc i) before after =
     HasServed setup base most first.state.chain last.state.chain (suc i) before after
 
 -- of what batches are written ahead into it is told what all calls keep of it, whether it is live,
--- the disk's count of faults, and what the file stands for after a stop: wherever a custodian stood, the
--- sessions of all ports led it to where it stands then, over one release 0
-abbrev pub HostsFrom : {W : Type 0} → (Continues : W → W → Type 0) → (live : W → Bool) → (faults : W → ℕ)
-    → (standing : W → FileStands) → SetupValue → ℕ → (old new : KeeperValue W)
+-- the disk's count of faults, and what the file stands for after a stop: wherever a custodian
+-- stood, the sessions of all ports led it to where it stands then, over one release 0
+abbrev pub HostsFrom : {W : Type 0} → (Continues : W → W → Type 0) → (live : W → Bool)
+    → (faults : W → ℕ) → (standing : W → FileStands) → SetupValue → ℕ → (old new : KeeperValue W)
     → (before after : List PortValue) → Type 0
 HostsFrom Continues live faults standing setup most old new before after =
     (new.base ≡ old.base)

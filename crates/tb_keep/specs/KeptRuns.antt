@@ -46,10 +46,10 @@ abbrev pub StandsAt : {W : Type 0} → (live : W → Bool) → (faults : W → �
 StandsAt live faults standing one at =
     IsAt (standing one.ahead) (live one.ahead) (faults one.ahead) one.state at
 
--- it is told besides what all calls keep of it: wherever a custodian stood that ran such a script, the
--- replies lead to where it stands then, over one release 0
-abbrev pub RunsFrom : {W : Type 0} → (Continues : W → W → Type 0) → (live : W → Bool) → (faults : W → ℕ)
-    → (standing : W → FileStands) → SetupValue → List ScriptLine → RunEnd
+-- it is told besides what all calls keep of it: wherever a custodian stood that ran such a script,
+-- the replies lead to where it stands then, over one release 0
+abbrev pub RunsFrom : {W : Type 0} → (Continues : W → W → Type 0) → (live : W → Bool)
+    → (faults : W → ℕ) → (standing : W → FileStands) → SetupValue → List ScriptLine → RunEnd
     → (old new : Charged (KeeperValue W)) → (before after : Option (List ℕ)) → Type 0
 RunsFrom Continues live faults standing setup lines end old new before after =
     (new.at.base ≡ old.at.base)

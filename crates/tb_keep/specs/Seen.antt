@@ -29,8 +29,8 @@ pub record StandsAsBeforeUntil (later : ℕ) (saw : JournalSeen) : Type 0 where
   pub each : WhereTold saw.content (λ _. (image : List ℕ) → saw.left_since saw.moment image
       → StandsAsOne saw.could_leave image ⊎ saw.left_since later image)
 
--- each stands as one that could be left at first, and a stop now may leave the file as it was, or written anew where it had at most
--- nine bytes, and nothing else
+-- each stands as one that could be left at first, and a stop now may leave the file as it was, or
+-- written anew where it had at most nine bytes, and nothing else
 pub record IsAsItWas (saw : JournalSeen) : Type 0 where
   pub now : WhereTold saw.content (λ file. Only (opened_file file) saw.may_leave)
   pub ever : StandsAsBefore saw

@@ -9,8 +9,8 @@
 //! batches lead, each as the list of its edits), `Playing` (how a journal is played), `Seen` (what
 //! is seen of its file from one moment to another), `Recoveries` (what became of one that was to be
 //! recovered), `KeptRuns` (the replies to the lines of a script whose custodian writes ahead) and
-//! `JournalRuns` (a script with a journal). `PublisherLaws` and `JournalOwners` have what the traits
-//! of such a party ask for.
+//! `JournalRuns` (a script with a journal). `PublisherLaws` and `JournalOwners` have what the
+//! traits of such a party ask for.
 //!
 //! Of the proofs, `Writable` says that an edit which a line reads as can be written, `Owning` what
 //! that makes of a line, `Preparing` when a line asks for what was prepared, `Chains` that a chain

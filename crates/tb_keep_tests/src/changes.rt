@@ -22,9 +22,9 @@ const THREE: &[u8] = b"custodian drop 104\ncustodian publish\n\
     custodian add 200 9 SEX=1 AGE=65+ AREA=E1\ncustodian threshold 1\ncustodian publish\n\
     custodian amend 200 SEX=2\ncustodian publish\n";
 
-// Up to how many bytes of that journal, the number of the status, and what a run writes. A file of a
-// header and a gate, or less, is written anew; of a longer one each record whose gate is open must
-// be whole, and the gate behind it there.
+// Up to how many bytes of that journal, the number of the status, and what a run writes. A file of
+// a header and a gate, or less, is written anew; of a longer one each record whose gate is open
+// must be whole, and the gate behind it there.
 static CUTS: [(usize, u8, &[u8]); 5] = [
     (9, 0, BEFORE),
     (22, 11, b"fault journal 2 BadRecord 1\n"),
@@ -68,8 +68,8 @@ const NOT_JOURNAL: &[u8] = b"fault journal 1 NotJournal 0\n";
 
 const BAD_RECORD: &[u8] = b"fault journal 2 BadRecord 1\n";
 
-// Up to which place of the journal of one batch, and how the text of a run begins where a byte there
-// is another: one of two ways.
+// Up to which place of the journal of one batch, and how the text of a run begins where a byte
+// there is another: one of two ways.
 static CHANGES: [(usize, &[u8], &[u8]); 6] = [
     (7, NOT_JOURNAL, NOT_JOURNAL),
     // The gate is closed.

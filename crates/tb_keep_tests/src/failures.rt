@@ -16,8 +16,8 @@ const OF_ONE: u32 = 4;
 // What is written where the publication isn't kept.
 const UNKEPT: &[u8] = b"held 1\nunkept\nrelease 0\nSEX,count\n1,1\n2,2\n.\n";
 
-/// Whether a run over this file has no batch, or the one that drops a person: only that one where it
-/// was acknowledged.
+/// Whether a run over this file has no batch, or the one that drops a person: only that one where
+/// it was acknowledged.
 pub fn stands<R: Threads + Wait + Sync + Eprint>(
     rt: &R,
     alloc: Global,

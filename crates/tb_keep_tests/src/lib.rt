@@ -1,6 +1,6 @@
-//! Tests of `keep` by the top call, over the small setup and a disk in memory: worked runs, two runs
-//! one after another, a stop after each call of the disk and in each write, each call failing in
-//! turn, and journals that are cut or changed. Each call has ample memory.
+//! Tests of `keep` by the top call, over the small setup and a disk in memory: worked runs, two
+//! runs one after another, a stop after each call of the disk and in each write, each call failing
+//! in turn, and journals that are cut or changed. Each call has ample memory.
 //!
 //! `tb_journal_tests` has the journal's own tests, of many batches and of every kind of edit.
 #![tactic(auto)]

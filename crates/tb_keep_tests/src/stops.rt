@@ -30,8 +30,8 @@ fn acknowledges(left: &Left) -> bool {
     left.text.as_slice().starts_with(b"held 1\npublished 1\n")
 }
 
-// Whether the same script, run again over a file, publishes the batch, or finds it there, and leaves
-// the journal of that batch.
+// Whether the same script, run again over a file, publishes the batch, or finds it there, and
+// leaves the journal of that batch.
 fn goes_on<R: Threads + Wait + Sync>(rt: &R, alloc: Global, file: &[u8]) -> Result<bool, Memory> {
     let left = keep(rt, alloc, file, &[], DROP_104)?;
     let text = left.text.as_slice();
@@ -99,8 +99,8 @@ fn image_stands<R: Threads + Wait + Sync + Eprint>(
     stands(rt, alloc, image.as_slice(), acknowledged)
 }
 
-// The same of all that may be torn of a write that led from the old file to the new one: each of its
-// bytes is the old one or the new one, and of those past the old end there are any number.
+// The same of all that may be torn of a write that led from the old file to the new one: each of
+// its bytes is the old one or the new one, and of those past the old end there are any number.
 fn torn_stands<R: Threads + Wait + Sync + Eprint>(
     rt: &R,
     alloc: Global,

@@ -1,6 +1,8 @@
 -- Records that are cut into pages from behind.
 use Rattle.std.proofs.Common.{◌≡◌, ℕ, ◌+◌, ◌-◌, ◌*◌, ◌/◌, ◌<◌, ◌≤◌, List, [], ◌∷◌, ◌++◌, map, length, take, drop, reverse, refl, sym, ap, ◌∙◌, subst, inl, inr, arith, append_assoc, append-nil, length-append}
-use Rattle.std.specs.Prelude.{◌⊎◌, fold}
+use Rattle.std.specs.Prelude.{◌⊎◌, fold, Result, Ok, Err, IfOk, MatchResult, Contains}
+use Rattle.std.specs.List.{AllZip}
+use Rattle.std.specs.declared.vec.Vec.{Vec}
 use Rattle.std.proofs.lemmas.Bool.{lt-ltb, le-ltb}
 use Rattle.std.proofs.lemmas.List.{take-append-drop, length-take-le, length-drop, reverse-append, map-append}
 use Rattle.std.proofs.lemmas.List.Sums.{fold-append}
@@ -87,11 +89,16 @@ cut_behind xs (y ∷ ys) k is some room =
     ∙ all_behind (cut xs) (y ∷ []) ys (omega arith)
 
 -- the last page is cut off
-pub cut_off : (rs : List Record) (at k : ℕ) → at ≡ k * PAGE_ROOM → at < length rs → length rs ≤ at + PAGE_ROOM → cut rs ≡ cut (take at rs) ++ page_of (drop at rs) 0 ∷ []
+cut_off : (rs : List Record) (at k : ℕ) → at ≡ k * PAGE_ROOM → at < length rs → length rs ≤ at + PAGE_ROOM → cut rs ≡ cut (take at rs) ++ page_of (drop at rs) 0 ∷ []
 cut_off rs at k is within room =
     let first = length-take-le at rs (omega arith) in
     let rest = length-drop at rs in
     ap cut (sym (take-append-drop at rs)) ∙ cut_behind (take at rs) (drop at rs) k (omega arith) (omega arith) (omega arith)
+
+pub last_cut : (rs left last : List Record) (at : ℕ) → at ≡ (length rs - 1) / PAGE_ROOM * PAGE_ROOM → 0 < length rs → left ≡ take at rs → last ≡ drop at rs → cut rs ≡ cut left ++ page_of last 0 ∷ []
+last_cut rs left last at is some front behind =
+    cut_off rs at ((length rs - 1) / PAGE_ROOM) is (omega arith) (omega arith)
+    ∙ ap (λ xs. cut xs ++ page_of (drop at rs) 0 ∷ []) (sym front) ∙ ap (λ xs. cut left ++ page_of xs 0 ∷ []) (sym behind)
 
 map_reverse : {X Y : Type 0} (f : X → Y) (xs : List X) → map f (reverse xs) ≡ reverse (map f xs)
 map_reverse f [] = refl
@@ -99,18 +106,33 @@ map_reverse f (x ∷ xs) =
     ap (map f) (reverse-append (x ∷ []) xs) ∙ map-append f (reverse xs) (x ∷ []) ∙ ap (λ ys. ys ++ f x ∷ []) (map_reverse f xs) ∙ sym (reverse-append (f x ∷ []) (map f xs))
 
 -- a list that is seen as the pages that were cut off so far, in reverse
-pub one_more_cut : {X : Type 0} (v : X → PageValue) (rs rest rest' last : List Record) (items after : List X) (x : X) (at : ℕ)
-    → at ≡ (length rest - 1) / PAGE_ROOM * PAGE_ROOM → 0 < length rest → rest' ≡ take at rest → last ≡ drop at rest → v x ≡ page_of last 0 → after ≡ items ++ x ∷ []
+pub one_more_cut : {X : Type 0} (v : X → PageValue) (rs rest rest' last : List Record) (items after : List X) (x : X)
+    → cut rest ≡ cut rest' ++ page_of last 0 ∷ [] → v x ≡ page_of last 0 → after ≡ items ++ x ∷ []
     → cut rs ≡ cut rest ++ reverse (map v items) → cut rs ≡ cut rest' ++ reverse (map v after)
-one_more_cut v rs rest rest' last items after x at is some left off page pushed so_far =
-    let seen : map v after ≡ map v items ++ page_of (drop at rest) 0 ∷ [] =
-    ap (map v) pushed ∙ map-append v items (x ∷ []) ∙ ap (λ p. map v items ++ p ∷ []) (page ∙ ap (λ rs. page_of rs 0) off) in
-    so_far ∙ ap (λ ps. ps ++ reverse (map v items)) (cut_off rest at ((length rest - 1) / PAGE_ROOM) is (omega arith) (omega arith))
-    ∙ append_assoc (cut (take at rest)) (page_of (drop at rest) 0 ∷ []) (reverse (map v items))
-    ∙ ap (λ ps. cut (take at rest) ++ ps) (sym (ap reverse seen ∙ reverse-append (map v items) (page_of (drop at rest) 0 ∷ [])))
-    ∙ ap (λ rs. cut rs ++ reverse (map v after)) (sym left)
+one_more_cut v rs rest rest' last items after x off page pushed so_far =
+    let seen : map v after ≡ map v items ++ page_of last 0 ∷ [] =
+    ap (map v) pushed ∙ map-append v items (x ∷ []) ∙ ap (λ p. map v items ++ p ∷ []) page in
+    so_far ∙ ap (λ ps. ps ++ reverse (map v items)) off
+    ∙ append_assoc (cut rest') (page_of last 0 ∷ []) (reverse (map v items))
+    ∙ ap (λ ps. cut rest' ++ ps) (sym (ap reverse seen ∙ reverse-append (map v items) (page_of last 0 ∷ [])))
 
 pub all_cut : {X : Type 0} (v : X → PageValue) (rs rest : List Record) (items after : List X) → length rest ≡ 0 → after ≡ reverse items
     → cut rs ≡ cut rest ++ reverse (map v items) → map v after ≡ cut rs
 all_cut v rs [] items after none is so_far = ap (map v) is ∙ map_reverse v items ∙ sym so_far
 all_cut v rs (r ∷ rest) items after none is so_far = absurd (omega arith)
+
+-- ---- pages that threads made
+-- what is seen of results that are all there, each made of an element
+all_there : {X Y W : Type 0} (E : Type 0) (v : Y → W) (f : X → W) (xs : List X) (ys : List Y) → AllZip (λ x (r : Result Y E). IfOk r (λ y. v y ≡ f x)) xs (map Ok ys) → map v ys ≡ map f xs
+all_there E v f [] [] h = refl
+all_there E v f [] (y ∷ ys) h = absurd h
+all_there E v f (x ∷ xs) [] h = absurd h
+all_there E v f (x ∷ xs) (y ∷ ys) h = ap (λ w. w ∷ map v ys) h.0 ∙ ap (λ ws. f x ∷ ws) (all_there E v f xs ys h.1)
+
+pub all_made : {X Y W E Z : Type 0} (v : Y → W) (f : X → W) (xs : List X) (results : List (Result Y E)) (r : Result (Vec Y Z) E)
+    → AllZip (λ x (r : Result Y E). IfOk r (λ y. v y ≡ f x)) xs results
+    → MatchResult r (λ c. (ys : List Y) × (results ≡ map Ok ys) × (c.items ≡ ys)) (λ e. Contains results (Err e))
+    → IfOk r (λ c. map v c.items ≡ map f xs)
+all_made {X} {Y} {W} {E} v f xs results (Ok c) each (ys, are, items) =
+    ap (map v) items ∙ all_there E v f xs ys (subst (λ rs. AllZip (λ x (r : Result Y E). IfOk r (λ y. v y ≡ f x)) xs rs) are each)
+all_made v f xs results (Err e) each h = tt

@@ -7,10 +7,12 @@ ghost use Rattle.tb_pages.specs.declared.pages.TheConstants.{PAGES};
 ghost use Rattle.tb_model.specs.Pages.{cut, page_of, with_added};
 ghost use Rattle.tb_pages.specs.Pages.{IsPlace, no_page, with_page};
 
+use crate::cutting::{cut_last, lists_of, pages_of, shared_page};
 use crate::page::Page;
 use std::alloc::Global;
 use std::marker::Model;
 use std::sync::Arc;
+use std::thread::Threads;
 use tb_base::{Memory, Piece, Record};
 use tb_model::PAGE_ROOM;
 
@@ -103,20 +105,31 @@ fn replace_in(
 
 impl Pages {
     /// Records in pages, each put in after the other, with stamp 0. They are cut off from behind,
-    /// and the list gives up its room page by page.
+    /// and the list gives up its room page by page. One thread makes all pages.
     pub fn of(alloc: Global, records: Vec<Record>) -> Result<Pages, Memory>
         ensures { IfOk result (λ pages. pages ≡ cut records.items) }
     {
         let mut rest = records;
         let mut list = Vec::with_capacity(alloc, rest.len() / PAGE_ROOM + 1)?;
         'cuts: while rest.len() > 0 {
-            let at = (rest.len() - 1) / PAGE_ROOM * PAGE_ROOM;
-            let last = rest.split_off(at)?;
-            rest.shrink_to_fit();
-            let page = Page::of(alloc, last)?;
-            list.push(Arc::new(alloc, page)?)?;
+            let last = cut_last(&mut rest)?;
+            list.push(shared_page(alloc, last)?)?;
         }
         list.reverse();
+        Ok(Pages { list })
+    }
+
+    /// The same pages as `of` makes. They are cut off first, by this thread, and then made in as
+    /// many threads as there are processors.
+    pub fn in_parts(
+        rt: &(impl Threads + Sync),
+        alloc: Global,
+        records: Vec<Record>,
+    ) -> Result<Pages, Memory>
+        ensures { IfOk result (λ pages. pages ≡ cut records.items) }
+    {
+        let lists = lists_of(alloc, records)?;
+        let list = pages_of(rt, alloc, lists)?;
         Ok(Pages { list })
     }
 

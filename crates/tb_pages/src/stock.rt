@@ -1,4 +1,4 @@
-ghost use Rattle.std.specs.Prelude.{◌≡◌, ◌≤◌, Some, IfOk, length};
+ghost use Rattle.std.specs.Prelude.{◌≡◌, ◌≤◌, None, Some, IfOk, length};
 ghost use Rattle.std.specs.Option.{ForSome};
 ghost use Rattle.tb_base.specs.Persons.{AreDistinct};
 ghost use Rattle.tb_model.specs.Pages.{records_in};
@@ -13,6 +13,7 @@ use crate::filling::book_for;
 use crate::pages::Pages;
 use crate::register::Register;
 use std::alloc::Global;
+use std::thread::Threads;
 use tb_base::{Memory, Record};
 
 /// Records in pages, how many there are, and the key book that has each person's page, if it was
@@ -45,18 +46,39 @@ fn book_of(alloc: Global, pages: &Pages, book: &Option<Book>) -> Result<Book, Me
 }
 
 impl Stock {
+    // What these pages hold, so many records, without a key book.
+    fn without_book(pages: Pages, living: usize) -> Stock
+        ensures { result ≡ record { pages = pages; book = None; living = living } }
+    {
+        Stock {
+            pages,
+            book: None,
+            living,
+        }
+    }
+
     /// These records, each put into the pages after the other, with stamp 0, and no key book. The
-    /// list of records is given up page by page, so that no second list of them all stands.
+    /// list of records is given up page by page, so that no second list of them all stands. One
+    /// thread makes all pages.
     pub fn first(alloc: Global, records: Vec<Record>) -> Result<Stock, Memory>
         ensures { IfOk result (λ stock. IsFirst records.items stock) }
     {
         let living = records.len();
         let pages = Pages::of(alloc, records)?;
-        Ok(Stock {
-            pages,
-            book: None,
-            living,
-        })
+        Ok(Stock::without_book(pages, living))
+    }
+
+    /// The same as `first` makes, with pages made in as many threads as there are processors.
+    pub fn first_in_parts(
+        rt: &(impl Threads + Sync),
+        alloc: Global,
+        records: Vec<Record>,
+    ) -> Result<Stock, Memory>
+        ensures { IfOk result (λ stock. IsFirst records.items stock) }
+    {
+        let living = records.len();
+        let pages = Pages::in_parts(rt, alloc, records)?;
+        Ok(Stock::without_book(pages, living))
     }
 
     /// What a register has. It takes no memory.

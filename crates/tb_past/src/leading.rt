@@ -74,7 +74,8 @@ pub fn lead_to<L: Ledger>(
 )
     requires from { from ≤ length batches.now }
     requires to { to ≤ length batches.now }
-    // The cube is that of the one release of a chain on some release 0, whose records fit its shape.
+    // The cube is that of the one release of a chain on some release 0, whose records fit its
+    // shape.
     requires cube { (base : ReleaseValue) × IsCubeOf base batches.now from cube.old }
     // Whatever release 0 is, it is that of the other release.
     ensures cube { (base : ReleaseValue) → IsCubeOf base batches.now from cube.old

@@ -13,8 +13,8 @@ use tb_base::{Memory, Rules, Shape, Steps};
 use tb_release::{Batches, Release, follow_rules, replay};
 
 /// Release `n` of a chain on release 0: release 0 itself, which is shared, or one that is made from
-/// it by the first `n` batches. It shares the pages and shards that these don't touch. Their changes
-/// are lent once; it takes memory for copies of what they touch, and for a key book.
+/// it by the first `n` batches. It shares the pages and shards that these don't touch. Their
+/// changes are lent once; it takes memory for copies of what they touch, and for a key book.
 ///
 /// The counter rises by how many changes of records these batches have, or by fewer where the call
 /// is out of memory.

@@ -1,14 +1,13 @@
 -- The people of a file out of those of its parts.
-use Rattle.std.proofs.Common.{◌≡◌, ◌∙◌, sym, ap, subst, refl, ℕ, List, [], ◌∷◌, ◌++◌, ◌<◌, ◌≤◌, length, map, take, get_or, Option, None, Some, Result, Ok, Err, Bor, append-nil, append_assoc}
-use Rattle.std.specs.Prelude.{flat_map, IfOk, IfSome, MatchResult, Contains}
+use Rattle.std.proofs.Common.{◌≡◌, ◌∙◌, sym, ap, subst, refl, ℕ, List, [], ◌∷◌, ◌++◌, ◌<◌, ◌≤◌, length, map, take, get_or, Result, Ok, Err, Bor, append-nil, append_assoc}
+use Rattle.std.specs.Prelude.{flat_map, IfOk, MatchResult, Contains}
 use Rattle.std.specs.List.{AllZip}
 use Rattle.std.specs.declared.vec.Vec.{Vec}
 use Rattle.std.proofs.lemmas.List.{length_push, map-append, take_more}
 use Rattle.tb_base.specs.Persons.{AreDistinct}
-use Rattle.tb_base.specs.Records.{AllFit}
 use Rattle.tb_base.specs.declared.people.TheConstants.{MOST_PERSONS}
 use Rattle.tb_base.specs.declared.records.Record.{Record}
-use Rattle.tb_model.specs.Schemas.{SchemaValue, shape_of}
+use Rattle.tb_model.specs.Schemas.{SchemaValue}
 use Rattle.tb_rows.specs.Columns.{HeaderValue}
 use Rattle.tb_rows.specs.Cutting.{all_records}
 use Rattle.tb_rows.specs.Formats.{line_under}
@@ -18,7 +17,6 @@ use Rattle.tb_rows.proofs.WholeFiles.{accepted_where}
 use Rattle.tb_records.specs.Lines.{AreLines}
 use Rattle.tb_records.specs.People.{people_file, people_of}
 use Rattle.tb_records.specs.WholeFiles.{ArePeople}
-use Rattle.tb_records.proofs.Fitting.{people-fit}
 use Rattle.tb_records.proofs.WholeFiles.{are_people}
 
 -- the lines of all parts are those of all their records
@@ -51,18 +49,6 @@ people-joined schema bytes header parts lists people file each all distinct few 
       record { each = lines-joined schema header parts lists each ∙ ap (λ rs. map (λ one. Ok one) rs) (sym all); together = ((distinct, few), refl) },
       refl,
     )
-
-pub found-joined : {Z : Type 0} (schema : SchemaValue) (bytes : List ℕ) (header : HeaderValue) (parts : List (Bor (List ℕ))) (lists : List (Vec Record Z)) (found : Option (List Record))
-    → IsFile (people_file schema) bytes header.width header.indices (all_records parts)
-    → AllZip (λ (part : Bor (List ℕ)) (list : Vec Record Z). AreLines schema header part.now list.items) parts lists
-    → IfSome found (λ people. people ≡ flat_map (λ (list : Vec Record Z). list.items) lists) → IfSome found AreDistinct → IfSome found (λ people. length people ≤ MOST_PERSONS)
-    → IfSome found (λ people. people_of schema bytes ≡ Ok people)
-found-joined schema bytes header parts lists None file each all distinct few = tt
-found-joined schema bytes header parts lists (Some people) file each all distinct few = people-joined schema bytes header parts lists people file each all distinct few
-
-pub found-fit : (schema : SchemaValue) (bytes : List ℕ) (found : Option (List Record)) → IfSome found (λ people. people_of schema bytes ≡ Ok people) → IfSome found (λ people. AllFit (shape_of schema) people)
-found-fit schema bytes None h = tt
-found-fit schema bytes (Some people) h = (people-fit schema bytes people h).0
 
 -- one more list
 pub list-more : {Z : Type 0} (lists : List (Vec Record Z)) (list : Vec Record Z) → flat_map (λ (list : Vec Record Z). list.items) (lists ++ list ∷ []) ≡ flat_map (λ (list : Vec Record Z). list.items) lists ++ list.items

@@ -1,5 +1,6 @@
 ghost use Rattle.std.specs.Prelude.{◌≡◌, ◌+◌, ◌<◌, ◌≤◌, [], IfOk, flat_map, length, slice_index_or};
 ghost use Rattle.std.specs.Arc.{arc_value};
+ghost use Rattle.tb_base.specs.Persons.{AreDistinct};
 ghost use Rattle.tb_base.specs.declared.people.TheConstants.{MOST_PERSONS};
 ghost use Rattle.tb_model.specs.Releases.{first_release};
 ghost use Rattle.tb_pages.specs.Lents.{pieces_of};
@@ -11,6 +12,7 @@ use std::alloc::Global;
 use std::marker::Model;
 use std::sync::Arc;
 use std::sync::ledger::Ledger;
+use std::thread::Threads;
 use tb_base::{Memory, People, Record, Rules, Steps, charge};
 use tb_pages::{Lent, Register, Stock, filled_places};
 
@@ -48,18 +50,45 @@ impl Model for Release {
 }
 
 impl Release {
+    // Release 0 of a first stock.
+    fn zero(alloc: Global, stock: Stock, rules: Rules) -> Result<Release, Memory>
+        requires { IsKept stock 0 0 0 rules }
+        ensures { IfOk result (λ release. release ≡ stocked stock 0 0 0 rules) }
+    {
+        let rules = Arc::new(alloc, rules)?;
+        let zero = Release::of(alloc, stock, 0, 0, 0, rules)?;
+        Ok(zero)
+    }
+
     /// Release 0: these records, each put into the pages after the other, no edit so far, and rules
     /// without a pvalue that was set. The list of records is given up page by page, so that no
     /// second list of them all stands. It takes a little memory for the pages, and to share the
-    /// rules.
+    /// rules. One thread makes all pages.
     pub fn first(alloc: Global, people: People, rules: Rules) -> Result<Release, Memory>
         requires few { length people ≤ MOST_PERSONS }
         requires none_set { rules.pvalues ≡ [] }
         ensures { IfOk result (λ release. release ≡ first_release rules.threshold people) }
     {
         let stock = Stock::first(alloc, people.into_list())?;
-        let rules = Arc::new(alloc, rules)?;
-        let first = Release::of(alloc, stock, 0, 0, 0, rules)?;
+        let first = Release::zero(alloc, stock, rules)?;
+        Ok(first)
+    }
+
+    /// The same release as `first` makes of these records, with pages made in as many threads as
+    /// there are processors.
+    pub fn first_in_parts(
+        rt: &(impl Threads + Sync),
+        alloc: Global,
+        people: Vec<Record>,
+        rules: Rules,
+    ) -> Result<Release, Memory>
+        requires distinct { AreDistinct people.items }
+        requires few { length people.items ≤ MOST_PERSONS }
+        requires none_set { rules.pvalues ≡ [] }
+        ensures { IfOk result (λ release. release ≡ first_release rules.threshold people.items) }
+    {
+        let stock = Stock::first_in_parts(rt, alloc, people)?;
+        let first = Release::zero(alloc, stock, rules)?;
         Ok(first)
     }
 

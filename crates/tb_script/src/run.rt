@@ -194,9 +194,9 @@ fn analysts<C, B: Named, O: Owner<C, B>>(
 }
 
 /// Writes the reply to each line of a script, one after another: the custodian's as the owner, who
-/// answers over a setting of its own, and each other lane's as an analyst of the owner's board, over
-/// what its custodian wrote by then. The owner begins afresh, and comes back. It takes memory for
-/// the analysts and for the replies, and is out of memory only before the first line.
+/// answers over a setting of its own, and each other lane's as an analyst of the owner's board,
+/// over what its custodian wrote by then. The owner begins afresh, and comes back. It takes memory
+/// for the analysts and for the replies, and is out of memory only before the first line.
 pub fn run_owned<C, B: Named, O: Owner<C, B>, R: Threads + Wait + Sync, K: Sink, L: Ledger>(
     setting: &Setting<'_, B, R>,
     own_setting: &C,

@@ -1,9 +1,10 @@
 //! Tests of listeners and of the sessions of several ports.
 //!
-//! By `tb_real_listen` and `tb_io` alone: sessions over loopback, with clients that stay and clients
-//! that go away, what waits between the two ends of a session, and sessions in memory. By `tb_serve`: many sessions
-//! beside publications, and sessions over loopback whose clients go away. By the top call: clients
-//! that wait for each other's replies, listeners that fail, servers with a journal, and mirrors.
+//! By `tb_real_listen` and `tb_io` alone: sessions over loopback, with clients that stay and
+//! clients that go away, what waits between the two ends of a session, and sessions in memory. By
+//! `tb_serve`: many sessions beside publications, and sessions over loopback whose clients go away.
+//! By the top call: clients that wait for each other's replies, listeners that fail, servers with a
+//! journal, and mirrors.
 #![tactic(auto)]
 
 #[cfg(test)]

@@ -115,8 +115,8 @@ pub fn payload_len(edits: &Edits) -> usize
     total
 }
 
-/// Puts the payload of edits, of which each can be written, behind what was written. It takes memory
-/// only where there is no room for it.
+/// Puts the payload of edits, of which each can be written, behind what was written. It takes
+/// memory only where there is no room for it.
 pub fn spell_behind(out: &mut Vec<u8>, edits: &Edits) -> Result<(), Memory>
     requires { CanBeSpelled edits.now }
     ensures spelled { OnOk result (out.new.items ≡ out.old.items ++ spelled edits.now) }

@@ -3,11 +3,12 @@
 //! query is planned, its cells are counted by a cube or from the records, and the table is prepared
 //! and written.
 //!
-//! It stands on `tb_query` (the line), `tb_plan`, `tb_scan`, `tb_rollup` and `tb_build` (the cells),
-//! `tb_release` (the records), `tb_text` (the table), `tb_io` (where the reply goes) and `tb_lines`
-//! (what a reply is). Its contracts cite `specs/Answers` (what the reply to a query's line is, at a
-//! price that the caller names), `Counting` (cells that were counted over a release), `ReplyLines`
-//! (the lines of a reply that is no table) and `ReplyTexts` (the text of a `TableReply`).
+//! It stands on `tb_query` (the line), `tb_plan`, `tb_scan`, `tb_rollup` and `tb_build` (the
+//! cells), `tb_release` (the records), `tb_text` (the table), `tb_io` (where the reply goes) and
+//! `tb_lines` (what a reply is). Its contracts cite `specs/Answers` (what the reply to a query's
+//! line is, at a price that the caller names), `Counting` (cells that were counted over a release),
+//! `ReplyLines` (the lines of a reply that is no table) and `ReplyTexts` (the text of a
+//! `TableReply`).
 //!
 //! Of the proofs, `Cubed` has the cube of a plan's variables, `FewCells` and `Counts` that no cell
 //! counts too many persons and that the text of what was counted is the table's; `QueryAnswers`

@@ -22,9 +22,9 @@ use Rattle.tb_top.specs.Endings.{fault_line, last_line}
 use Rattle.tb_top.specs.declared.endings.End.TheVariants as end
 
 -- what is seen of a disk: what each name had before it was attached, where that is told, and what a
--- stop could leave under it; the moment before the call; whether it is attached at the end, and what a read then gives, where
--- that is told; what a stop then may leave, and what one since a moment may have left; and its count
--- of faults, before and after
+-- stop could leave under it; the moment before the call; whether it is attached at the end, and
+-- what a read then gives, where that is told; what a stop then may leave, and what one since a
+-- moment may have left; and its count of faults, before and after
 pub record DiskSeen : Type 1 where
   pub named : Option (List ℕ → List ℕ)
   pub could_leave : List ℕ → List ℕ → Type 0
@@ -98,8 +98,8 @@ kept_seen disk journal steps steps' out = record {
 }
 
 -- a text is the last line of a run whose journal's file is refused, for this fault, and is left as
--- it was, or couldn't be read, since the disk failed, and then each file that a stop in the run left
--- stands as one that a stop before it could leave; and that is its status
+-- it was, or couldn't be read, since the disk failed, and then each file that a stop in the run
+-- left stands as one that a stop before it could leave; and that is its status
 abbrev pub IsKeepLine : CensusValue → JournalRun → Status → List ℕ → Type 0
 IsKeepLine census saw s text =
     ((fault : JournalFault)

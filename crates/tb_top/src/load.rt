@@ -3,6 +3,7 @@
 ghost use Rattle.std.specs.Prelude.{◌≡◌, ◌≤◌, ◌++◌, [], ◌∷◌, Some, true, length};
 ghost use Rattle.std.specs.Prelude.{IfErr, IfOk, option_map};
 ghost use Rattle.tb_base.specs.declared.people.TheConstants.{MOST_PERSONS};
+ghost use Rattle.tb_base.specs.Persons.{AreDistinct};
 ghost use Rattle.tb_base.specs.Records.{AllFit};
 ghost use Rattle.tb_model.specs.Schemas.{shape_of};
 ghost use Rattle.tb_top.specs.declared.endings.End.TheVariants as end;
@@ -27,7 +28,7 @@ use crate::population::Population;
 use crate::service::Service;
 use std::alloc::Global;
 use std::thread::Threads;
-use tb_base::{Keys, People, Rules};
+use tb_base::{Keys, Record, Rules};
 use tb_io::{FileRead, Files};
 use tb_ptable::PTable;
 use tb_records::read_people_in_parts;
@@ -194,22 +195,23 @@ fn load_ptable<F: Files>(
     }
 }
 
-// The persons of the microdata, which threads read where the file is long. The bytes of the file are
-// freed at the return.
+// The persons of the microdata, which threads read where the file is long. The bytes of the file
+// are freed at the return.
 fn load_people<F: Files, R: Threads + Sync>(
     rt: &R,
     alloc: Global,
     files: &mut F,
     name: &FileName<'_>,
     schema: &Schema,
-) -> Result<People, End>
-    ensures few { IfOk result (λ people. length people ≤ MOST_PERSONS) }
-    ensures fit { IfOk result (λ people. AllFit (shape_of schema.now) people) }
+) -> Result<Vec<Record>, End>
+    ensures distinct { IfOk result (λ people. AreDistinct people.items) }
+    ensures few { IfOk result (λ people. length people.items ≤ MOST_PERSONS) }
+    ensures fit { IfOk result (λ people. AllFit (shape_of schema.now) people.items) }
     ensures loads { Loads
         (reading F.content F.faults F.readings files.old files.new)
         3
         (named input.People name.now ∷ [])
-        (λ people. people)
+        (λ people. people.items)
         (people_in schema.now) result }
 {
     let bytes = read_bytes(alloc, files, Input::People, name)?;
@@ -238,7 +240,7 @@ fn load_census<F: Files, R: Threads + Sync>(
     let ptable = load_ptable(alloc, files, &inputs.ptable, schema.keys())?;
     let people = load_people(rt, alloc, files, &inputs.people, &schema)?;
     let rules = Rules::new(alloc, inputs.threshold);
-    let release = Release::first(alloc, people, rules)?;
+    let release = Release::first_in_parts(rt, alloc, people, rules)?;
     let setup = Setup {
         schema,
         ptable,

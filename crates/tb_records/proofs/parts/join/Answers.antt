@@ -12,12 +12,12 @@ loop-list-preserved c =
     let into = c.into_iter-list-iterator.ensures.into_iter_gives in
     let road = YieldsList-from_vec {s = c.into_iter-list-iterator.result} lists into.0 (into.1 ∙ c.args.lists.ok.0) in
     let turn = YieldsList-turn road c.loop-list.yielded c.loop-list.list-iterator c.loop-list.yielded_by c.next.result c.next.new.self c.in-Some.list c.in-Some.is c.next.ensures.steps in record {
-      all = c.in_ok-added.ensures c.if-not-added.false ∙ ap (λ rs. rs ++ c.in-Some.list.items) c.loop-list.invariant.all ∙ sym (list-more c.loop-list.yielded c.in-Some.list);
+      all = c.in_ok-append.ensures.items ∙ ap (λ rs. rs ++ c.in-Some.list.items) c.loop-list.invariant.all ∙ sym (list-more c.loop-list.yielded c.in-Some.list);
       so_far = further c.loop-list.yielded lists c.in-Some.list c.loop-list.invariant.so_far turn;
     }
 
-pub returns-then-all-le-MOST_PERSONS-clause-all : goal.returns-then-all-le-MOST_PERSONS-clause-all
-returns-then-all-le-MOST_PERSONS-clause-all c =
+pub returns : goal.returns
+returns c =
     let lists = c.args.lists.items in
     let into = c.into_iter-list-iterator.ensures.into_iter_gives in
     let road = YieldsList-from_vec {s = c.into_iter-list-iterator.result} lists into.0 (into.1 ∙ c.args.lists.ok.0) in
