@@ -140,6 +140,17 @@ fn two() -> &'static [Person] {
     &TWO
 }
 
+// The records of all lists.
+fn joined(alloc: Global, lists: Vec<Vec<Record>>) -> Result<Vec<Record>, PeopleFault> {
+    let mut all = Vec::new(alloc);
+    for mut list in lists {
+        if all.append(&mut list).is_err() {
+            return Err(PeopleFault::Memory);
+        }
+    }
+    Ok(all)
+}
+
 fn read_in(
     rt: &(impl Threads + Sync),
     alloc: Global,
@@ -147,7 +158,7 @@ fn read_in(
     parts: usize,
 ) -> Result<Vec<Record>, PeopleFault> {
     match Schema::read(alloc, CLASSES, None) {
-        Ok(schema) => read_people_in(rt, alloc, &schema, file, parts),
+        Ok(schema) => joined(alloc, read_people_in(rt, alloc, &schema, file, parts)?),
         Err(_) => Err(PeopleFault::Memory),
     }
 }
@@ -251,7 +262,7 @@ fn read_long(
     file: &[u8],
 ) -> Result<Vec<Record>, PeopleFault> {
     match Schema::read(alloc, CLASSES, None) {
-        Ok(schema) => read_people_in_parts(rt, alloc, &schema, file),
+        Ok(schema) => joined(alloc, read_people_in_parts(rt, alloc, &schema, file)?),
         Err(_) => Err(PeopleFault::Memory),
     }
 }

@@ -1,11 +1,9 @@
 -- The people of a file out of those of its parts.
-use Rattle.std.proofs.Common.{◌≡◌, ◌∙◌, sym, ap, subst, refl, ℕ, List, [], ◌∷◌, ◌++◌, ◌<◌, ◌≤◌, length, map, take, get_or, Result, Ok, Err, Bor, append-nil, append_assoc}
+use Rattle.std.proofs.Common.{◌≡◌, ◌∙◌, sym, ap, subst, refl, ℕ, List, [], ◌∷◌, ◌++◌, map, Result, Ok, Err, Bor}
 use Rattle.std.specs.Prelude.{flat_map, IfOk, MatchResult, Contains}
 use Rattle.std.specs.List.{AllZip}
 use Rattle.std.specs.declared.vec.Vec.{Vec}
-use Rattle.std.proofs.lemmas.List.{length_push, map-append, take_more}
-use Rattle.tb_base.specs.Persons.{AreDistinct}
-use Rattle.tb_base.specs.declared.people.TheConstants.{MOST_PERSONS}
+use Rattle.std.proofs.lemmas.List.{map-append}
 use Rattle.tb_base.specs.declared.records.Record.{Record}
 use Rattle.tb_model.specs.Schemas.{SchemaValue}
 use Rattle.tb_rows.specs.Columns.{HeaderValue}
@@ -16,7 +14,7 @@ use Rattle.tb_rows.specs.WholeFiles.{IsFile}
 use Rattle.tb_rows.proofs.WholeFiles.{accepted_where}
 use Rattle.tb_records.specs.Lines.{AreLines}
 use Rattle.tb_records.specs.People.{people_file, people_of}
-use Rattle.tb_records.specs.WholeFiles.{ArePeople}
+use Rattle.tb_records.specs.WholeFiles.{ArePeople, MayStand}
 use Rattle.tb_records.proofs.WholeFiles.{are_people}
 
 -- the lines of all parts are those of all their records
@@ -37,8 +35,8 @@ lines-joined {Z} schema header (part ∷ parts) (list ∷ lists) h =
 pub people-joined : {Z : Type 0} (schema : SchemaValue) (bytes : List ℕ) (header : HeaderValue) (parts : List (Bor (List ℕ))) (lists : List (Vec Record Z)) (people : List Record)
     → IsFile (people_file schema) bytes header.width header.indices (all_records parts)
     → AllZip (λ (part : Bor (List ℕ)) (list : Vec Record Z). AreLines schema header part.now list.items) parts lists
-    → people ≡ flat_map (λ (list : Vec Record Z). list.items) lists → AreDistinct people → length people ≤ MOST_PERSONS → people_of schema bytes ≡ Ok people
-people-joined schema bytes header parts lists people file each all distinct few =
+    → people ≡ flat_map (λ (list : Vec Record Z). list.items) lists → MayStand people → people_of schema bytes ≡ Ok people
+people-joined schema bytes header parts lists people file each all stand =
     (accepted_where (people_file schema) ArePeople (are_people schema) bytes people).1 (
       header.width,
       header.indices,
@@ -46,14 +44,9 @@ people-joined schema bytes header parts lists people file each all distinct few 
       people,
       people,
       file,
-      record { each = lines-joined schema header parts lists each ∙ ap (λ rs. map (λ one. Ok one) rs) (sym all); together = ((distinct, few), refl) },
+      record { each = lines-joined schema header parts lists each ∙ ap (λ rs. map (λ one. Ok one) rs) (sym all); together = (stand, refl) },
       refl,
     )
-
--- one more list
-pub list-more : {Z : Type 0} (lists : List (Vec Record Z)) (list : Vec Record Z) → flat_map (λ (list : Vec Record Z). list.items) (lists ++ list ∷ []) ≡ flat_map (λ (list : Vec Record Z). list.items) lists ++ list.items
-list-more [] list = append-nil list.items
-list-more {Z} (first ∷ lists) list = ap (λ rs. first.items ++ rs) (list-more lists list) ∙ sym (append_assoc first.items (flat_map (λ (list : Vec Record Z). list.items) lists) list.items)
 
 -- what each part gave, of parts that were all read
 all-read : {X Y : Type 0} (E : Type 0) (R : X → Y → Type 0) (parts : List X) (lists : List Y) → AllZip (λ part (result : Result Y E). IfOk result (λ list. R part list)) parts (map (λ list. Ok list) lists) → AllZip R parts lists
@@ -69,10 +62,3 @@ pub all-collected : {X Y E Z : Type 0} (R : X → Y → Type 0) (parts : List X)
 all-collected {X} {Y} {E} R parts results (Ok v) each (lists, are, items) =
     subst (λ ls. AllZip R parts ls) (sym items) (all-read E R parts lists (subst (λ rs. AllZip (λ part (result : Result Y E). IfOk result (λ list. R part list)) parts rs) are each))
 all-collected R parts results (Err e) each h = tt
-
--- the first of a list, one more
-pub further : {X : Type 0} (yielded all : List X) (one : X) → yielded ≡ take (length yielded) all → (length yielded < length all) × (one ≡ get_or all (length yielded) one)
-    → yielded ++ one ∷ [] ≡ take (length (yielded ++ one ∷ [])) all
-further yielded all one so_far next =
-    ap (λ rs. rs ++ one ∷ []) so_far ∙ ap (λ r. take (length yielded) all ++ r ∷ []) next.1 ∙ sym (take_more all (length yielded) one next.0)
-    ∙ ap (λ n. take n all) (sym (length_push yielded one))

@@ -1,22 +1,34 @@
-// Whether records are of one person each.
+// Whether records may stand together.
 
-ghost use Rattle.std.specs.Prelude.{◌≡◌, IfOk, map, nat_lt};
+ghost use Rattle.std.specs.Prelude.{◌≡◌, ◌++◌, IfOk, OnOk, flat_map, map, nat_lt};
 ghost use Rattle.std.specs.Bool.{MatchBool};
 ghost use Rattle.std.specs.List.Sorted.{IsStrictlyIncreasing};
-ghost use Rattle.tb_base.specs.Persons.{AreDistinct};
+ghost use Rattle.tb_records.specs.WholeFiles.{MayStand};
 
 use rayon::prelude::par_sort;
 use std::alloc::Global;
 use std::thread::Threads;
-use tb_base::{Memory, Record};
+use tb_base::{MOST_PERSONS, Memory, Record};
 
-// The persons of records, in order.
-fn persons_of(alloc: Global, records: &[Record]) -> Result<Vec<u32>, Memory>
-    ensures { IfOk result (λ persons. persons.items ≡ map (λ r. r.person) records.now) }
+// Adds the persons of records.
+fn add_persons(persons: &mut Vec<u32>, records: &[Record]) -> Result<(), Memory>
+    ensures { OnOk result
+        (persons.new.items ≡ persons.old.items ++ map (λ r. r.person) records.now) }
 {
-    let mut persons = Vec::with_capacity(alloc, records.len())?;
     for one in records {
         persons.push(one.person)?;
+    }
+    Ok(())
+}
+
+// The persons of the records of all lists, in order.
+fn persons_of(alloc: Global, lists: &[Vec<Record>]) -> Result<Vec<u32>, Memory>
+    ensures { IfOk result (λ persons.
+        persons.items ≡ map (λ r. r.person) (flat_map (λ list. list.items) lists.now)) }
+{
+    let mut persons = Vec::with_capacity(alloc, MOST_PERSONS)?;
+    for list in lists {
+        add_persons(&mut persons, list)?;
     }
     Ok(persons)
 }
@@ -34,18 +46,21 @@ fn rise(numbers: &[u32]) -> bool
     )
 }
 
-/// Whether no two of these records are of one person. Where their persons don't ascend, as many
-/// threads as there are processors sort a list of them, for which it takes memory.
-pub fn are_distinct(
+/// Whether the records of all lists may stand together. It takes memory for a list of their
+/// persons, which as many threads as there are processors sort where they don't ascend.
+pub fn may_stand(
     rt: &(impl Threads + Sync),
     alloc: Global,
-    records: &[Record],
+    lists: &[Vec<Record>],
 ) -> Result<bool, Memory>
-    ensures { IfOk result (λ distinct. MatchBool distinct
-        (AreDistinct records.now)
-        (AreDistinct records.now → ⊥)) }
+    ensures { IfOk result (λ may. MatchBool may
+        (MayStand (flat_map (λ list. list.items) lists.now))
+        (MayStand (flat_map (λ list. list.items) lists.now) → ⊥)) }
 {
-    let mut persons = persons_of(alloc, records)?;
+    let mut persons = persons_of(alloc, lists)?;
+    if persons.len() > MOST_PERSONS {
+        return Ok(false);
+    }
     if rise(&persons) {
         return Ok(true);
     }

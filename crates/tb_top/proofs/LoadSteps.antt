@@ -1,8 +1,9 @@
 -- Steps over a run's files, one after another.
-use Rattle.std.proofs.Common.{◌≡◌, ◌≢◌, ◌∙◌, ap, sym, refl, ℕ, suc, zero, ◌<◌, ◌≤◌, List, [], ◌∷◌, ◌++◌, length, map, Option, option_map, Some, None, Result, Ok, Err, true, arith}
+use Rattle.std.proofs.Common.{◌≡◌, ◌≢◌, ◌∙◌, ap, sym, refl, ℕ, suc, zero, ◌<◌, ◌≤◌, List, [], ◌∷◌, ◌++◌, length, map, Option, option_map, Some, None, Result, Ok, Err, true, arith, Global}
 use Rattle.std.proofs.lemmas.Bool.{ne_eqb}
 use Rattle.std.proofs.lemmas.List.{append_assoc, length-map, map-append}
-use Rattle.std.specs.Prelude.{IfSome, ◌==◌}
+use Rattle.std.specs.Prelude.{IfSome, flat_map, ◌==◌}
+use Rattle.std.specs.declared.vec.Vec.{Vec}
 use Rattle.tb_io.specs.Faults.{HasRisen, one_more}
 use Rattle.tb_io.proofs.FaultLemmas.{HasRisen-earlier}
 use Rattle.tb_base.specs.declared.records.Record.{Record}
@@ -32,6 +33,10 @@ use Rattle.tb_top.specs.Asking.{◌>>=◌, CensusValue, Contents, bytes_in, cens
 use Rattle.tb_top.specs.Calls.{IsReadTo, readings_more}
 use Rattle.tb_top.specs.Commands.{NamedFile, class_files, input_files, named}
 use Rattle.tb_top.specs.Loading.{Gives, Hold, Loads, Reading}
+
+-- the records of lists, one list after another
+abbrev pub all_of : Vec (Vec Record Global) Global → List Record
+all_of lists = flat_map (λ list. list.items) lists.items
 
 -- what is true of the contents, where they are told
 IfSome-map : {A : Type 0} (P Q : A → Type 0) (o : Option A) → ((x : A) → P x → Q x) → IfSome o P → IfSome o Q

@@ -1,7 +1,7 @@
 // The files of a run, read in their order.
 
 ghost use Rattle.std.specs.Prelude.{◌≡◌, ◌≤◌, ◌++◌, [], ◌∷◌, Some, true, length};
-ghost use Rattle.std.specs.Prelude.{IfErr, IfOk, option_map};
+ghost use Rattle.std.specs.Prelude.{IfErr, IfOk, flat_map, option_map};
 ghost use Rattle.tb_base.specs.declared.people.TheConstants.{MOST_PERSONS};
 ghost use Rattle.tb_base.specs.Persons.{AreDistinct};
 ghost use Rattle.tb_base.specs.Records.{AllFit};
@@ -203,15 +203,18 @@ fn load_people<F: Files, R: Threads + Sync>(
     files: &mut F,
     name: &FileName<'_>,
     schema: &Schema,
-) -> Result<Vec<Record>, End>
-    ensures distinct { IfOk result (λ people. AreDistinct people.items) }
-    ensures few { IfOk result (λ people. length people.items ≤ MOST_PERSONS) }
-    ensures fit { IfOk result (λ people. AllFit (shape_of schema.now) people.items) }
+) -> Result<Vec<Vec<Record>>, End>
+    ensures distinct { IfOk result (λ lists.
+        AreDistinct (flat_map (λ list. list.items) lists.items)) }
+    ensures few { IfOk result (λ lists.
+        length (flat_map (λ list. list.items) lists.items) ≤ MOST_PERSONS) }
+    ensures fit { IfOk result (λ lists.
+        AllFit (shape_of schema.now) (flat_map (λ list. list.items) lists.items)) }
     ensures loads { Loads
         (reading F.content F.faults F.readings files.old files.new)
         3
         (named input.People name.now ∷ [])
-        (λ people. people.items)
+        (λ lists. flat_map (λ list. list.items) lists.items)
         (people_in schema.now) result }
 {
     let bytes = read_bytes(alloc, files, Input::People, name)?;

@@ -1,5 +1,6 @@
 use Rattle.std.proofs.Common.{◌≡◌, map, take}
+use Rattle.std.specs.Prelude.{flat_map}
 use Rattle.tb_records.proofs.distinct.persons_of.Given as goal
 
-abbrev pub invariant-loop-one : goal.invariant-loop-one
-invariant-loop-one l = l.persons.items ≡ map (λ r. r.person) (take l.one-index l.records)
+abbrev pub invariant-loop-list : goal.invariant-loop-list
+invariant-loop-list l = l.persons.items ≡ map (λ r. r.person) (flat_map (λ list. list.items) (take l.list-index l.lists))

@@ -5,7 +5,7 @@ use Rattle.tb_base.specs.Rules.{RulesValue, first_rules}
 use Rattle.tb_model.specs.Releases.{ReleaseValue, first_release}
 use Rattle.tb_top.specs.Asking.{people_in}
 use Rattle.tb_top.specs.Loading.{IsBase, census_over, census_value}
-use Rattle.tb_top.proofs.LoadSteps.{Loads-ends, Loads-fails, Loads-memory, census-no-ptable, census-no-schema, census-steps, census_with}
+use Rattle.tb_top.proofs.LoadSteps.{all_of, Loads-ends, Loads-fails, Loads-memory, census-no-ptable, census-no-schema, census-steps, census_with}
 use Rattle.tb_top.proofs.load.load_census.Goals as goal
 
 -- release 0 by rules that are new
@@ -32,7 +32,7 @@ returns-in_err-people-clause-loads g c =
     let table = c.in_ok-ptable.ptable in
     rw (p.1, p.2) (census-steps census_value inputs schema table
     (Err _) refl refl refl refl refl refl c.in_ok-schema.ensures.loads (rw c.keys.ensures at c.in_ok-ptable.ensures.loads)
-    (Loads-fails (λ people. people.items) census_value (people_in schema)
+    (Loads-fails all_of census_value (people_in schema)
     (λ contents records. Ok (census_with inputs schema table records)) c.in_err-people.ensures.loads))
 
 pub returns-in_err-release-clause-loads : goal.returns-in_err-release-clause-loads
@@ -43,7 +43,7 @@ returns-in_err-release-clause-loads g c =
     let table = c.in_ok-ptable.ptable in
     rw (p.1, p.2) (census-steps census_value inputs schema table
     (Err _) refl refl refl refl refl refl c.in_ok-schema.ensures.loads (rw c.keys.ensures at c.in_ok-ptable.ensures.loads)
-    (Loads-memory (λ people. people.items) census_value (people_in schema)
+    (Loads-memory all_of census_value (people_in schema)
     (λ contents records. Ok (census_with inputs schema table records)) c.in_ok-people.people c.in_ok-people.ensures.loads))
 
 pub returns-clause-loads : goal.returns-clause-loads
@@ -51,14 +51,14 @@ returns-clause-loads g c =
     let inputs = c.args.inputs.now in
     let schema = c.in_ok-schema.schema in
     let table = c.in_ok-ptable.ptable in
-    let first = made inputs.threshold c.new-rules.result c.in_ok-people.people.items _ c.new-rules.ensures c.in_ok-release.ensures in
+    let first = made inputs.threshold c.new-rules.result (all_of c.in_ok-people.people) _ c.new-rules.ensures c.in_ok-release.ensures in
     census-steps census_value inputs schema table _ refl refl refl refl refl refl c.in_ok-schema.ensures.loads (rw c.keys.ensures at c.in_ok-ptable.ensures.loads)
-    (Loads-ends (λ people. people.items) census_value (people_in schema)
+    (Loads-ends all_of census_value (people_in schema)
     (λ contents records. Ok (census_with inputs schema table records)) c.in_ok-people.people _
     (λ contents. ap (λ (r : ReleaseValue). Ok (census_over (record { schema = schema; lines = table.lines; units = None }) r)) (sym first)) c.in_ok-people.ensures.loads)
 
 pub returns-clause-first : goal.returns-clause-first
 returns-clause-first g c =
-    let first = made c.args.inputs.now.threshold c.new-rules.result c.in_ok-people.people.items _ c.new-rules.ensures c.in_ok-release.ensures in
-    let same : c.in_ok-release.release.records ≡ c.in_ok-people.people.items = ap (λ r. r.records) first in
+    let first = made c.args.inputs.now.threshold c.new-rules.result (all_of c.in_ok-people.people) _ c.new-rules.ensures c.in_ok-release.ensures in
+    let same : c.in_ok-release.release.records ≡ all_of c.in_ok-people.people = ap (λ r. r.records) first in
     (subst IsBase (sym first) refl, rw same c.in_ok-people.ensures.fit)
