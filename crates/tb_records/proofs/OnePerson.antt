@@ -7,7 +7,7 @@ use Rattle.std.specs.Cmp.{nat_cmp_total}
 use Rattle.std.specs.Ordering.{is_lt, nat_cmp}
 use Rattle.std.proofs.lemmas.Bool.{cases_Bool, lt-ltb, ltb-true, ne_eqb}
 use Rattle.std.proofs.lemmas.Bool.Decides.{nat_tests}
-use Rattle.std.proofs.lemmas.List.{drop_all, length-map, take_all}
+use Rattle.std.proofs.lemmas.List.{drop_all, take_all}
 use Rattle.std.proofs.lemmas.List.Sorted.{IsPermutation-sym, ranks_by, sorted_far}
 use Rattle.std.proofs.lemmas.Map.Keys.{IsDistinct-IsPermutation, IsDistinct-cons, IsDistinct-from_apart, IsDistinct-head, IsDistinct-tail, IsStrictlyIncreasing-from_distinct, below_from_sorted, ge_from_not_lt, sorted_from_strictly_increasing}
 use Rattle.tb_base.specs.declared.records.Record.{Record}
@@ -56,18 +56,9 @@ eqb-flips a b = grind (arith, nat_tests)
 not-falling : (ns : List ℕ) → IsSorted nat_cmp ns → IsNonDecreasing ns
 not-falling ns up = λ i j d low below. ge_from_not_lt (get_or ns j d) (get_or ns i d) (sorted_far (λ x y. is_lt (nat_cmp x y)) (ranks_by nat_cmp_total (λ y. y)) ns up i j d low below)
 
--- what the list of their persons tells of records
-pub stand-risen : (rs : List Record) (ps : List ℕ) → ps ≡ persons rs → length ps ≤ MOST_PERSONS → IsStrictlyIncreasing ps → MayStand rs
-stand-risen rs ps are few up =
-    let risen-ps : IsStrictlyIncreasing (persons rs) = subst IsStrictlyIncreasing are up in
-    let long : length ps ≡ length rs = ap length are ∙ length-map rs (λ r. r.person) in
-    (from_list rs (risen (persons rs) risen-ps), omega (arith, long, few))
-
-pub stand-not : (rs : List Record) (ps : List ℕ) → ps ≡ persons rs → MOST_PERSONS < length ps → MayStand rs → ⊥
-stand-not rs ps are many stand =
-    let long : length ps ≡ length rs = ap length are ∙ length-map rs (λ r. r.person) in
-    let few = stand.1 in
-    omega (arith, long, many, few)
+-- persons that rise are all others
+pub distinct-risen : (rs : List Record) → IsStrictlyIncreasing (persons rs) → AreDistinct rs
+distinct-risen rs up = from_list rs (risen (persons rs) up)
 
 -- once sorted, they rise just where the records are of one person each
 distinct-sorted : (rs : List Record) (sorted : List ℕ) (b : Bool) → IsPermutation (persons rs) sorted → IsSorted nat_cmp sorted
@@ -79,11 +70,10 @@ and-few : (rs : List Record) (b : Bool) → length rs ≤ MOST_PERSONS → Match
 and-few rs true few distinct = (distinct, few)
 and-few rs false few not = λ stand. not stand.0
 
-pub stand-sorted : (rs : List Record) (ps sorted : List ℕ) (b : Bool) → ps ≡ persons rs → length ps ≤ MOST_PERSONS → IsPermutation ps sorted → IsSorted nat_cmp sorted
+pub stand-sorted : (rs : List Record) (ps sorted : List ℕ) (b : Bool) → ps ≡ persons rs → length rs ≤ MOST_PERSONS → IsPermutation ps sorted → IsSorted nat_cmp sorted
     → MatchBool b (IsStrictlyIncreasing sorted) (IsStrictlyIncreasing sorted → ⊥) → MatchBool b (MayStand rs) (MayStand rs → ⊥)
 stand-sorted rs ps sorted b are few same up rising =
-    let long : length ps ≡ length rs = ap length are ∙ length-map rs (λ r. r.person) in
-    and-few rs b (omega (arith, long, few)) (distinct-sorted rs sorted b (subst (λ (ns : List ℕ). IsPermutation ns sorted) are same) up rising)
+    and-few rs b few (distinct-sorted rs sorted b (subst (λ (ns : List ℕ). IsPermutation ns sorted) are same) up rising)
 
 -- a list whose numbers were all written anew
 pub written-anew : (old new : List ℕ) (len : ℕ) → len ≡ length old → length new ≡ length old → take len (new ++ drop (length new) old) ≡ new

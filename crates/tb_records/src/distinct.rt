@@ -1,14 +1,63 @@
 // Whether records may stand together.
 
-ghost use Rattle.std.specs.Prelude.{◌≡◌, ◌++◌, IfOk, OnOk, flat_map, map, nat_lt};
+ghost use Rattle.std.specs.Prelude.{◌≡◌, ◌<◌, ◌≤◌, ◌++◌, ℕ, List, true, IfOk, IfSome, OnOk};
+ghost use Rattle.std.specs.Prelude.{flat_map, length, map, nat_lt};
 ghost use Rattle.std.specs.Bool.{MatchBool};
 ghost use Rattle.std.specs.List.Sorted.{IsStrictlyIncreasing};
+ghost use Rattle.tb_records.specs.Rising.{RiseTo};
 ghost use Rattle.tb_records.specs.WholeFiles.{MayStand};
 
 use rayon::prelude::par_sort;
 use std::alloc::Global;
 use std::thread::Threads;
 use tb_base::{MOST_PERSONS, Memory, Record};
+
+// Whether there are no more than may be.
+fn are_few(lists: &[Vec<Record>]) -> bool
+    ensures { MatchBool result
+        (length (flat_map (λ list. list.items) lists.now) ≤ MOST_PERSONS)
+        (MOST_PERSONS < length (flat_map (λ list. list.items) lists.now)) }
+{
+    let mut count = 0;
+    for list in lists {
+        if list.len() > MOST_PERSONS - count {
+            return false;
+        }
+        count += list.len();
+    }
+    true
+}
+
+// The last person's number, if each record's is above the one before it, and the first above this
+// one.
+fn last_risen(records: &[Record], above: u32) -> Option<u32>
+    ensures { IfSome result (λ last. (before : List ℕ)
+        → RiseTo above before → RiseTo last (before ++ map (λ r. r.person) records.now)) }
+{
+    let mut last = above;
+    for one in records {
+        if one.person <= last {
+            return None;
+        }
+        last = one.person;
+    }
+    Some(last)
+}
+
+// Whether each record's person has a number above those before it.
+fn ascend(lists: &[Vec<Record>]) -> bool
+    ensures { result ≡ true → IsStrictlyIncreasing
+        (map (λ r. r.person) (flat_map (λ list. list.items) lists.now)) }
+{
+    let mut last = 0;
+    for list in lists {
+        let Some(next) = last_risen(list, last) else {
+            return false;
+        };
+        last = next;
+    }
+    true
+}
 
 // Adds the persons of records.
 fn add_persons(persons: &mut Vec<u32>, records: &[Record]) -> Result<(), Memory>
@@ -46,8 +95,8 @@ fn rise(numbers: &[u32]) -> bool
     )
 }
 
-/// Whether the records of all lists may stand together. It takes memory for a list of their
-/// persons, which as many threads as there are processors sort where they don't ascend.
+/// Whether the records of all lists may stand together. Where their persons don't ascend, as many
+/// threads as there are processors sort a list of them, for which it takes memory.
 pub fn may_stand(
     rt: &(impl Threads + Sync),
     alloc: Global,
@@ -57,13 +106,13 @@ pub fn may_stand(
         (MayStand (flat_map (λ list. list.items) lists.now))
         (MayStand (flat_map (λ list. list.items) lists.now) → ⊥)) }
 {
-    let mut persons = persons_of(alloc, lists)?;
-    if persons.len() > MOST_PERSONS {
+    if !are_few(lists) {
         return Ok(false);
     }
-    if rise(&persons) {
+    if ascend(lists) {
         return Ok(true);
     }
+    let mut persons = persons_of(alloc, lists)?;
     par_sort(rt, alloc, &mut persons)?;
     Ok(rise(&persons))
 }
