@@ -1,6 +1,6 @@
 -- Records that are cut into pages from behind.
 use Rattle.std.proofs.Common.{◌≡◌, ℕ, ◌+◌, ◌-◌, ◌*◌, ◌/◌, ◌<◌, ◌≤◌, List, [], ◌∷◌, ◌++◌, map, length, take, drop, reverse, refl, sym, ap, ◌∙◌, subst, inl, inr, arith, append_assoc, append-nil, length-append}
-use Rattle.std.specs.Prelude.{◌⊎◌, fold, Result, Ok, Err, IfOk, MatchResult, Contains}
+use Rattle.std.specs.Prelude.{◌⊎◌, flat_map, fold, Result, Ok, Err, IfOk, MatchResult, Contains}
 use Rattle.std.specs.List.{AllZip}
 use Rattle.std.specs.declared.vec.Vec.{Vec}
 use Rattle.std.proofs.lemmas.Bool.{lt-ltb, le-ltb}
@@ -99,6 +99,18 @@ pub last_cut : (rs left last : List Record) (at : ℕ) → at ≡ (length rs - 1
 last_cut rs left last at is some front behind =
     cut_off rs at ((length rs - 1) / PAGE_ROOM) is (omega arith) (omega arith)
     ∙ ap (λ xs. cut xs ++ page_of (drop at rs) 0 ∷ []) (sym front) ∙ ap (λ xs. cut left ++ page_of xs 0 ∷ []) (sym behind)
+
+-- the last page, of records that were cut in two
+pub off_behind : (rs left last : List Record) (n : ℕ) → n ≡ length rs → 0 < n → length last ≡ n - (n - 1) / PAGE_ROOM * PAGE_ROOM → rs ≡ left ++ last
+    → ((n - 1) / PAGE_ROOM * PAGE_ROOM ≡ length left) × (cut rs ≡ cut left ++ page_of last 0 ∷ [])
+off_behind rs left last n all some long are =
+    let both = ap length are ∙ length-append left last in
+    (omega arith, ap cut are ∙ cut_behind left last ((n - 1) / PAGE_ROOM) (omega arith) (omega arith) (omega arith))
+
+-- lists of which more is wanted
+pub some_left : {X Y : Type 0} (f : X → List Y) (all last : List Y) (xs : List X) → length last < length all → all ≡ flat_map f xs ++ last → 0 < length xs
+some_left f all last [] more are = let same = ap length are in absurd (omega arith)
+some_left f all last (x ∷ xs) more are = omega arith
 
 map_reverse : {X Y : Type 0} (f : X → Y) (xs : List X) → map f (reverse xs) ≡ reverse (map f xs)
 map_reverse f [] = refl

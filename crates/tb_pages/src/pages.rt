@@ -1,5 +1,5 @@
 ghost use Rattle.std.specs.Prelude.{◌≡◌, ◌+◌, ◌<◌, ◌≤◌, ◌++◌, ◌∷◌, [], true, Some, IfOk, OnOk};
-ghost use Rattle.std.specs.Prelude.{length, remove, slice_get, slice_index_or, slice_set};
+ghost use Rattle.std.specs.Prelude.{flat_map, length, remove, slice_get, slice_index_or, slice_set};
 ghost use Rattle.std.specs.Arc.{arc_value};
 ghost use Rattle.tb_base.specs.Persons.{has_person};
 ghost use Rattle.tb_model.specs.declared.rooms.TheConstants.{PAGE_ROOM};
@@ -119,17 +119,18 @@ impl Pages {
         Ok(Pages { list })
     }
 
-    /// The same pages as `of` makes. They are cut off first, by this thread, and then made in as
-    /// many threads as there are processors.
+    /// The same pages as `of` makes of the records of these lists, one list after another. They are
+    /// cut off first, by this thread, and then made in as many threads as there are processors.
     pub fn in_parts(
         rt: &(impl Threads + Sync),
         alloc: Global,
-        records: Vec<Record>,
+        lists: Vec<Vec<Record>>,
     ) -> Result<Pages, Memory>
-        ensures { IfOk result (λ pages. pages ≡ cut records.items) }
+        ensures { IfOk result
+            (λ pages. pages ≡ cut (flat_map (λ list. list.items) lists.items)) }
     {
-        let lists = lists_of(alloc, records)?;
-        let list = pages_of(rt, alloc, lists)?;
+        let parts = lists_of(alloc, lists)?;
+        let list = pages_of(rt, alloc, parts)?;
         Ok(Pages { list })
     }
 

@@ -1,4 +1,4 @@
-ghost use Rattle.std.specs.Prelude.{◌≡◌, ◌≤◌, None, Some, IfOk, length};
+ghost use Rattle.std.specs.Prelude.{◌≡◌, ◌≤◌, None, Some, IfOk, flat_map, length};
 ghost use Rattle.std.specs.Option.{ForSome};
 ghost use Rattle.tb_base.specs.Persons.{AreDistinct};
 ghost use Rattle.tb_model.specs.Pages.{records_in};
@@ -9,6 +9,7 @@ ghost use Rattle.tb_pages.specs.Registers.{IsRegister};
 ghost use Rattle.tb_pages.specs.Stocks.{IsBookOf, IsFirst, IsStock, keys_of};
 
 use crate::book::Book;
+use crate::cutting::total;
 use crate::filling::book_for;
 use crate::pages::Pages;
 use crate::register::Register;
@@ -68,16 +69,18 @@ impl Stock {
         Ok(Stock::without_book(pages, living))
     }
 
-    /// The same as `first` makes, with pages made in as many threads as there are processors.
+    /// The same as `first` makes of the records of these lists, one list after another, with pages
+    /// made in as many threads as there are processors.
     pub fn first_in_parts(
         rt: &(impl Threads + Sync),
         alloc: Global,
-        records: Vec<Record>,
+        lists: Vec<Vec<Record>>,
     ) -> Result<Stock, Memory>
-        ensures { IfOk result (λ stock. IsFirst records.items stock) }
+        ensures { IfOk result
+            (λ stock. IsFirst (flat_map (λ list. list.items) lists.items) stock) }
     {
-        let living = records.len();
-        let pages = Pages::in_parts(rt, alloc, records)?;
+        let living = total(&lists)?;
+        let pages = Pages::in_parts(rt, alloc, lists)?;
         Ok(Stock::without_book(pages, living))
     }
 

@@ -74,20 +74,21 @@ impl Release {
         Ok(first)
     }
 
-    /// The same release as `first` makes of these records, with pages made in as many threads as
-    /// there are processors.
+    /// The same release as `first` makes of the records of these lists, one list after another,
+    /// with pages made in as many threads as there are processors.
     pub fn first_in_parts(
         rt: &(impl Threads + Sync),
         alloc: Global,
-        people: Vec<Record>,
+        lists: Vec<Vec<Record>>,
         rules: Rules,
     ) -> Result<Release, Memory>
-        requires distinct { AreDistinct people.items }
-        requires few { length people.items ≤ MOST_PERSONS }
+        requires distinct { AreDistinct (flat_map (λ list. list.items) lists.items) }
+        requires few { length (flat_map (λ list. list.items) lists.items) ≤ MOST_PERSONS }
         requires none_set { rules.pvalues ≡ [] }
-        ensures { IfOk result (λ release. release ≡ first_release rules.threshold people.items) }
+        ensures { IfOk result (λ release.
+            release ≡ first_release rules.threshold (flat_map (λ list. list.items) lists.items)) }
     {
-        let stock = Stock::first_in_parts(rt, alloc, people)?;
+        let stock = Stock::first_in_parts(rt, alloc, lists)?;
         let first = Release::zero(alloc, stock, rules)?;
         Ok(first)
     }
