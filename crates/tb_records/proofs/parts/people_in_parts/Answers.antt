@@ -1,6 +1,5 @@
-use Rattle.std.proofs.Common.{refl, subst}
+use Rattle.std.proofs.Common.{refl}
 use Rattle.std.specs.Prelude.{flat_map}
-use Rattle.tb_records.specs.WholeFiles.{MayStand}
 use Rattle.tb_records.proofs.Joining.{people-joined}
 use Rattle.tb_records.proofs.parts.people_in_parts.Goals as goal
 
