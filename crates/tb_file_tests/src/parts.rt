@@ -5,8 +5,9 @@ use crate::faults::{ACCEPTED, Told, people_fault};
 use std::alloc::Global;
 use std::test::Fail;
 use std::thread::Threads;
-use tb_base::{Memory, Record, print_number};
+use tb_base::{Memory, Record, Rules, print_number};
 use tb_records::{PeopleFault, read_people_in, read_people_in_parts};
+use tb_release::Release;
 use tb_schema::Schema;
 use tb_small::CLASSES;
 
@@ -314,4 +315,30 @@ fn parts_of_long_files(rt: HostRuntime) {
         is_twice(&rt, rt.alloc(), MANY, MANY),
         "twice, in another order"
     );
+}
+
+// How many records and pages release 0 has of a file that is read in at most so many parts.
+fn first_of(
+    rt: &(impl Threads + Sync),
+    alloc: Global,
+    file: &[u8],
+    parts: usize,
+) -> Result<(usize, usize), PeopleFault> {
+    let Ok(schema) = Schema::read(alloc, CLASSES, None) else {
+        return Err(PeopleFault::Memory);
+    };
+    let lists = read_people_in(rt, alloc, &schema, file, parts)?;
+    let release = Release::first_in_parts(rt, alloc, lists, Rules::new(alloc, 0))?;
+    Ok((release.len(), release.pages()))
+}
+
+// A page has 1,024 records, wherever the parts end.
+#[test]
+fn pages_of_parts(rt: HostRuntime) -> Result<(), Fail> {
+    let file = long_file(rt.alloc(), 1, MANY)?;
+    for parts in 1..=MOST {
+        let first = first_of(&rt, rt.alloc(), file.as_slice(), parts);
+        assert!(rt; matches!(first, Ok((10_000, 10))), "in {parts}");
+    }
+    Ok(())
 }
