@@ -14,7 +14,7 @@ use Rattle.tb_keep.proofs.KeptRunning.{own_counts, own_since}
 use Rattle.tb_lines.specs.Outputs.{Lead, ReplyValue}
 use Rattle.tb_lines.specs.Sessions.{IsSession}
 use Rattle.tb_lines.specs.declared.session_end.SessionEnd.{SessionEnd}
-use Rattle.tb_lines.specs.declared.session_end.SessionEnd.TheVariants.{Ended, LineTooLong, TooManyLines, ReadFault, WriteFault}
+use Rattle.tb_lines.specs.declared.session_end.SessionEnd.TheVariants.{Ended, Foreign, LineTooLong, TooManyLines, ReadFault, WriteFault}
 use Rattle.tb_model.specs.Releases.{ReleaseValue}
 use Rattle.tb_model.specs.Setups.{SetupValue}
 use Rattle.tb_serve.specs.Ports.{PortValue}
@@ -44,6 +44,14 @@ module _ {W : Type 0} (Continues : W → W → Type 0) (itself : (one : W) → C
   session : (end : SessionEnd) (left now before after : Option (List ℕ)) (old new : KeeperValue W) → IsSession Legal end left now old new before after
       → Says old new (λ first last. IsSession (Kept old.base) end left now first last before after)
   session Ended left now before after old new h =
+      let (base, into, reaches) = lines old _ _ new h.legal in (
+        base,
+        into,
+        λ first at.
+            let (last, end, legal) = reaches first at in
+            (last, end, record { lines = h.lines; of_source = h.of_source; is_end = h.is_end; at_end = h.at_end; gave = h.gave; replies = h.replies; legal = legal; took = h.took }),
+      )
+  session Foreign left now before after old new h =
       let (base, into, reaches) = lines old _ _ new h.legal in (
         base,
         into,

@@ -1,6 +1,6 @@
 -- The lines so far of a session, and each way in which it ends after them.
 use Rattle.std.proofs.Common.{◌≡◌, ◌≢◌, ◌∙◌, sym, ap, subst, refl, ℕ, ◌+◌, ◌<◌, ◌≤◌, Bool, true, false, List, [], ◌∷◌, ◌++◌, length, take, Option, inl, inr, arith, append_assoc, append-nil}
-use Rattle.std.proofs.lemmas.Bool.{cases_Bool}
+use Rattle.std.proofs.lemmas.Bool.{cases_Bool, or_left, or_right}
 use Rattle.std.proofs.lemmas.List.{length_push, map-append}
 use Rattle.tb_io.specs.Lines.{without_return}
 use Rattle.tb_io.specs.NextLines.{IsNextOf, Takes}
@@ -13,12 +13,12 @@ use Rattle.tb_io.proofs.TakenLemmas.{Took-append, Took-nothing}
 use Rattle.tb_io.proofs.Taking.{Took-same}
 use Rattle.tb_lines.specs.Outputs.{Lead, ReplyValue, text_of}
 use Rattle.tb_lines.specs.Sessions.{AreLinesOf, GaveAtMost, IsBroken, IsCut, IsCutAtEnd, IsRefused, IsSession, IsWhole, last_words, texts_of, too_long_text}
-use Rattle.tb_lines.specs.Streams.{answered_of, before_end, end_by_lines, end_of, is_quit, is_too_long}
+use Rattle.tb_lines.specs.Streams.{answered_of, before_end, end_by_lines, end_of, is_foreign, is_last, is_quit, is_too_long}
 use Rattle.tb_lines.specs.declared.session_end.SessionEnd.{SessionEnd}
-use Rattle.tb_lines.specs.declared.session_end.SessionEnd.TheVariants.{Ended, LineTooLong, TooManyLines, ReadFault, WriteFault}
+use Rattle.tb_lines.specs.declared.session_end.SessionEnd.TheVariants.{Ended, Foreign, LineTooLong, TooManyLines, ReadFault, WriteFault}
 use Rattle.tb_lines.specs.declared.session_end.TheConstants.{MOST_LINES}
 use Rattle.tb_lines.proofs.Cutting.{CutsOf, CutsOf-more, CutsOf-none, IsGiven, given-broken, given-ends, given-few, given-more, given-none, left-nothing, lines-any, lines-end, lines-long, lines-longer, lines-next, lines-whole, next-none}
-use Rattle.tb_lines.proofs.Ends.{answered_full, answered_here, answered_many, answered_part, before_end-append, end_full, end_here, long_ends, long_stops, none_more, one_goes_on, quit_ends, quit_stops}
+use Rattle.tb_lines.proofs.Ends.{answered_full, answered_here, answered_many, answered_part, before_end-append, end_full, end_here, foreign_ends, last_stops, long_ends, long_stops, none_more, one_goes_on, quit_ends}
 use Rattle.tb_lines.proofs.Transcribing.{Lead-more, text_of-more}
 
 -- a reader that returned anything but the end had not ended
@@ -60,7 +60,7 @@ module _ {S : Type 0} (Step : S → List ℕ → ReplyValue → S → Type 0) wh
   module _ {left : Option (List ℕ)} {count : ℕ} {now : Option (List ℕ)} {ahead : List ℕ} {had : Bool} {first last : S} {before after : Option (List ℕ)} (so_far : IsSoFar left count now ahead had first last before after) where
     -- one line more
     pub so_far-more : (next : S) (line new : List ℕ) (ended : Bool) (reply : ReplyValue) (then later : Option (List ℕ)) → had ≡ false → IsNextOf next_line.Line (stream_of ahead now) line (stream_of new then)
-        → Takes next_line.Line now then ahead line new ended → (ended ≡ true → IsAtEnd (stream_of new then)) → length line ≤ MOST_LINE_BYTES → is_quit (without_return line) ≡ false
+        → Takes next_line.Line now then ahead line new ended → (ended ≡ true → IsAtEnd (stream_of new then)) → length line ≤ MOST_LINE_BYTES → is_last (without_return line) ≡ false
         → Step last (without_return line) reply next → Took after later reply.text → IsSoFar left (count + 1) then new ended first next before later
     so_far-more next line new ended reply then later goes comes takes at_end short other step took = record {
       read = so_far.read ++ line ∷ [];
@@ -110,14 +110,26 @@ module _ {S : Type 0} (Step : S → List ℕ → ReplyValue → S → Type 0) wh
       | inr f ↦ ends_none line new then few (comes f) (gave_then next_line.End line new ended then f (takes f))
     ]
 
+    -- the last line came, by which the session ends without a word
+    ends_with_line : (end : SessionEnd) (line new : List ℕ) (ended : Bool) (then : Option (List ℕ)) → count < MOST_LINES → had ≡ false → IsNextOf next_line.Line (stream_of ahead now) line (stream_of new then) → Takes next_line.Line now then ahead line new ended
+        → is_last (without_return line) ≡ true → ((more : List (List ℕ)) → end ≡ end_by_lines (line ∷ more)) → last_words end ≡ [] → IsWhole (Lead Step) left then end first last before after
+    ends_with_line end line new ended then few goes comes takes is_last ends silent =
+        let (more, are) = lines-next (stream_of ahead now) (stream_of new then) line comes in
+        let stops : before_end (line ∷ more) ≡ [] = last_stops line more is_last in
+        ends_at (line ∷ more) then end after few are stops (ends more) (gave_then next_line.Line line new ended then goes takes)
+        (λ e all. absurd (lines-longer so_far.read more line (sym (before_end-append so_far.read (line ∷ more) so_far.none_ends ∙ ap (λ ls. so_far.read ++ ls) stops ∙ append-nil so_far.read) ∙ all))) (Took-same after after [] (last_words end) (sym silent) (Took-nothing after))
+
+    -- a foreign line came
+    pub session-foreign : (line new : List ℕ) (ended : Bool) (then : Option (List ℕ)) → count < MOST_LINES → had ≡ false → IsNextOf next_line.Line (stream_of ahead now) line (stream_of new then) → Takes next_line.Line now then ahead line new ended
+        → length line ≤ MOST_LINE_BYTES → is_foreign (without_return line) ≡ true → IsWhole (Lead Step) left then Foreign first last before after
+    session-foreign line new ended then few goes comes takes short foreign =
+        ends_with_line Foreign line new ended then few goes comes takes (or_left (is_foreign (without_return line)) (is_quit (without_return line)) foreign) (λ more. foreign_ends line more short foreign) refl
+
     -- the line `quit` came
     pub session-quit : (line new : List ℕ) (ended : Bool) (then : Option (List ℕ)) → count < MOST_LINES → had ≡ false → IsNextOf next_line.Line (stream_of ahead now) line (stream_of new then) → Takes next_line.Line now then ahead line new ended
-        → length line ≤ MOST_LINE_BYTES → is_quit (without_return line) ≡ true → IsWhole (Lead Step) left then Ended first last before after
-    session-quit line new ended then few goes comes takes short quits =
-        let (more, are) = lines-next (stream_of ahead now) (stream_of new then) line comes in
-        let stops : before_end (line ∷ more) ≡ [] = quit_stops line more quits in
-        ends_at (line ∷ more) then Ended after few are stops (quit_ends line more short quits) (gave_then next_line.Line line new ended then goes takes)
-        (λ e all. absurd (lines-longer so_far.read more line (sym (before_end-append so_far.read (line ∷ more) so_far.none_ends ∙ ap (λ ls. so_far.read ++ ls) stops ∙ append-nil so_far.read) ∙ all))) (Took-nothing after)
+        → length line ≤ MOST_LINE_BYTES → is_foreign (without_return line) ≡ false → is_quit (without_return line) ≡ true → IsWhole (Lead Step) left then Ended first last before after
+    session-quit line new ended then few goes comes takes short ours quits =
+        ends_with_line Ended line new ended then few goes comes takes (or_right (is_foreign (without_return line)) (is_quit (without_return line)) quits) (λ more. quit_ends line more short ours quits) refl
 
     -- a line that is too long
     long_cut : (line : List ℕ) (more : List (List ℕ)) (then later : Option (List ℕ)) → count < MOST_LINES → AreLinesOf (stream_of ahead now) (line ∷ more) → is_too_long line ≡ true → GaveAtMost left then (length so_far.read)
@@ -141,6 +153,7 @@ module _ {S : Type 0} (Step : S → List ℕ → ReplyValue → S → Type 0) wh
     pub session-long : (end : SessionEnd) (line new : List ℕ) (ended : Bool) (then later : Option (List ℕ)) → count < MOST_LINES → had ≡ false → IsNextOf next_line.TooLong (stream_of ahead now) line (stream_of new then)
         → Takes next_line.TooLong now then ahead line new ended → IsRefused end after later → IsSession (Lead Step) end left then first last before later
     session-long Ended line new ended then later few goes comes takes refused = absurd refused
+    session-long Foreign line new ended then later few goes comes takes refused = absurd refused
     session-long TooManyLines line new ended then later few goes comes takes refused = absurd refused
     session-long ReadFault line new ended then later few goes comes takes refused = absurd refused
     session-long LineTooLong line new ended then later few goes comes takes refused =
@@ -165,7 +178,7 @@ module _ {S : Type 0} (Step : S → List ℕ → ReplyValue → S → Type 0) wh
 
     -- a reply was cut
     reply_cut : (next : S) (line new : List ℕ) (ended : Bool) (reply : ReplyValue) (then later : Option (List ℕ)) → count < MOST_LINES → had ≡ false → IsNextOf next_line.Line (stream_of ahead now) line (stream_of new then)
-        → Takes next_line.Line now then ahead line new ended → (ended ≡ true → IsAtEnd (stream_of new then)) → length line ≤ MOST_LINE_BYTES → is_quit (without_return line) ≡ false
+        → Takes next_line.Line now then ahead line new ended → (ended ≡ true → IsAtEnd (stream_of new then)) → length line ≤ MOST_LINE_BYTES → is_last (without_return line) ≡ false
         → Step last (without_return line) reply next → TookPart after later reply.text → IsCut (Lead Step) left then first next before later
     unfolding answered_of
     reply_cut next line new ended reply then later few goes comes takes at_end short other step (part, took) =
@@ -188,7 +201,7 @@ module _ {S : Type 0} (Step : S → List ℕ → ReplyValue → S → Type 0) wh
         }
 
     pub session-cut : (next : S) (line new : List ℕ) (ended : Bool) (reply : ReplyValue) (then later : Option (List ℕ)) → count < MOST_LINES → had ≡ false → IsNextOf next_line.Line (stream_of ahead now) line (stream_of new then)
-        → Takes next_line.Line now then ahead line new ended → (ended ≡ true → IsAtEnd (stream_of new then)) → length line ≤ MOST_LINE_BYTES → is_quit (without_return line) ≡ false
+        → Takes next_line.Line now then ahead line new ended → (ended ≡ true → IsAtEnd (stream_of new then)) → length line ≤ MOST_LINE_BYTES → is_last (without_return line) ≡ false
         → Step last (without_return line) reply next → TookPart after later reply.text → IsSession (Lead Step) WriteFault left then first next before later
     session-cut next line new ended reply then later few goes comes takes at_end short other step took = inl (reply_cut next line new ended reply then later few goes comes takes at_end short other step took)
 

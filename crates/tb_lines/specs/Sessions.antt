@@ -20,6 +20,7 @@ too_long_text = codes "refused 9 TooLong\n"
 abbrev pub last_words : SessionEnd → List ℕ
 last_words session_end.LineTooLong = too_long_text
 last_words session_end.Ended = []
+last_words session_end.Foreign = []
 last_words session_end.TooManyLines = []
 last_words session_end.ReadFault = []
 last_words session_end.WriteFault = []
@@ -110,6 +111,8 @@ abbrev pub IsSession : {S : Type 0} → (S → List (List ℕ) → List ReplyVal
     → Option (List ℕ) → Type 0
 IsSession Legal session_end.Ended left now first last before after =
     IsWhole Legal left now session_end.Ended first last before after
+IsSession Legal session_end.Foreign left now first last before after =
+    IsWhole Legal left now session_end.Foreign first last before after
 IsSession Legal session_end.LineTooLong left now first last before after =
     IsWhole Legal left now session_end.LineTooLong first last before after
 IsSession Legal session_end.TooManyLines left now first last before after =
@@ -124,5 +127,6 @@ abbrev pub IsRefused : SessionEnd → Option (List ℕ) → Option (List ℕ) �
 IsRefused session_end.LineTooLong before after = Took before after too_long_text
 IsRefused session_end.WriteFault before after = TookPart before after too_long_text
 IsRefused session_end.Ended before after = ⊥
+IsRefused session_end.Foreign before after = ⊥
 IsRefused session_end.TooManyLines before after = ⊥
 IsRefused session_end.ReadFault before after = ⊥

@@ -1,7 +1,8 @@
 -- What the bytes of a stream say to a session: the lines, which of them are answered, and how the
 -- session ends.
 use Rattle.std.specs.Prelude.{ℕ, zero, suc, Bool, false, ◌||◌, if◌then◌else◌, List, [], ◌∷◌}
-use Rattle.std.specs.Prelude.{length, take, nat_le, nat_lt, bytes_eq, codes}
+use Rattle.std.specs.Prelude.{length, take, nat_eq, nat_le, nat_lt, bytes_eq, codes}
+use Rattle.std.specs.List.{ends_with, list_any}
 use Rattle.tb_base.specs.Words.{words_of}
 use Rattle.tb_io.specs.Lines.{is_line_feed, rest_of, without_return}
 use Rattle.tb_io.specs.declared.limits.TheConstants.{MOST_LINE_BYTES}
@@ -52,9 +53,22 @@ is_quit line = are_quit (words_of line)
 abbrev pub is_too_long : List ℕ → Bool
 is_too_long line = nat_lt MOST_LINE_BYTES (length line)
 
--- a line ends a session: it is too long, or just `quit`
+-- how the first line of a request of HTTP ends: with a blank, a space or a tab, and a version
+abbrev pub request_ends : List (List ℕ)
+request_ends =
+    codes " HTTP/1.1" ∷ codes " HTTP/1.0" ∷ codes "\tHTTP/1.1" ∷ codes "\tHTTP/1.0" ∷ []
+
+-- a line ends as the first line of a request of HTTP does
+abbrev pub is_foreign : List ℕ → Bool
+is_foreign line = list_any (ends_with nat_eq line) request_ends
+
+-- a line is the last one that is read: it is foreign, or just `quit`
+abbrev pub is_last : List ℕ → Bool
+is_last line = is_foreign line || is_quit line
+
+-- a line ends a session: it is too long, or the last one that is read
 abbrev pub ends_session : List ℕ → Bool
-ends_session line = is_too_long line || is_quit (without_return line)
+ends_session line = is_too_long line || is_last (without_return line)
 
 -- the lines before the first that ends a session
 abbrev pub before_end : List (List ℕ) → List (List ℕ)
@@ -66,6 +80,7 @@ abbrev pub end_by_lines : List (List ℕ) → SessionEnd
 end_by_lines [] = session_end.Ended
 end_by_lines (line ∷ lines) =
     if is_too_long line then session_end.LineTooLong
+    else if is_foreign (without_return line) then session_end.Foreign
     else if is_quit (without_return line) then session_end.Ended
     else end_by_lines lines
 

@@ -15,6 +15,7 @@
 #![tactic(auto)]
 
 mod answerer;
+mod foreign;
 mod line;
 mod line_by_line;
 mod list;

@@ -7,6 +7,7 @@ ghost use Rattle.tb_lines.specs.Sessions.{IsRefused, IsSession};
 ghost use Rattle.tb_lines.specs.declared.session_end.SessionEnd.TheVariants as session_end;
 
 use crate::answerer::Answerer;
+use crate::foreign::is_foreign;
 use crate::quit::is_quit;
 use crate::session_end::{MOST_LINES, SessionEnd};
 use std::sync::ledger::Ledger;
@@ -61,6 +62,9 @@ pub fn answer_lines<C, G, A: Answerer<C, G, ()>, S: Source, K: Sink, L: Ledger>(
             NextLine::ReadFault => return SessionEnd::ReadFault,
         }
         let line = lines.line();
+        if is_foreign(line) {
+            return SessionEnd::Foreign;
+        }
         if is_quit(line) {
             return SessionEnd::Ended;
         }

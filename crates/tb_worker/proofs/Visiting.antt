@@ -5,7 +5,7 @@ use Rattle.tb_io.specs.Listeners.{Connection}
 use Rattle.tb_lines.specs.Outputs.{AtPrice, Charged, Lead, ReplyValue, charged}
 use Rattle.tb_lines.specs.Sessions.{IsSession}
 use Rattle.tb_lines.specs.declared.session_end.SessionEnd.{SessionEnd}
-use Rattle.tb_lines.specs.declared.session_end.SessionEnd.TheVariants.{Ended, LineTooLong, TooManyLines, ReadFault, WriteFault}
+use Rattle.tb_lines.specs.declared.session_end.SessionEnd.TheVariants.{Ended, Foreign, LineTooLong, TooManyLines, ReadFault, WriteFault}
 use Rattle.tb_lines.proofs.OtherWords.{session_as}
 use Rattle.tb_lines.proofs.Paying.{paid}
 use Rattle.tb_worker.specs.Visits.{AreVisits, HasCause, IsVisit, Visit}
@@ -14,6 +14,7 @@ use Rattle.tb_worker.specs.Visits.{AreVisits, HasCause, IsVisit, Visit}
 cause_of : (came went : Connection) (end : SessionEnd) → (end ≡ ReadFault → HasRisen came.reader_faults went.reader_faults)
     → (end ≡ WriteFault → HasRisen came.writer_faults went.writer_faults) → HasCause came went end
 cause_of came went Ended read write = tt
+cause_of came went Foreign read write = tt
 cause_of came went LineTooLong read write = tt
 cause_of came went TooManyLines read write = tt
 cause_of came went ReadFault read write = read refl
@@ -36,6 +37,7 @@ visit_of {S = S} Step fresh from to steps steps' came went end read write h =
 pub replied : {S : Type 0} (Legal : S → List (List ℕ) → List ReplyValue → S → Type 0) (end : SessionEnd) (left now before after : Option (List ℕ)) (first last : S)
     → IsSession Legal end left now first last before after → (lines : List (List ℕ)) × (replies : List ReplyValue) × Legal first lines replies last
 replied Legal Ended left now before after first last h = (_, _, h.legal)
+replied Legal Foreign left now before after first last h = (_, _, h.legal)
 replied Legal LineTooLong left now before after first last h = (_, _, h.legal)
 replied Legal TooManyLines left now before after first last h = (_, _, h.legal)
 replied Legal ReadFault left now before after first last h = (_, _, h.legal)

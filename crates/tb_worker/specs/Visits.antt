@@ -19,6 +19,7 @@ abbrev pub HasCause : Connection → Connection → SessionEnd → Type 0
 HasCause came went session_end.ReadFault = HasRisen came.reader_faults went.reader_faults
 HasCause came went session_end.WriteFault = HasRisen came.writer_faults went.writer_faults
 HasCause came went session_end.Ended = Unit {0}
+HasCause came went session_end.Foreign = Unit {0}
 HasCause came went session_end.LineTooLong = Unit {0}
 HasCause came went session_end.TooManyLines = Unit {0}
 
