@@ -1,5 +1,5 @@
 -- What replies cost together, where each costs no more than its price.
-use Rattle.std.proofs.Common.{◌≡◌, ap, ℕ, ◌+◌, ◌≤◌, List, [], ◌∷◌, arith}
+use Rattle.std.proofs.Common.{◌≡◌, ap, ◌+◌, ◌≤◌, List, [], ◌∷◌, arith}
 use Rattle.tb_lines.specs.Outputs.{AtPrice, Charged, Lead, ReplyValue, price_of}
 use Rattle.tb_lines.proofs.Transcribing.{price_of-append}
 

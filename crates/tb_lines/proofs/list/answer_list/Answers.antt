@@ -1,4 +1,4 @@
-use Rattle.std.proofs.Common.{◌≡◌, ap, arith, refl, subst, List, ℕ}
+use Rattle.std.proofs.Common.{ap, arith, refl, subst, List, ℕ}
 use Rattle.tb_lines.specs.Lists.{StepBy}
 use Rattle.tb_lines.specs.Outputs.{AtPrice, charged}
 use Rattle.tb_lines.proofs.Listing.{answered-all, answered-cut, answered-more, answered-none, same_line}
