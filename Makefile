@@ -94,9 +94,11 @@ refusals: build
 	python3 docs/refusals.py crates/tablebuilder/out/tablebuilder
 
 # Runs the built server where files are wanting and with clients that don't stop, and compares what its
-# clients get and what it says. It ends within two minutes, of which it waits for one.
+# clients get and what it says; then requests of HTTP and, where there is Chromium, a web page try to
+# revise at each port of each server. It ends within two minutes, of which it waits for one.
 pressure: build
 	python3 docs/pressure.py crates/tablebuilder/out/tablebuilder
+	python3 docs/foreign.py crates/tablebuilder/out/tablebuilder
 
 # Runs scripts and lanes with one allocation refused, for one after another, and compares what they
 # print with a model of the definitions.
