@@ -24,7 +24,7 @@ FILE = re.compile(r"`((?:[\w.-]+/)+[\w.-]*)`")
 WORD = r"`[A-Za-z_][\w-]*(?: [^`]*)?`"
 WORDS = rf"({WORD}(?:(?:, | and |, and ){WORD})*)"
 # A module of definitions, or a crate, with the words that a page says are in it.
-MODULE = r"`(tb_\w+/(?:specs|proofs|src)/[\w/.-]+)`"
+MODULE = r"`(tb_\w+/(?:specs|proofs|src)(?:/[\w/.-]+)?)`"
 GIVEN = (
     re.compile(rf"{WORDS} (?:of|in|\() ?{MODULE}"),
     re.compile(rf"{WORDS} (?:of|in|\() ?`(tb_\w+|tablebuilder)`"),
