@@ -34,7 +34,7 @@ PATH = re.compile(r"`(tb_\w+)::([\w:]+)")
 SECTION = re.compile(r'`([\w/]+\.md)`[,:]? \(?"([^"]+)"')
 TARGET = re.compile(r"`make ([a-z-]+)")
 RULE = re.compile(r"^((?:#.*\n)*)([a-z-]+):", re.M)
-COUNTED = re.compile(r"([\d,]+) (wrong bodies|examples of the guide|files that are refused)")
+COUNTED = re.compile(r"(\d[\d,]*) (wrong bodies|examples of the guide|files that are refused)")
 # Where the form of a command stands in a page.
 FORM = re.compile(r"^    (tablebuilder .*)$", re.M)
 MAN_FORM = re.compile(r"^\.B (tablebuilder .*)$", re.M)
