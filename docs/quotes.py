@@ -4,12 +4,14 @@ Usage: quotes.py ROOT
 
 Of all pages: each file between backquotes must be there; a word that a page gives with its crate
 (`Owner` of `tb_session`, `tb_base::Steps`) or with its module (`refusal` of `tb_query/specs/Faults`,
-`tb_query/specs/Faults` (`refusal`)) must stand in its sources; a section that is named with its page, and a
-target of make, must be there; and a number of wrong bodies, of the guide's examples, or of files that
-`make refusals` replaces must be that of the tree. Each target of the Makefile has a comment for `make
-help`. README.md has a row for each command, and the man page the forms, that docs/REFERENCE.md has; each
-unit starts a command of them or of the relay; docs/SERVER.md has each line of the examples under
-packaging; and each place that has the version has that of VERSION.
+`tb_query/specs/Faults` (`refusal`)) must stand in its sources; a section that is named with its page,
+and a target of make, must be there; and a number of wrong bodies, of examples of the guide, or of files
+that are refused (by docs/refusals.py) must be that of the tree.
+
+Each crate stands on the map or among the tests of CONTRIBUTING.md, and each target of the Makefile has a
+comment for `make help`. README.md has a row for each command, and the man page the forms, that
+docs/REFERENCE.md has; each unit starts a command of them or of the relay; docs/SERVER.md has each line
+of the examples under packaging; and each place that has the version has that of VERSION.
 """
 
 import ast
@@ -35,6 +37,7 @@ SECTION = re.compile(r'`([\w/]+\.md)`[,:]? \(?"([^"]+)"')
 TARGET = re.compile(r"`make ([a-z-]+)")
 RULE = re.compile(r"^((?:#.*\n)*)([a-z-]+):", re.M)
 COUNTED = re.compile(r"(\d[\d,]*) (wrong bodies|examples of the guide|files that are refused)")
+CRATE = re.compile(r"^(\w+):", re.M)
 # Where the form of a command stands in a page.
 FORM = re.compile(r"^    (tablebuilder .*)$", re.M)
 MAN_FORM = re.compile(r"^\.B (tablebuilder .*)$", re.M)
@@ -152,6 +155,14 @@ def wrong_targets(root, pages):
                 yield f"{page} names a target that isn't there: {name}"
 
 
+def missing_crates(root):
+    """The crates that stand neither on the map nor among the tests."""
+    named = set(re.findall(r"`(\w+)`", read(root, "docs", "ARCHITECTURE.md") + read(root, "CONTRIBUTING.md")))
+    for name in CRATE.findall(read(root, "crates.txt")):
+        if name not in named:
+            yield f"docs/ARCHITECTURE.md says nothing of {name}"
+
+
 def rows_of(root, name):
     """How many rows a table of docs/refusals.py has."""
     for it in ast.parse(read(root, "docs", "refusals.py")).body:
@@ -221,7 +232,7 @@ def main():
         found, seen = wrong_names(root, name, text, sources)
         wrong += found
         named += seen
-    wrong += [*wrong_targets(root, pages), *wrong_counts(root, pages)]
+    wrong += [*missing_crates(root), *wrong_targets(root, pages), *wrong_counts(root, pages)]
     wrong += [*wrong_forms(root), *wrong_versions(root), *wrong_examples(root)]
     for told in wrong:
         print(told)
