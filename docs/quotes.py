@@ -52,8 +52,8 @@ VERSIONS = {
     "clients/r/DESCRIPTION": re.compile(r"^Version: (.*)$", re.M),
     "CHANGELOG.md": re.compile(r"^## (\S+)$", re.M),
 }
-# What begins the name of a file of a machine or of another program, and of what a run makes.
-OUTSIDE = ("bin", "etc", "lib", "share", "text")
+# What begins the name of a file of a machine, a type of text, or a version of another protocol.
+OUTSIDE = ("HTTP", "bin", "etc", "lib", "share", "text")
 
 
 def read(root, *parts):
