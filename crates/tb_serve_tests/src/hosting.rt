@@ -48,7 +48,7 @@ type Row = (
     &'static [u8],
 );
 
-static ROWS: [Row; 7] = [
+static ROWS: [Row; 8] = [
     (
         "host_recovers",
         b"",
@@ -131,6 +131,24 @@ static ROWS: [Row; 7] = [
             "held 1\n|refused batch 0 5 Nothing\n",
         ),
         ("table SEX\n", "release 0\nSEX,count\n1,1\n2,2\n.\n"),
+        (false, 0, ALL),
+        Status::Done,
+        b"worker 0 sessions 2\nworker 1 sessions 1\nrelease 0\n",
+        NO_BATCH,
+    ),
+    // What a page in a browser sends comes to no edit, and the next session is served.
+    (
+        "a_foreign_line",
+        b"",
+        TWO,
+        (
+            "POST / HTTP/1.1\r\nHost: 127.0.0.1:5000\r\n\r\ndrop 104\npublish\n|table SEX\n",
+            "|release 0\nSEX,count\n1,1\n2,2\n.\n",
+        ),
+        (
+            "table SEX\nGET /table HTTP/1.0\ntable SEX\n",
+            "release 0\nSEX,count\n1,1\n2,2\n.\n",
+        ),
         (false, 0, ALL),
         Status::Done,
         b"worker 0 sessions 2\nworker 1 sessions 1\nrelease 0\n",

@@ -31,7 +31,7 @@ type Row = (
     &'static [u8],
 );
 
-static ROWS: [Row; 4] = [
+static ROWS: [Row; 5] = [
     // What waits stays from session to session; a message that isn't ended goes with its own.
     (
         "a_window_that_stays",
@@ -68,6 +68,14 @@ static ROWS: [Row; 4] = [
         "begun 1\nheld 1\na|at 1\n",
         16,
         b"worker 0 sessions 2\nworker 1 sessions 1\nrelease 1\n",
+    ),
+    // What a page in a browser sends leads the mirror nowhere, and the next session is served.
+    (
+        "a_foreign_line",
+        "POST / HTTP/1.1\r\n\r\nbegin 1\ndrop 104\nend\n|where\n",
+        "|at 0\n",
+        ALL,
+        b"worker 0 sessions 2\nworker 1 sessions 1\nrelease 0\n",
     ),
 ];
 

@@ -25,7 +25,7 @@ struct LongStream {
     text: &'static [u8],
 }
 
-static STREAMS: [LongStream; 7] = [
+static STREAMS: [LongStream; 10] = [
     LongStream {
         name: "4,096 bytes",
         begin: b"table SEX",
@@ -55,6 +55,36 @@ static STREAMS: [LongStream; 7] = [
         bound: 100,
         ended: SessionEnd::LineTooLong,
         text: b"refused 9 TooLong\n",
+    },
+    LongStream {
+        name: "a foreign line of 4,096 bytes",
+        begin: b"GET /",
+        piece: b"x",
+        times: 4082,
+        end: b" HTTP/1.1\ntable SEX\n",
+        bound: 100,
+        ended: SessionEnd::Foreign,
+        text: b"",
+    },
+    LongStream {
+        name: "4,097 bytes that end as a foreign line",
+        begin: b"GET /",
+        piece: b"x",
+        times: 4083,
+        end: b" HTTP/1.1\ntable SEX\n",
+        bound: 100,
+        ended: SessionEnd::LineTooLong,
+        text: b"refused 9 TooLong\n",
+    },
+    LongStream {
+        name: "a foreign line as the last",
+        begin: b"",
+        piece: b"#\n",
+        times: 999_999,
+        end: b"GET / HTTP/1.1\ntable SEX\n",
+        bound: 100,
+        ended: SessionEnd::Foreign,
+        text: b"",
     },
     LongStream {
         name: "a refusal that is cut",
