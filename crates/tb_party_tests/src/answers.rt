@@ -1,6 +1,6 @@
-// Lines that are answered over a board: the worked scripts, a cube that is built while another caller
-// is answered, a cube of more variables, a table at each of 50 releases, lines that ask for tables of
-// dwellings, and a sink that fails.
+// Lines that are answered over a board: the worked scripts, a cube that is built while another
+// caller is answered, a cube of more variables, a table at each of 50 releases, lines that ask for
+// tables of dwellings, and a sink that fails.
 
 mod asking;
 mod gates;
