@@ -1,4 +1,6 @@
 // Sessions over a board.
+//
+// No cut of the bytes changes a reply, and each session begins with no held edits.
 
 ghost use Rattle.std.specs.Prelude.{◌≡◌, ◌≤◌};
 ghost use Rattle.tb_io.specs.Faults.{HasRisen};
@@ -80,11 +82,12 @@ impl<'a, B: Named, R: Threads + Wait + Sync, G: Gate> Answerer<Setting<'a, B, R>
 /// Answers the lines that come from a source, one after another, from a party that holds no edits
 /// at first. Each line is answered as `answer` does.
 ///
-/// It ends where the source ended or a line is just `quit`; where a line has more than
-/// `MOST_LINE_BYTES` bytes before its line feed, which is written; after `MOST_LINES` lines, also
-/// those without a reply; and where a read or a write fails. From the source it takes the lines
-/// that it answers, and at most `MOST_LINE_BYTES` + 1 bytes more. It forgets what the line reader
-/// has read ahead, and takes no memory but for the replies.
+/// It ends where the source ended or a line is just `quit`; unanswered, where a line ends with a
+/// blank and a version of HTTP; where a line has more than `MOST_LINE_BYTES` bytes before its line
+/// feed, which is written; after `MOST_LINES` lines, also those without a reply; and where a read or
+/// a write fails. From the source it takes the lines that it answers, and at most
+/// `MOST_LINE_BYTES` + 1 bytes more. It forgets what the line reader has read ahead, and takes no
+/// memory but for the replies.
 pub fn session<B: Named, R: Threads + Wait + Sync, S: Source, K: Sink, G: Gate, L: Ledger>(
     setup: &Setup,
     board: &Board<B>,
