@@ -4,14 +4,16 @@ ghost use Rattle.std.specs.Prelude.{◌≡◌, ◌+◌, ◌≤◌, IfOk, length}
 ghost use Rattle.tb_front.specs.Holders.{IsLater};
 ghost use Rattle.tb_io.specs.declared.limits.TheConstants.{MOST_LINE_BYTES};
 ghost use Rattle.tb_model.specs.Schemas.{shape_of};
+ghost use Rattle.tb_plan.specs.Plans.{plan_of};
 ghost use Rattle.tb_query.specs.Over.{IsOver};
 ghost use Rattle.tb_session.specs.Parties.{IsPassOf, SawTurn};
 ghost use Rattle.tb_session.specs.PastLines.{past_query as query_in};
 ghost use Rattle.tb_session.specs.PastTables.{past_price, past_reply, past_text};
+ghost use Rattle.tb_session.specs.PastTaken.{IsPastOf, chain_in};
 ghost use Rattle.tb_session.specs.ReplyTexts.{reply_text};
 ghost use Rattle.tb_tables.specs.Answers.{AnswersBy};
 
-use crate::count_past::{count_past, look};
+use crate::count_past::{Past, count_past, look};
 use crate::past_line::past_query;
 use crate::reply::Reply;
 use std::alloc::Global;
@@ -22,9 +24,42 @@ use tb_base::{Memory, Steps};
 use tb_board::{Board, Named, Step};
 use tb_build::Gate;
 use tb_front::Pass;
+use tb_plan::Plan;
 use tb_query::Query;
 use tb_tables::{TableReply, plan_for, read, shape_in};
 use tb_text::Setup;
+
+// A query's table over release n of the chain, which has it.
+fn table_at<'a, B: Named, R: Threads + Wait + Sync, G: Gate, L: Ledger>(
+    rt: &R,
+    alloc: Global,
+    setup: &'a Setup,
+    board: &Board<B>,
+    plan: &Plan,
+    pass: &mut Pass<Step>,
+    past: &Past,
+    number: u32,
+    query: &Query,
+    gate: &mut G,
+    steps: &mut Steps<L>,
+) -> Result<Reply<'a>, Memory>
+    requires over { IsOver setup.now.schema query.now }
+    requires plan { plan.now ≡ plan_of setup.now.schema query.now }
+    requires own { IsPassOf B.name (shape_of setup.now.schema) pass.old }
+    requires past { IsPastOf plan.now pass.old past.now }
+    requires there { number ≤ length (chain_in past.now) }
+    ensures same { pass.new ≡ pass.old }
+    ensures price { steps.new ≤ steps.old + past_price pass.old.start.base pass.old.list }
+    ensures text { IfOk result (λ reply. reply_text reply
+        ≡ past_text setup.now pass.old.start.base pass.old.list number query.now) }
+{
+    let shape = shape_in(setup);
+    let counted = count_past(
+        rt, alloc, board, shape, plan, pass, past, number, gate, steps,
+    )?;
+    let table = counted.prepare(alloc, setup, query)?;
+    Ok(Reply::Query(TableReply::Table(table)))
+}
 
 // A query's table over release n of the chain, or that the chain has no such release.
 fn reply_at<'a, B: Named, R: Threads + Wait + Sync, G: Gate, L: Ledger>(
@@ -52,12 +87,9 @@ fn reply_at<'a, B: Named, R: Threads + Wait + Sync, G: Gate, L: Ledger>(
     if number > last {
         return Ok(Reply::NoSuchRelease(last));
     }
-    let shape = shape_in(setup);
-    let counted = count_past(
-        rt, alloc, board, shape, &plan, pass, &past, number, gate, steps,
-    )?;
-    let table = counted.prepare(alloc, setup, query)?;
-    Ok(Reply::Query(TableReply::Table(table)))
+    table_at(
+        rt, alloc, setup, board, &plan, pass, &past, number, query, gate, steps,
+    )
 }
 
 /// The reply to a line `at N QUERY`: the query's table over the release of that number, that there
