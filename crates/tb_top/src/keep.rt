@@ -9,9 +9,7 @@ ghost use Rattle.tb_top.specs.KeepOutputs.{IsKeepAnswered, disk_line, disk_seen,
 ghost use Rattle.tb_top.specs.KeepOutputs.{journal_fault_at, journal_fault_name, kept_seen};
 ghost use Rattle.tb_top.specs.Loading.{IsBase, IsFirst, census_over, census_value};
 
-use crate::endings::{End, write_fault_line};
 use crate::load::Census;
-use crate::top::end_by;
 use std::alloc::Global;
 use std::marker::Brand;
 use std::sync::Wait;
@@ -20,10 +18,11 @@ use std::thread::Threads;
 use tb_base::{Status, Steps};
 use tb_board::{Board, Named, Opening};
 use tb_disk::{Disk, Done};
+use tb_endings::{End, end_by, end_run, write_fault_line};
 use tb_io::{Sink, Wrote};
 use tb_keep::{JournalFault, KeepEnd, run_with_journal};
 use tb_rows::FaultName;
-use tb_script::{RunEnd, Script};
+use tb_script::Script;
 use tb_session::{FIRST_CAPACITY, Setting};
 use tb_text::Setup;
 
@@ -115,9 +114,7 @@ fn answer_on_board<B: Named, R: Threads + Wait + Sync, O: Sink, D: Disk, L: Ledg
         alloc,
     };
     match run_with_journal(&setting, script, custodian, disk, out, steps) {
-        KeepEnd::Ran(RunEnd::Done) => Status::Done,
-        KeepEnd::Ran(RunEnd::WriteFault) => Status::WriteFault,
-        KeepEnd::Ran(RunEnd::Memory) => end_by(&End::Memory, out),
+        KeepEnd::Ran(end) => end_run(end, out),
         KeepEnd::Refused(fault) => end_refused(&fault, out),
         KeepEnd::DiskFault => end_by_disk(out),
     }

@@ -5,18 +5,17 @@ ghost use Rattle.tb_model.specs.Schemas.{shape_of};
 ghost use Rattle.tb_top.specs.LaneOutputs.{AreLanesAnswered};
 ghost use Rattle.tb_top.specs.Loading.{IsBase, IsFirst, census_over, census_value};
 
-use crate::endings::End;
 use crate::load::Census;
-use crate::top::end_by;
 use std::alloc::Global;
 use std::marker::Brand;
 use std::sync::Wait;
 use std::thread::Threads;
 use tb_base::{Memory, Status};
 use tb_board::{Board, Named, Opening};
+use tb_endings::{End, end_by, end_run};
 use tb_io::Sink;
 use tb_lanes::{open_gates, run_lanes};
-use tb_script::{RunEnd, Script};
+use tb_script::Script;
 use tb_session::FIRST_CAPACITY;
 use tb_text::Setup;
 
@@ -39,11 +38,8 @@ fn answer_on_board<B: Named + Send + Sync, R: Threads + Wait + Sync, O: Sink>(
         return end_by(&End::Memory, out);
     };
     let (board, custodian) = Board::<B>::new(opening);
-    match run_lanes(setup, &board, rt, alloc, script, custodian, out, &mut gates) {
-        RunEnd::Done => Status::Done,
-        RunEnd::WriteFault => Status::WriteFault,
-        RunEnd::Memory => end_by(&End::Memory, out),
-    }
+    let end = run_lanes(setup, &board, rt, alloc, script, custodian, out, &mut gates);
+    end_run(end, out)
 }
 
 /// Answers the lanes of a script over a census, phase by phase. It takes memory for a board, for

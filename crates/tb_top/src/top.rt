@@ -1,18 +1,15 @@
 // The top call.
 
-ghost use Rattle.std.specs.Prelude.{◌≡◌, ◌≤◌, ◌+◌, ℕ, List, All, false, map, string_bytes};
+ghost use Rattle.std.specs.Prelude.{◌≡◌, ◌+◌, ℕ, List, All, false, map, string_bytes};
 ghost use Rattle.std.specs.Prelude.{vec_len};
-ghost use Rattle.tb_base.specs.declared.status.Status.TheVariants as status;
 ghost use Rattle.tb_model.specs.Schemas.{shape_of};
 ghost use Rattle.tb_serve.specs.Serves.{output};
 ghost use Rattle.tb_serve.specs.Stages.{IsFresh};
 ghost use Rattle.tb_top.specs.declared.service.TheConstants.{MOST_WORKERS};
 ghost use Rattle.tb_top.specs.Asking.{Script as AskedScript};
-ghost use Rattle.tb_top.specs.declared.endings.End.TheVariants as end;
 ghost use Rattle.tb_top.specs.KeepOutputs.{disk_seen};
 ghost use Rattle.tb_top.specs.Loading.{AskedIsFirst, IsBase, IsFirst, asked_value};
 ghost use Rattle.tb_top.specs.Loading.{census_over, census_value, reading};
-ghost use Rattle.tb_top.specs.Endings.{IsEnded};
 ghost use Rattle.tb_top.specs.Outputs.{IsAnswered, IsGenAnswered, IsScriptAnswered, IsSummedUp};
 ghost use Rattle.tb_top.specs.Services.{IsServiceAnswered};
 ghost use Rattle.tb_top.specs.Promises.{Keeps};
@@ -20,7 +17,6 @@ ghost use Rattle.tb_top.specs.Seen.{call_over};
 ghost use Rattle.tb_top.specs.Summing.{AreSums};
 
 use crate::asking::ask;
-use crate::endings::End;
 use crate::follow::answer_follow;
 use crate::host::answer_host;
 use crate::keep::answer_keep;
@@ -40,23 +36,12 @@ use std::thread::Threads;
 use tb_base::{Memory, Status, Steps};
 use tb_board::{Board, Named, Opening};
 use tb_disk::Disk;
+use tb_endings::{End, end_by, end_run};
 use tb_io::{Files, Listen, Sink, Wrote};
-use tb_script::{RunEnd, Script, run_script};
+use tb_script::{Script, run_script};
 use tb_serve::{Port, serve};
 use tb_session::FIRST_CAPACITY;
 use tb_text::Setup;
-
-/// Writes the last line of a run that ends before its task begins, and returns how the run ended.
-pub fn end_by<O: Sink>(end: &End, out: &mut O) -> Status
-    ensures count { O.faults out.old ≤ O.faults out.new }
-    ensures ended { IsEnded end.now result
-        (O.faults out.old) (O.faults out.new) (O.taken out.old) (O.taken out.new) }
-{
-    match end.write_last_line(out) {
-        Wrote::All => end.status(),
-        Wrote::Failed => Status::WriteFault,
-    }
-}
 
 // Answers the lines of a script over a board.
 fn answer_on_board<B: Named, R: Threads + Wait + Sync, O: Sink, L: Ledger>(
@@ -77,11 +62,8 @@ fn answer_on_board<B: Named, R: Threads + Wait + Sync, O: Sink, L: Ledger>(
         steps.old steps.new }
 {
     let (board, custodian) = Board::<B>::new(opening);
-    match run_script(setup, &board, rt, alloc, script, custodian, out, steps) {
-        RunEnd::Done => Status::Done,
-        RunEnd::WriteFault => Status::WriteFault,
-        RunEnd::Memory => end_by(&End::Memory, out),
-    }
+    let end = run_script(setup, &board, rt, alloc, script, custodian, out, steps);
+    end_run(end, out)
 }
 
 // Answers the lines of a script over a census.

@@ -6,7 +6,7 @@ use Rattle.tb_keep.specs.JournalRuns.{JournalRun}
 use Rattle.tb_serve.specs.Serves.{output}
 use Rattle.tb_top.specs.KeepOutputs.{IsKeepAnswered, disk_line}
 use Rattle.tb_top.specs.Loading.{census_over, census_value}
-use Rattle.tb_top.specs.declared.endings.End.TheVariants as end
+use Rattle.tb_endings.specs.declared.endings.End.TheVariants as end
 use Rattle.tb_top.proofs.Boards.{answered-earlier, ended-so}
 use Rattle.tb_top.proofs.keep.keep_census.Goals as goal
 

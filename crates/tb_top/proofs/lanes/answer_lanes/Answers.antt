@@ -3,8 +3,8 @@ use Rattle.tb_base.specs.declared.status.Status.TheVariants as status
 use Rattle.tb_io.proofs.TakenLemmas.{Took-nothing}
 use Rattle.tb_ahead.specs.Publishing.{after_seeing}
 use Rattle.tb_lanes.specs.Phases.{begun_with}
-use Rattle.tb_top.specs.Endings.{last_line}
-use Rattle.tb_top.specs.declared.endings.End.TheVariants as end
+use Rattle.tb_endings.specs.Endings.{last_line}
+use Rattle.tb_endings.specs.declared.endings.End.TheVariants as end
 use Rattle.tb_top.proofs.LanesRun.{ended-after}
 use Rattle.tb_top.proofs.lanes.answer_lanes.Goals as goal
 
