@@ -2,6 +2,7 @@
 
 ghost use Rattle.std.specs.Prelude.{◌≡◌, ◌+◌, ℕ, List, All, false, map, string_bytes};
 ghost use Rattle.std.specs.Prelude.{vec_len};
+ghost use Rattle.tb_base.specs.Records.{AllFit};
 ghost use Rattle.tb_model.specs.Schemas.{shape_of};
 ghost use Rattle.tb_serve.specs.Serves.{output};
 ghost use Rattle.tb_serve.specs.Stages.{IsFresh};
@@ -38,6 +39,7 @@ use tb_board::{Board, Named, Opening};
 use tb_disk::Disk;
 use tb_endings::{End, end_by, end_run};
 use tb_io::{Files, Listen, Sink, Wrote};
+use tb_release::Release;
 use tb_script::{Script, run_script};
 use tb_serve::{Port, serve};
 use tb_session::FIRST_CAPACITY;
@@ -66,7 +68,31 @@ fn answer_on_board<B: Named, R: Threads + Wait + Sync, O: Sink, L: Ledger>(
     end_run(end, out)
 }
 
-// Answers the lines of a script over a census.
+// The same from release 0.
+fn script_from<R: Threads + Wait + Sync, O: Sink, L: Ledger>(
+    rt: &R,
+    alloc: Global,
+    setup: &Setup,
+    base: Release,
+    script: &Script,
+    out: &mut O,
+    steps: &mut Steps<L>,
+) -> Status
+    requires base { IsBase base }
+    requires fit { AllFit (shape_of setup.now.schema) base.records }
+    ensures { IsScriptAnswered (AskedScript (census_over setup.now base) script.now) result
+        (O.faults out.old) (O.faults out.new) (O.taken out.old) (O.taken out.new)
+        steps.old steps.new }
+{
+    match Opening::new(alloc, setup.schema.shape(), base, FIRST_CAPACITY) {
+        Ok(opening) => {
+            answer_on_board::<Brand, R, O, L>(rt, alloc, setup, opening, script, out, steps)
+        }
+        Err(Memory) => end_by(&End::Memory, out),
+    }
+}
+
+// The same over a census.
 fn answer_script<R: Threads + Wait + Sync, O: Sink, L: Ledger>(
     rt: &R,
     alloc: Global,
@@ -81,12 +107,7 @@ fn answer_script<R: Threads + Wait + Sync, O: Sink, L: Ledger>(
         steps.old steps.new }
 {
     let Census { setup, release } = census;
-    match Opening::new(alloc, setup.schema.shape(), release, FIRST_CAPACITY) {
-        Ok(opening) => {
-            answer_on_board::<Brand, R, O, L>(rt, alloc, &setup, opening, script, out, steps)
-        }
-        Err(Memory) => end_by(&End::Memory, out),
-    }
+    script_from(rt, alloc, &setup, release, script, out, steps)
 }
 
 // Writes what a text of replies comes to, of which these are the sums, or, where it has more bytes
