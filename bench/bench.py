@@ -26,6 +26,8 @@ import tempfile
 import time
 import typing
 
+from result_file import rows_written
+
 HERE = os.path.dirname(os.path.abspath(__file__))
 START = 1
 THRESHOLD = 10
@@ -677,4 +679,5 @@ def main(program, baseline, earlier=None):
 
 
 if __name__ == "__main__":
-    main(*sys.argv[1:])
+    with rows_written("bench"):
+        main(*sys.argv[1:])

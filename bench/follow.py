@@ -14,6 +14,7 @@ import sys
 import tempfile
 
 import bench
+from result_file import rows_written
 
 # How many messages of one amend come in order, beside as many batches of a script; and how many
 # come so that all wait for the first, which comes last, in how many rounds.
@@ -108,4 +109,5 @@ def main(program, folder):
 
 
 if __name__ == "__main__":
-    main(*sys.argv[1:])
+    with rows_written("follow"):
+        main(*sys.argv[1:])

@@ -15,6 +15,7 @@ import subprocess
 import sys
 
 import bench
+from result_file import rows_written
 
 PUTS, READ_BACK = "batches::ten_thousand_puts", "batches::ten_thousand_batches"
 TURNS = 51
@@ -41,4 +42,5 @@ def main(tests):
 
 
 if __name__ == "__main__":
-    main(*sys.argv[1:])
+    with rows_written("journal"):
+        main(*sys.argv[1:])

@@ -21,6 +21,7 @@ import time
 import typing
 
 import bench
+from result_file import rows_written
 
 # How many batches of one amend a script publishes, and how many of 100 a journal has that is played.
 PUBLISHED, PLAYED = 500, 1_000
@@ -177,4 +178,5 @@ def main(program, library, folder):
 
 
 if __name__ == "__main__":
-    main(*sys.argv[1:])
+    with rows_written("keep"):
+        main(*sys.argv[1:])

@@ -32,6 +32,7 @@ sys.dont_write_bytecode = True
 from bench import ASCENDING, LARGE, input_words, machine, make_input, median_ratio
 from bench import seconds_of, words_of
 from keep import file_system_of
+from result_file import rows_written
 from serve import PATIENCE, QUERY, Server, amend, at_least, at_most, free_ports, killed_at_last
 from serve import print_targets, write_script
 
@@ -219,4 +220,5 @@ def main(program, client, disk, persons=LARGE):
 
 
 if __name__ == "__main__":
-    main(*sys.argv[1:])
+    with rows_written("mirrors"):
+        main(*sys.argv[1:])

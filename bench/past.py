@@ -17,6 +17,7 @@ import typing
 
 import bench
 import keep
+from result_file import rows_written
 
 QUERY = f"table {bench.MARGINS[0]}"
 # How many edits a script has at most, so that it isn't too long, and how often the runs are made.
@@ -128,4 +129,5 @@ def main(program, folder):
 
 
 if __name__ == "__main__":
-    main(*sys.argv[1:])
+    with rows_written("past"):
+        main(*sys.argv[1:])

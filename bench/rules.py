@@ -15,6 +15,7 @@ import sys
 import tempfile
 
 import bench
+from result_file import rows_written
 
 ROWS, KEYS, MOST_EDITS = 750, 256, 10_000
 PAIRS = ROWS * KEYS
@@ -98,4 +99,5 @@ def main(program, copy):
 
 
 if __name__ == "__main__":
-    main(*sys.argv[1:])
+    with rows_written("rules"):
+        main(*sys.argv[1:])

@@ -43,6 +43,7 @@ sys.dont_write_bytecode = True
 from bench import ASCENDING, HERE, LARGE, NONE
 from bench import input_words, machine, make_input, median_ratio, peak_so_far, seconds_of, words_of
 from keep import TOLD, file_system_of
+from result_file import rows_written
 
 QUERY, REFUSED = "table AREA by SEX with totals", "table NOSUCH"
 # Lines that are written at once; how many of them a session asks for, and how many a script has.
@@ -579,4 +580,5 @@ def main(program, client, prepared, syncs, disk, persons=LARGE):
 
 
 if __name__ == "__main__":
-    main(*sys.argv[1:])
+    with rows_written("serve"):
+        main(*sys.argv[1:])

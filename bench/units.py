@@ -23,6 +23,7 @@ import typing
 import bench
 import generate
 import summary
+from result_file import rows_written
 
 PERSONS, DWELLINGS = bench.LARGE, 400_000
 FEW = 1
@@ -221,4 +222,5 @@ def main(program, folder):
 
 
 if __name__ == "__main__":
-    main(*sys.argv[1:])
+    with rows_written("units"):
+        main(*sys.argv[1:])

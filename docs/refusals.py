@@ -95,6 +95,8 @@ VARIABLES = "".join(f"V{i},1,\n" for i in range(65))
 GROUPS = "".join(f"R{i},SEX,1,all\n" for i in range(257))
 # More bytes than a file may have, without taking as many on the disk.
 LONG = 268_435_457
+# How many seconds a run may take; a program that checks as it goes takes minutes over a million records.
+PATIENCE = 600
 LONG_SCRIPT = 16_777_217
 
 # The file that is replaced and its text or length (None: there is none), the line printed, what the standard
@@ -270,7 +272,7 @@ class Runs:
     def run(self, words, out, err, status, stdout=subprocess.PIPE, limit=None):
         """Compares what a run of these arguments prints, what it says and its status."""
         done = subprocess.run([self.program, *words], cwd=self.work, stdin=subprocess.DEVNULL, stdout=stdout,
-                              stderr=subprocess.PIPE, preexec_fn=limit, timeout=60, check=False)
+                              stderr=subprocess.PIPE, preexec_fn=limit, timeout=PATIENCE, check=False)
         got = ((done.stdout or b"").decode(), done.stderr.decode(), done.returncode)
         self.compare(words, got, (out, err, status))
 
@@ -354,7 +356,7 @@ def hosts(runs):
         with subprocess.Popen([runs.program, *words], cwd=runs.work, stdin=subprocess.DEVNULL,
                               stdout=subprocess.PIPE, stderr=subprocess.PIPE, preexec_fn=limit) as process:
             told = [told_at(port, lines), told_at(port + 1, b"")]
-            out, said = (text.decode() for text in process.communicate(timeout=60))
+            out, said = (text.decode() for text in process.communicate(timeout=PATIENCE))
         report = f"worker 0 sessions 1\nworker 1 sessions 1\n{end}"
         runs.compare(words, (told, out, process.returncode), ([replies, ""], report, status))
         fault = f"the journal's file: {system_error(errno.EFBIG)}\n"
@@ -449,7 +451,7 @@ def compare_look(runs, given, said):
     words = [sys.executable, "-B", os.path.join(os.path.dirname(os.path.abspath(__file__)), "try.py")]
     words += [f"{name}={value}" for name, value in given.items()]
     done = subprocess.run(words, cwd=runs.work, env={"PATH": ""}, stdin=subprocess.DEVNULL,
-                          stdout=subprocess.PIPE, stderr=subprocess.PIPE, timeout=60, check=False)
+                          stdout=subprocess.PIPE, stderr=subprocess.PIPE, timeout=PATIENCE, check=False)
     got = (done.stdout.decode(), done.stderr.decode(), done.returncode)
     runs.compare(words, got, ("", said, 2))
 

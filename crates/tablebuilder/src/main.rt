@@ -2,9 +2,12 @@
 //! scratch over the records and perturbed by the cell key method.
 //!
 //! The program runs the top call of `tb_top`, whose contract tells what was written with each
-//! status, over the system's arguments, files, output, listeners and disk. It keeps the last line
-//! of a run that was refused (`last_line`), and says in words on the standard error what that means
-//! (`refusals`; `kinds` for the records of files, and `usage` for the arguments).
+//! status, over the system's arguments, files, output, listeners and disk. What it says on the
+//! standard error in words is only tested.
+//!
+//! Begin at `run` below. `LastLine` keeps the last line of a run that was refused, and under `keep`
+//! writes each `published` out at once; `refusals` says in words what that line means, `kinds` what
+//! a record at fault must be, and `usage` what is wrong with arguments.
 #![tactic(auto)]
 
 mod kinds;

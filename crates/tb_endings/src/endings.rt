@@ -1,4 +1,7 @@
 // How a run ends before the first line of its script, and the last line that it then writes.
+//
+// A `FaultName` is seen as its number and the bytes of its word, so two ends are compared by texts,
+// and not by references.
 
 ghost use Rattle.std.specs.Prelude.{◌≡◌};
 ghost use Rattle.tb_endings.specs.Endings.{fault_line, input_name, input_status, last_line};

@@ -1,15 +1,14 @@
-//! A script that is led: its lane `leader` brings the leader's messages, and every other lane asks
-//! for tables of the release that the follower has reached. There is no board, so nothing waits.
+//! A script that is led: its lane `leader` brings a leader's messages to a follower, and every
+//! other lane, one named `custodian` too, asks at the release that the follower has reached
+//! (`run_follow`).
 //!
-//! It stands on `tb_leader` (the leader's lines) and `tb_follow` (who gets the messages), on
-//! `tb_tables` (a query's table over a release), `tb_describe` (what may be asked), `tb_script`
-//! (the lines, each with its lane), `tb_lines` (lines that are answered one after another) and
-//! `tb_io` (where replies go). Its contracts cite `specs/FollowRuns` (the reply to a line of a
-//! lane, and where the follower stands then); `laws` cites `Laws`.
+//! There is no board and no lock: nothing waits, no cube is kept, an analyst's line changes
+//! nothing, and `at N` is a fault of syntax. The run is never out of memory as a whole: a line that
+//! finds none is answered `memory`.
 //!
-//! Of the proofs, `Analysts` serves an analyst's line, `Asking` leads from who asks a line to its
-//! lane, `SomeReplies` gives each line some reply, so that a part of a run is one of a whole run,
-//! and `Led` and `Describing` prove the laws.
+//! Begin at `run.rt`, `run_follow`: a second `LineList` for `Script`, whose asker is a `Speaker`,
+//! which `tb_lines::answer_list` finds by the `Answerer` (`answering.rt`, `Led`). That hands a line
+//! to `tb_leader::answer`, `tb_describe` or `tb_tables::answer_at`.
 #![tactic(auto)]
 
 mod answering;

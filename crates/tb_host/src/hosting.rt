@@ -1,4 +1,7 @@
 // A server whose custodian writes its batches ahead.
+//
+// At the end the owner is taken apart into names, the lent disk too, as in `run_with_journal`: else
+// nothing is known of what the borrow left.
 
 ghost use Rattle.std.specs.Prelude.{◌≡◌, ◌≤◌, ◌<◌, ◌+◌, ◌^◌, All, List, None, [], drop, length};
 ghost use Rattle.std.specs.Prelude.{take, true};

@@ -1,15 +1,14 @@
-//! A server that keeps its revisions: the custodian's batches are written ahead into a journal, and
-//! all sessions are served from the chain to which the batches of the journal's file lead.
+//! The command `host`: a server whose custodian writes its batches ahead into a journal, over a
+//! board whose chain begins as that of the journal's file (`serve_with_journal`).
 //!
-//! It stands on `tb_keep` (a journal that is recovered, and the custodian who writes ahead) and
-//! `tb_serve` (sessions over a board whose chain may have begun), and below them on
-//! `tb_journal_file` and `tb_disk`. Its contracts cite `specs/Hosting` (what a whole call did),
-//! `Sessions` (the sessions of all ports, and what a stop after them may leave) and `Endings` (what
-//! is written at the end); `laws` cites `Laws`.
+//! The journal is opened and played before the first bind. A file that is refused is an error:
+//! nothing is bound, and who calls writes why. Once the journal isn't live, since the disk failed
+//! or memory ran out behind a write, each `publish` whose batch follows is `unkept`, all else is
+//! answered as ever, and the report ends with `fault disk`, never with `fault net`.
 //!
-//! Of the proofs, `Visits` leads from what the custodian's sessions make of it to where it stood
-//! and stands, `Served` from there to all ports, and `Reported` to the report; `Durable` has the
-//! law.
+//! Begin at `hosting.rt`, `serve_with_journal`: `tb_keep::recover`, `tb_serve::prepare`,
+//! `serve_from` with a `JournalOwner`, and the report (`ending.rt`). What stops may leave is in
+//! `laws.rt`.
 #![tactic(auto)]
 
 mod ending;

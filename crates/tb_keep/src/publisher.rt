@@ -1,4 +1,9 @@
 // The custodian's party, whose batches are written ahead.
+//
+// What the trial makes for the next line stands in an `Option`, so that the next release is made
+// once. That it is of what the party is stands in `IsReady`, so the trait and its callers know
+// nothing of it; the next line takes it out first. Who has to empty that place sets the field:
+// after a method the party's value would be another, equal by a clause alone.
 
 ghost use Rattle.std.specs.Prelude.{◌≡◌, ◌≤◌, All, IfSome, None, length};
 ghost use Rattle.tb_ahead.specs.Trials.{IsTried};

@@ -2,7 +2,8 @@
 //! runs one after another, a stop after each call of the disk and in each write, each call failing
 //! in turn, and journals that are cut or changed. Each call has ample memory.
 //!
-//! `tb_journal_tests` has the journal's own tests, of many batches and of every kind of edit.
+//! Begin at `worked.rt`; `running.rt` has what they share. `tb_journal_tests` has the journal's own
+//! tests, of many batches and of every kind of edit.
 #![tactic(auto)]
 
 #[cfg(test)]

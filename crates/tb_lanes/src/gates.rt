@@ -1,4 +1,7 @@
 // Gates for the lanes of a script.
+//
+// Gates go by the lane's number, in the order of first appearance, and stand in their places again
+// at the end.
 
 ghost use Rattle.std.specs.Prelude.{◌≡◌, IfOk, length, vec_len};
 ghost use Rattle.tb_script.specs.Scripts.{lanes_of};

@@ -1,9 +1,15 @@
-//! The lanes of a script answered at the same time, in threads, phase by phase.
+//! The lanes of a script answered at the same time, each in a thread where one can be made, phase
+//! by phase (`run_lanes`). Each has a party, a `SureSink`, a gate and a counter of steps of its
+//! own.
 //!
-//! It stands on `tb_script` (the script, and how a run ends), `tb_session` (the answer to a line)
-//! and `tb_board`. Its contracts cite `specs/Phases` (what is written: the lines and the text of a
-//! phase, and which replies there may be), `Lanes` and `Runs` (what became of the lanes and of the
-//! custodian in a phase).
+//! A phase's text is written once all its lanes have ended. Where a sink has lost it for want of
+//! memory nothing of that phase is written and the run ends; the texts before it stay written. No
+//! phase goes over the whole script: its lines are found by their places.
+//!
+//! Begin at `phase.rt`, `run_phase`, five calls in a row: every analyst's pass learns a note of the
+//! custodian's, also without a line in the phase; the custodian takes its lane's place; the lanes
+//! are answered, in one thread where no two have a line; the custodian takes its own place again,
+//! with the edits that it then holds, and confirms every pass.
 #![tactic(auto)]
 
 mod gates;

@@ -1,4 +1,8 @@
 // A phase: its lanes in threads.
+//
+// The custodian is one lane of the list meanwhile: it changes places with its lane's party
+// (`IsSwapped`), and proofs go by which lane is whose, from the list before the first exchange to
+// that after the last.
 
 ghost use Rattle.std.specs.Prelude.{◌≡◌, ◌<◌, ◌≤◌, ◌+◌, All, IfSome, length};
 ghost use Rattle.tb_lanes.specs.Lanes.{HasRun};

@@ -1,8 +1,9 @@
 //! Tests of lines and of their tables: queries, edits and scripts by their bytes, each fault with
-//! its place, plans and printed tables, and what may be asked. Their calls have ample memory.
+//! its place, plans and printed tables, and what may be asked. Their calls have ample memory. They
+//! call public functions alone; whole runs stand in `tb_top_tests`.
 //!
-//! They call public functions alone. Tests stand in crates of their own since a crate that has
-//! tests is proved twice. Whole runs stand in `tb_top_tests`.
+//! Begin at `query_lines.rt`, or at `table_texts.rt` for printed tables. A `#[test]` function owns
+//! nothing: it asserts what one function returns, the place of the first row that is wrong.
 #![tactic(auto)]
 
 #[cfg(test)]

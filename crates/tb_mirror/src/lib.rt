@@ -1,17 +1,15 @@
-//! A mirror: a server over a board whose batches are a leader's, which come in numbered messages at
-//! the first port. A message that is applied is a publication on the board, so what analysts get is
-//! what `serve` gives them.
+//! The command `mirror`: a server over a board whose batches are a leader's, which come in numbered
+//! messages at the first port; each is published when all before it are (`serve_mirror`).
 //!
-//! It stands on `tb_leader` (the leader's lines), `tb_follow` (messages, and what becomes of one
-//! that is delivered), `tb_session` (the custodian of a board) and `tb_serve` (sessions over a
-//! board). Its contracts cite `specs/MirrorAsks` (what a line at the first port asks for),
-//! `MirrorReplies` (the reply to it, and where the mirror stands then), `BoardChains` (the chain of
-//! a board's custodian, and the messages that wait for it) and `Mirroring` (what a whole call did);
-//! `laws` cites `Laws`.
+//! The first port takes `where`, `stats`, `clear`, `cache K` and the leader's lines, and refuses
+//! every other, `restart` too. A message that isn't ended goes with its session; what waits stays,
+//! also from one session to the next. Nothing tells who leads: the laws ask that no message is
+//! forged.
 //!
-//! Of the proofs, `Applying` has the board's chain after a publication, `Answering` what a reply of
-//! the custodian's is to a mirror, `Mirrored` all ports from their making to their end, and `Led` a
-//! mirror that its leader leads.
+//! Begin at `mirror.rt`: three layers, each a trait's instance. `BoardChain` is the custodian as a
+//! `Chain` of `tb_follow` (`apply` is `Board::publish`), `BoardFollower` that and a `Window` as a
+//! `Receiver` of `tb_leader`, `Mirror` the leader's lane over it as an `Owner`. Its state is the
+//! lane's (`LaneValue`), so the laws of the leader's lane are a mirror's.
 #![tactic(auto)]
 
 mod asks;

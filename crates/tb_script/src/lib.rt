@@ -1,13 +1,13 @@
-//! Scripts: read whole from a file, or the number of the first bad line; and answered line by line,
-//! over a board.
+//! Scripts: read whole from a file (`Script::read`), and answered line by line over a board, each
+//! lane by a party of its own (`run_script`) or the custodian's lane by any `Owner` (`run_owned`).
 //!
-//! It stands on `tb_session` (the answer to a line), `tb_lines` (the lines of a list), `tb_board`
-//! and `tb_io` (where replies go), on `bstr` and `indexmap`. Its contracts cite `specs/Lines` (what
-//! a line is by itself), `Scripts` (what a file says, or its first bad line), `Parts` (how a script
-//! is kept), `WholeFiles` (what `laws` says of a whole file) and `Runs` (the replies to a script's
-//! lines). Of the proofs, `Ascii`, `Words` and `Names` serve one line, `Growing` and `Reading` the
-//! reading of a file, `Phases` the lines up to a phase, `WholeFiles` the laws and `Running` the
-//! run.
+//! A file is refused by the number of its first bad line, where all lines count, and nothing of it
+//! is kept. A run is out of memory only before its first line, while the analysts are made; later a
+//! line that finds no memory is answered `memory`, and the next one follows.
+//!
+//! Begin at `script.rt`, `Script::read`: `line.rt` splits a line into lane and text, `parts.rt`
+//! keeps it. Then `run.rt`: an analyst's pass learns a note of the custodian's before each line,
+//! and the custodian confirms it after. The loop is `tb_lines::answer_list`, over `Parties`.
 #![tactic(auto)]
 
 mod asker;

@@ -1,4 +1,7 @@
 // A script's parts as they are kept.
+//
+// One copy of all lines' bytes and a place for each line, no string for each, since a script may
+// have 16 MiB.
 
 ghost use Rattle.std.specs.Prelude.{◌≡◌, ◌≢◌, ◌+◌, ◌<◌, ◌≤◌, ◌∷◌, ◌++◌, [], Some, true, false};
 ghost use Rattle.std.specs.Prelude.{bytes_eq, length, map, not, slice_get, string_bytes};

@@ -1,17 +1,15 @@
-//! Listeners with their ports, and a worker for each, over one board: the command `serve`, and what
-//! serves sessions over a board whose chain may have begun.
+//! The sessions of several ports over one board, a worker each: the command `serve` (`serve`), and
+//! its middle (`serve_from`), over any board whose chain may have begun and any `Owner` of the
+//! first port.
 //!
-//! It stands on `tb_worker` (the sessions of one listener), `tb_session` (parties), `tb_board`
-//! (what all sessions are answered over) and `tb_io` (listeners, readers of lines, sinks). Its
-//! contracts cite `specs/Ports` (a port as it is seen), `Each` (what becomes of each port),
-//! `Workers` (what is true of a port whose worker ended), `Stages` (what is done with all ports
-//! before and after that), `Reports` (what is written at the end) and `Serves` (what the whole call
-//! did).
+//! Nothing is accepted before all ports are bound; a fault until then ends the call. A session's
+//! fault ends no other session, a failed accept only its own worker. Sessions end as in
+//! `tb_session`: also, unanswered, at a foreign line (it ends with a blank and HTTP/1.0 or
+//! HTTP/1.1). An analyst's port has one pass: its next session begins where the last one ended.
 //!
-//! Of the proofs, `Each` serves every loop over the ports; `Binding`, `Seats` and `Confirming`
-//! serve the stages; `Parties` has a party's sessions as they lead its state on; `PortEnds` follows
-//! one port from its making to its end and `Wholes` all of them; `Lines` and `Endings` have what is
-//! written.
+//! Begin at `serving.rt`, `serve`: `prepare` (readers of lines, then binds), the board,
+//! `serve_from` (`over_board.rt`: confirmed passes, the workers, each with listener, party, reader
+//! and counter of its own, then all passes confirmed), and the report, which takes no memory.
 #![tactic(auto)]
 
 mod closing;

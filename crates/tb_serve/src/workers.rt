@@ -1,4 +1,12 @@
 // The workers of all ports, in threads.
+//
+// Of two closures that are lent to `join_mut` the borrow checker covers those over type parameters
+// without associated types, written into variables first. A `Port<N>` has some: so what each side
+// does is handed to `call_beside` as an `Fn` closure over lent values (`specs/Beside`), and each is
+// called in a function of its own. The caller splits the slice, and so knows its last value.
+//
+// The owner's setting is a type parameter: a bound on a trait with a struct that borrows,
+// `W: Owner<Setting<'a, ..>>`, asks for lifetimes that no caller can show.
 
 ghost use Rattle.std.specs.Prelude.{◌≡◌, ◌<◌, ℕ, true, All, length, slice_index_or};
 ghost use Rattle.std.specs.Thread.{IsSync};

@@ -5,6 +5,9 @@
 //! `tb_serve`: many sessions beside publications, and sessions over loopback whose clients go away.
 //! By the top call: clients that wait for each other's replies, listeners that fail, servers with a
 //! journal, and mirrors.
+//!
+//! Begin at `waiting.rt`; `running.rt` and `command.rt` have whole calls, `ports.rt` and `talks.rt`
+//! sessions in memory, `peers.rt` and `clients.rt` clients over loopback.
 #![tactic(auto)]
 
 #[cfg(test)]

@@ -1,4 +1,7 @@
 // A query's table over the release that a pass takes.
+//
+// What was taken is the cut: `cube_of` has clauses on it alone (`IsTaken`), and knows neither desk
+// nor board.
 
 ghost use Rattle.std.specs.Prelude.{◌≡◌, ◌≢◌, ◌+◌, ◌≤◌, IfOk, OnOk, List, None, length};
 ghost use Rattle.tb_base.specs.declared.var_set.TheConstants.{VARIABLES_IN_PLACE};

@@ -1,4 +1,11 @@
 // The cells of a query's table over a release of the chain, whichever its number.
+//
+// A turn takes the current release, and a second one gives the whole chain. What was taken in the
+// first is of any chain that goes on from that turn's, so both are of one chain (`IsPast`), and
+// what counts by them knows of no turn.
+//
+// The cube of what was taken is made and offered, and a copy of it is led to release N. Where a
+// cube would be too large, release N is made from release 0, and its records are counted.
 
 ghost use Rattle.std.specs.Prelude.{◌≡◌, ◌≢◌, ◌+◌, ◌≤◌, IfOk, None, length};
 ghost use Rattle.std.specs.Arc.{arc_value};

@@ -1,4 +1,7 @@
 // The reply to a line that asks for a table of dwellings.
+//
+// The line is read with `table` in the place of its first word. The release is taken without a look
+// for a cube, its records are counted anew, and nothing of it is kept.
 
 ghost use Rattle.std.specs.Prelude.{◌≡◌, ◌+◌, ◌≤◌, IfOk, IfSome, bytes_eq, codes, length, true};
 ghost use Rattle.std.specs.Option.{option_copied};

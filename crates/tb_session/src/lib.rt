@@ -1,29 +1,15 @@
-//! The lines of a party, answered over a board: one line, an analyst's query or what the custodian
-//! asks for; and a session, the lines that come from a source. Analysts, whose passes the custodian
-//! confirms.
+//! The lines of a party over a board: one line (`answer`), in any thread, and the lines of a source
+//! (`session`). Who answers the custodian's lines is a trait of its own (`Owner`).
 //!
-//! It stands on `tb_describe` (what may be asked), `tb_tables` (a query's line, its table and the
-//! reply to it, over a release), `tb_ahead` (the reply to `publish`), `tb_board` (the desk behind
-//! its lock), `tb_build` (a cube that isn't kept), `tb_core` (one that is), `tb_past` (one that is
-//! led to another release, and an earlier release), `tb_revise` (the custodian's edits), `tb_io`
-//! (where lines come from, and where replies go) and `tb_lines` (lines that are answered one after
-//! another: what a session did). Its contracts cite `specs/Asks` (what a line asks for) with
-//! `PastLines` (a line `at N QUERY`), `Replies` (what the reply to it is) with `PastTables` (that
-//! to a line `at N QUERY`), `Transcripts` (which replies are legal), `Parties` (who asks, and what
-//! an answer says), `Prepared` (a publication that was prepared), `PartySessions` (whose session)
-//! and `Owners` (who answers the custodian's lines); `laws` cites `Laws`, and `RunWorlds` (what a
-//! reply of a run of `tb_core`'s events shows at a place of a table).
+//! No cube is built, led on or printed in a turn of the lock. Where memory is refused the reply is
+//! `memory`, and the release and the held edits stay; a refused batch is let go. A session ends
+//! with its source, at `quit`, at a line too long, after `MOST_LINES` lines, where a read or write
+//! fails, and, unanswered, at a foreign line (its end is a blank and HTTP/1.0 or HTTP/1.1).
 //!
-//! Of the proofs, `Leading` leads from what a line asks for to where the party stands then, and
-//! `Revising` does so for `publish`; `Texts` says how lines are put together; of a line `at N
-//! QUERY`, `PastTexts` has what follows its number, `PastTaking` what was taken along a chain that
-//! goes on, `PastCubes` the cube of release n, `PastCounts` what is counted by it, `PastPrices`
-//! what it may cost and `PastReplies` its text; `Numbers` and
-//! `Publishing` and `Describing` prove the laws of transcripts. Those of runs are proved by
-//! `RunSteps` (what an event may do), `TakeRuns` (a reply's cells), `ReplyTakes` (the take that it
-//! answers), `OwnCells` (a table from a cube over its plan's variables) and `RunLaws`. For scripts,
-//! `SomeReplies` and `Analysts` have what a run of lines needs, and `LegalParties` leads from lines
-//! that were answered one after another to a party's legal replies.
+//! Begin at `answering.rt`, `answer`: by role, what the line asks for (`asks_of`), a reply without
+//! a sink (`Reply`), then its text. A query (`query.rt`, `count.rt`) takes one turn, counts what it
+//! took, and offers its cube in another; `past.rt` has `at N`, `homes.rt` dwellings. Only
+//! `answer_own` and `answer_own_past` lend the custodian's own pass, and settle it after.
 #![tactic(auto)]
 
 mod answering;

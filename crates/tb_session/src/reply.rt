@@ -1,4 +1,7 @@
 // A reply, and how it is written.
+//
+// What decides on a reply isn't generic in a sink, so its goals have no ledger's or sink's names;
+// only `write` speaks of what was taken.
 
 ghost use Rattle.std.specs.Prelude.{◌≡◌};
 ghost use Rattle.tb_ahead.specs.Publishing.{batch_refusal_line};

@@ -1,4 +1,7 @@
 // The arguments of the command line.
+//
+// A form is a function on the words one by one (`keep_named`), and one lemma takes the list of
+// words apart for it (`keep-named` of `proofs/CommandWords`).
 
 ghost use Rattle.std.specs.Prelude.{◌≡◌, None, Some, if◌then◌else◌, map, string_bytes};
 ghost use Rattle.tb_top.specs.Commands.{command_of, follow_words, gen_named, gen_words};

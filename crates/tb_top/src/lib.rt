@@ -1,26 +1,15 @@
-//! The top call: a command of the command line, whose files are read, whose task is done, and which
-//! writes why where it can't be.
+//! The top call (`tablebuilder`), a library so that tests call it as `main` does: it tests the
+//! words of a command, reads and checks its files in their order, does its task, and returns the
+//! status.
 //!
-//! It stands on the readers of the files (`tb_schema`, `tb_ptable`, `tb_records`, `tb_units`,
-//! `tb_script`), on `tb_script`, `tb_lanes`, `tb_keep`, `tb_serve`, `tb_host` and `tb_mirror`,
-//! which answer lines over one board, and on `tb_follow_lanes`, which answers them by a follower.
-//! The contract of `tablebuilder` tells, for each status, what was written (`specs/Promises`, over
-//! what a call saw, `Calls`). A command is one of several, each with its inputs and a task
-//! (`specs/Commands`, and `ServicePorts` for sessions); what it asks for over its files is a
-//! function (`specs/Asking`), what is answered a relation (`specs/Outputs`, `LaneOutputs` for lanes
-//! at the same time, `KeepOutputs` for a script with a journal, `Services` for sessions,
-//! `HostOutputs` for those with a journal and `MirrorOutputs` for those of a mirror); `laws` says
-//! what that means over forms in memory (`specs/InMemory`).
+//! No file is read before the words are a command's, none after one that is refused, and no line is
+//! answered before all are read. A run that ends so writes one last line, without memory (`End`).
 //!
-//! The test of the arguments alone decides whether they are a command's. Words that pass it are put
-//! into their positions by `clap` (`tb_words`) before any file is read.
-//!
-//! Of the lemmas `proofs/CommandWords` serves the reading of the arguments, `Tested` what `clap` is
-//! handed, `LoadSteps` the reading of the files, step after step, and `Finishing` the top call, of
-//! which `Serving` has the part on sessions, `Mirroring` that on those of a mirror, `LanesRun` that
-//! on lanes and `Keeping` that on a journal; `Following` is on a follower, `Writing` has what was
-//! written with `Done`, `DiskKept` what is kept of the disk, and `PortLemmas` what is true of all
-//! ports.
+//! Begin at `top.rt`, `tablebuilder`: `ask` (`asking.rt`, then `load.rt`), and `answer`, a function
+//! a task. Its clause is `Keeps` (`specs/Promises`) over what the call saw (`specs/Calls`): what is
+//! asked for is a function (`specs/Asking`), what may be printed a relation (`specs/Outputs`). A
+//! new command is a variant of `Command`, `Asked` and `AskedValue`, a line of `command_files`, and
+//! a case of `load`, `answer`, `asked_over`, `IsOutput`, `IsBegun` and `IsAnswered`.
 #![tactic(auto)]
 
 mod asking;

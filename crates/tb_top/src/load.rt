@@ -1,4 +1,11 @@
 // The files of a run, read in their order.
+//
+// A file's bytes are freed once it is checked, those of PEOPLE before release 0 is made.
+//
+// Each step over files has one clause, `Loads`: how it goes by its definition over any contents
+// that hold the files that were read, that the count of faults doesn't fall, and which reading was
+// the last, by a list of named files. Two steps join by appending their lists (`proofs/LoadSteps`
+// has a lemma for each exit), and a file that couldn't be read is one of other contents.
 
 ghost use Rattle.std.specs.Prelude.{◌≡◌, ◌≤◌, ◌++◌, [], ◌∷◌, Some, true, length};
 ghost use Rattle.std.specs.Prelude.{IfErr, IfOk, flat_map, option_map};

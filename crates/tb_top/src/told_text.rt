@@ -1,4 +1,7 @@
 // The text that a sink took, for contracts alone.
+//
+// It costs nothing when the program runs: the sink keeps sums alone, and its invariant ties them to
+// this text, so no sink holds what is only counted.
 
 ghost use Rattle.std.specs.Prelude.{◌≡◌, ◌++◌, [], ℕ, List};
 ghost use Rattle.std.specs.Borrow.{ftrue};

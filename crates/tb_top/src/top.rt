@@ -1,4 +1,8 @@
 // The top call.
+//
+// A match arm that takes several owned fields and lends them to its call owes their drops at each
+// exit of the match: so the fields of `Keep` are handed over by value, to a function that lends
+// them.
 
 ghost use Rattle.std.specs.Prelude.{◌≡◌, ◌+◌, ℕ, List, All, false, map, string_bytes};
 ghost use Rattle.std.specs.Prelude.{vec_len};

@@ -1,16 +1,12 @@
-//! The words of a command, put into their positions by `clap`.
+//! The words of a command, put into their positions by `clap` (`in_positions`). The names of
+//! commands and positions are public, for whoever prints the forms of the commands.
 //!
-//! Who calls has tested the words, so `clap` refuses them for want of memory alone
-//! (`clap_matches`). It sees one command with a subcommand for each of the program's, whose
-//! arguments are positions (`specs/Positions`), and the words as they are handed on
-//! (`specs/Words`): `-` in the place of the recodes, which `clap` would take for the beginning of
-//! an option, is noted, and `none` stands for it meanwhile. `in_positions` returns each word from
-//! its position. The names of the commands and of their positions are public, for whoever prints the
-//! forms of the commands.
+//! Who calls has tested the words (`AreTested`), so the words that come back are the same ones, and
+//! `clap` refuses them for want of memory alone. It knows no help and no options here.
 //!
-//! Of the lemmas `proofs/Plain` is on words that aren't options, over any command of positions,
-//! `Parsed` on each command, `Built` on how they are built, `Told` on what clap tells of them,
-//! and `Handed` on what is handed on and given back.
+//! Begin at `given.rt`, `in_positions`: a `-` in the place of the recodes, which `clap` would take
+//! for the beginning of an option, is handed on as `none` and put back. A new command is one of
+//! `COMMANDS` and a case of `positions_of` in `positions.rt` and in `specs/Positions`.
 #![tactic(auto)]
 
 mod given;

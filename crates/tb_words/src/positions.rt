@@ -1,4 +1,11 @@
 // The commands as clap sees them.
+//
+// `clap` doesn't export its view of a command's fields, so settings are read from `app_of`; that a
+// subcommand has no global argument follows from `is_plain` of its shape.
+//
+// The commands are made one by one into a list: a function that holds several owes the drops of all
+// at each `?`. A `?` on a `Result` with so many fields costs more than the call: the last call's is
+// returned as it is, or a `match` takes it apart.
 
 ghost use Rattle.std.specs.Prelude.{◌≡◌, IfErr, IfOk, false, map};
 ghost use Rattle.clap.specs.Words.{app_of, kind_of, rule_of, subcommand_of, subcommand_rows_of};

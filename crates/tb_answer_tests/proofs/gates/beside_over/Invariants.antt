@@ -1,5 +1,0 @@
-use Rattle.tb_answer_tests.proofs.gates.beside_over.Given as goal
-
--- the front of the opening
-abbrev pub ghosts-beside : goal.ghosts-beside
-ghosts-beside g a = record { name = a.opening.name }

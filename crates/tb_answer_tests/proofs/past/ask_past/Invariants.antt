@@ -1,7 +1,0 @@
-use Rattle.tb_model.specs.Schemas.{shape_of}
-use Rattle.tb_session.specs.Parties.{IsPartyOf}
-use Rattle.tb_answer_tests.proofs.past.ask_past.Given as goal
-
--- the party is still one of the board
-abbrev pub invariant-loop-number : goal.invariant-loop-number
-invariant-loop-number g l = IsPartyOf g.B.Named.name (shape_of l.setting.setup.now.schema) l.party

@@ -1,5 +1,0 @@
-use Rattle.tb_answer_tests.proofs.scripts.replies_to.Given as goal
-
--- the front of the opening
-abbrev pub ghosts-run : goal.ghosts-run
-ghosts-run g a = record { name = a.opening.name }

@@ -1,5 +1,0 @@
-use Rattle.tb_lanes_tests.proofs.crossing.run_crossed.Given as goal
-
--- the front of the opening
-abbrev pub ghosts-run_past : goal.ghosts-run_past
-ghosts-run_past g a = record { name = a.opening.name }
