@@ -2,11 +2,11 @@
 
 use std::fmt;
 use std::fmt::{Display, Formatter, Write};
+use tb_endings::Input;
 use tb_ptable::PTableKind;
 use tb_records::PeopleKind;
 use tb_rows::FaultKind;
 use tb_schema::{ClassFile, SchemaKind};
-use tb_top::Input;
 use tb_units::{UnitsFile, UnitsKind};
 
 // More kinds than one file's faults have.

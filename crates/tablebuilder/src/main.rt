@@ -35,9 +35,10 @@ use std::thread::Threads;
 use std::time::Clock;
 use std::{env, io};
 use tb_base::{Status, Steps};
+use tb_endings::{End, end_by};
 use tb_io::{RealFiles, RealSink, Wrote};
 use tb_real_disk::RealDisk;
-use tb_top::{Command, End, end_by, read_command, tablebuilder};
+use tb_top::{Command, read_command, tablebuilder};
 use unbuffered::Unbuffered;
 
 // The arguments after the program's name.

@@ -3,7 +3,8 @@
 use crate::kinds::Kind;
 use crate::usage::{BadArgument, Usage};
 use tb_base::{Status, read_number};
-use tb_top::{Command, Input, Inputs, Service, most_bytes_of};
+use tb_endings::Input;
+use tb_top::{Command, Inputs, Service, most_bytes_of};
 use thiserror::Error;
 
 /// Why a run was refused, or couldn't be finished. A file has the name that the arguments gave it.

@@ -1,5 +1,9 @@
 // Microdata that is read in parts.
 
+ghost use Rattle.std.specs.Prelude.{◌≤◌, flat_map, length};
+ghost use Rattle.tb_base.specs.Persons.{AreDistinct};
+ghost use Rattle.tb_base.specs.declared.people.TheConstants.{MOST_PERSONS};
+
 use crate::accepted::{Person, are_people};
 use crate::faults::{ACCEPTED, Told, people_fault};
 use std::alloc::Global;
@@ -317,6 +321,31 @@ fn parts_of_long_files(rt: HostRuntime) {
     );
 }
 
+// How many records and pages release 0 has of these records.
+fn first_in(
+    rt: &(impl Threads + Sync),
+    alloc: Global,
+    lists: Vec<Vec<Record>>,
+) -> Result<(usize, usize), PeopleFault>
+    requires distinct { AreDistinct (flat_map (λ list. list.items) lists.items) }
+    requires few { length (flat_map (λ list. list.items) lists.items) ≤ MOST_PERSONS }
+{
+    let release = Release::first_in_parts(rt, alloc, lists, Rules::new(alloc, 0))?;
+    Ok((release.len(), release.pages()))
+}
+
+// The same of a file over its schema.
+fn first_over(
+    rt: &(impl Threads + Sync),
+    alloc: Global,
+    schema: &Schema,
+    file: &[u8],
+    parts: usize,
+) -> Result<(usize, usize), PeopleFault> {
+    let lists = read_people_in(rt, alloc, schema, file, parts)?;
+    first_in(rt, alloc, lists)
+}
+
 // How many records and pages release 0 has of a file that is read in at most so many parts.
 fn first_of(
     rt: &(impl Threads + Sync),
@@ -327,9 +356,7 @@ fn first_of(
     let Ok(schema) = Schema::read(alloc, CLASSES, None) else {
         return Err(PeopleFault::Memory);
     };
-    let lists = read_people_in(rt, alloc, &schema, file, parts)?;
-    let release = Release::first_in_parts(rt, alloc, lists, Rules::new(alloc, 0))?;
-    Ok((release.len(), release.pages()))
+    first_over(rt, alloc, &schema, file, parts)
 }
 
 // A page has 1,024 records, wherever the parts end.

@@ -5,8 +5,8 @@ use Rattle.tb_base.specs.declared.status.Status.{Status}
 use Rattle.tb_serve.specs.Stages.{IsFresh}
 use Rattle.tb_words.specs.Words.{AreTested}
 use Rattle.tb_top.specs.declared.command.Command.{Command}
-use Rattle.tb_top.specs.declared.endings.End.{End}
-use Rattle.tb_top.specs.declared.endings.End.TheVariants as end
+use Rattle.tb_endings.specs.declared.endings.End.{End}
+use Rattle.tb_endings.specs.declared.endings.End.TheVariants as end
 use Rattle.tb_top.specs.Asking.{AskedValue, Contents, asked_over, is_keep, is_service}
 use Rattle.tb_top.specs.Calls.{Call}
 use Rattle.tb_top.specs.Commands.{NamedFile, asks_to_generate, asks_to_keep, asks_to_serve, command_files, command_of}

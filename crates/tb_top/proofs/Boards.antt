@@ -1,14 +1,18 @@
 -- What a script's run over a new board says of what was asked for.
-use Rattle.std.proofs.Common.{◌≡◌, ◌⊎◌, ◌∙◌, ap, subst, ℕ, ◌≤◌, List, [], Option, inl, inr, refl, arith}
+use Rattle.std.proofs.Common.{◌≡◌, ◌⊎◌, ◌∙◌, ap, subst, sym, ℕ, ◌≤◌, List, [], Option, inl, inr, refl, arith}
 use Rattle.std.specs.Prelude.{codes}
 use Rattle.tb_base.specs.declared.status.Status.{Status}
+use Rattle.tb_base.specs.declared.status.Status.TheVariants as status
 use Rattle.tb_board.specs.Custodians.{CustodianValue, OpeningValue, first_custodian}
 use Rattle.tb_disk.specs.Images.{WhereTold}
-use Rattle.tb_io.proofs.FaultLemmas.{HasRisen-earlier}
+use Rattle.tb_io.proofs.FaultLemmas.{HasRisen-earlier, HasRisen-later}
+use Rattle.tb_io.specs.Faults.{HasRisen}
+use Rattle.tb_io.specs.Taken.{Took, TookPart}
 use Rattle.tb_model.specs.Releases.{ReleaseValue}
 use Rattle.tb_model.specs.Setups.{SetupValue}
 use Rattle.tb_rows.specs.FaultNames.{FaultNameValue}
-use Rattle.tb_script.specs.Runs.{IsLaneReply}
+use Rattle.tb_script.proofs.Running.{run-all, run-part}
+use Rattle.tb_script.specs.Runs.{IsLaneReply, IsRun}
 use Rattle.tb_script.specs.Scripts.{ScriptLine, ScriptValue}
 use Rattle.tb_script.specs.declared.run.RunEnd.{RunEnd}
 use Rattle.tb_script.specs.declared.run.RunEnd.TheVariants as run_end
@@ -17,14 +21,15 @@ use Rattle.tb_serve.specs.Serves as serves
 use Rattle.tb_keep.specs.JournalRuns.{AreLinesKept, IsJournalFault, IsJournalRun, JournalRun, seen_of}
 use Rattle.tb_keep.specs.declared.recovery.JournalFault.{JournalFault}
 use Rattle.tb_keep.specs.declared.journal_run.KeepEnd.TheVariants as keep_end
-use Rattle.tb_lines.specs.Outputs.{AreReplies, ReplyValue}
+use Rattle.tb_lines.specs.Outputs.{AreReplies, ReplyValue, charged, text_of}
 use Rattle.tb_session.specs.Parties.{state_at}
 use Rattle.tb_top.specs.Asking.{CensusValue, Script, base_of}
-use Rattle.tb_top.specs.Endings.{IsEnded, fault_line, last_line, status_of}
+use Rattle.tb_endings.specs.Endings.{IsEnded, IsRunEnded, fault_line, last_line, status_of}
 use Rattle.tb_top.specs.KeepOutputs.{IsKeepAnswered, IsKeepLine, journal_fault_at, journal_fault_name, journal_line}
 use Rattle.tb_top.specs.Loading.{IsBase, census_over}
-use Rattle.tb_top.specs.Outputs.{AreAnswers}
-use Rattle.tb_top.specs.declared.endings.End.{End}
+use Rattle.tb_top.specs.Outputs.{AreAnswers, IsScriptAnswered}
+use Rattle.tb_endings.specs.declared.endings.End.{End}
+use Rattle.tb_endings.specs.declared.endings.End.TheVariants as end
 use Rattle.tb_top.proofs.Earlier.{stands-earlier, stays-earlier, until-earlier}
 
 -- replies from what the custodian of a new board had seen are answers to what was asked for
@@ -46,6 +51,37 @@ ended-later e {s} {f} {between} {f'} t' le up same h =
       | inl all ↦ inl all
       | inr part ↦ inr (part.0, HasRisen-earlier f between f' le part.1 up, part.2)
     ]
+
+-- how a script's run over the new board of a census ended, and then the whole run
+pub run-on-board : (setup : SetupValue) (opening : OpeningValue) (custodian : CustodianValue) (script : ScriptValue) (e : RunEnd) {s : Status} {f between f' : ℕ} (t mid t' : Option (List ℕ)) (steps steps' : ℕ)
+    → custodian ≡ first_custodian opening → IsBase opening.start.base → between ≤ f' → f ≤ between → (e ≡ run_end.WriteFault → HasRisen f between)
+    → IsRun setup custodian.writer.start.base script.lines e (charged (state_at custodian.writer []) steps) steps' t mid → IsRunEnded e s between f' mid t'
+    → IsScriptAnswered (Script (census_over setup opening.start.base) script) s f f' t t' steps steps'
+run-on-board setup opening custodian script run_end.Done t mid t' steps steps' made first up le failed run (is, still, same) =
+    let all = run-all setup _ script.lines _ _ _ _ run in
+    inl (
+      is,
+      (
+        all.0,
+        answers-on-board setup opening custodian script all.0 made first all.1,
+        subst (λ (x : Option (List ℕ)). Took t x (text_of all.0)) (sym same) all.2,
+        all.3,
+      ),
+    )
+run-on-board setup opening custodian script run_end.WriteFault {s} {f} {between} {f'} t mid t' steps steps' made first up le failed run (is, still, same) =
+    let part = run-part setup _ script.lines _ _ _ _ run in
+    inr (inl (
+      is,
+      HasRisen-later f between f' (failed refl) up,
+      (
+        part.0,
+        answers-on-board setup opening custodian script part.0 made first part.1,
+        subst (λ (x : Option (List ℕ)). TookPart t x (text_of part.0)) (sym same) part.2,
+        part.3,
+      ),
+    ))
+run-on-board setup opening custodian script run_end.Memory t mid t' steps steps' made first up le failed (none, still) ended =
+    inr (inr (still, ended-later end.Memory t' le up none ended))
 
 -- ---- with a journal
 
@@ -78,13 +114,30 @@ module _ (setup : SetupValue) (opening : OpeningValue) (custodian : CustodianVal
   same-base = ap (λ (c : CustodianValue). c.writer.start.base) made ∙ first
 
   -- what became of its lines
-  pub lines-on-board : (lines : List ScriptLine) (e end : RunEnd) (saw : JournalRun) → e ≡ end
-      → IsJournalRun setup custodian.writer.start.base lines (keep_end.Ran e) saw
-      → IsJournalRun setup (base_of (census_over setup opening.start.base)) lines (keep_end.Ran end) saw
-  lines-on-board lines e end saw is run =
-      let P : ReleaseValue → Type 0 = λ base. IsJournalRun setup base lines (keep_end.Ran end) saw in
-      let Q : RunEnd → Type 0 = λ x. IsJournalRun setup custodian.writer.start.base lines (keep_end.Ran x) saw in
-      subst P same-base (subst Q is run)
+  lines-on-board : (lines : List ScriptLine) (e : RunEnd) (saw : JournalRun) → IsJournalRun setup custodian.writer.start.base lines (keep_end.Ran e) saw
+      → IsJournalRun setup (base_of (census_over setup opening.start.base)) lines (keep_end.Ran e) saw
+  lines-on-board lines e saw run =
+      let P : ReleaseValue → Type 0 = λ base. IsJournalRun setup base lines (keep_end.Ran e) saw in
+      subst P same-base run
+
+  -- and how the whole run then ended
+  pub kept-on-board : (script : ScriptValue) (e : RunEnd) {s : Status} {f between f' : ℕ} (t' : Option (List ℕ)) (saw : JournalRun) → between ≤ f' → f ≤ between
+      → (e ≡ run_end.WriteFault → HasRisen f between) → IsJournalRun setup custodian.writer.start.base script.lines (keep_end.Ran e) saw
+      → IsRunEnded e s between f' saw.taken_after t'
+      → IsKeepAnswered (census_over setup opening.start.base) script s (output saw.taken t' f f') (record saw { taken_after = t' })
+  kept-on-board script run_end.Done t' saw up le failed run (is, still, same) = inl (inl (
+    is,
+    subst (λ (x : Option (List ℕ)). AreLinesKept setup (base_of (census_over setup opening.start.base)) script.lines run_end.Done (record saw { taken_after = x })) (sym same)
+        (lines-on-board script.lines run_end.Done saw run),
+  ))
+  kept-on-board script run_end.WriteFault {s} {f} {between} {f'} t' saw up le failed run (is, still, same) = inl (inr (
+    is,
+    HasRisen-later f between f' (failed refl) up,
+    subst (λ (x : Option (List ℕ)). AreLinesKept setup (base_of (census_over setup opening.start.base)) script.lines run_end.WriteFault (record saw { taken_after = x })) (sym same)
+        (lines-on-board script.lines run_end.WriteFault saw run),
+  ))
+  kept-on-board script run_end.Memory t' saw up le failed (none, left) ended =
+      inr (none.1, inl (line-later (last_line end.Memory) status.Memory t' le up none.0 (ended-so end.Memory _ _ _ _ _ ended)))
 
   -- the fault of its journal's file
   pub fault-on-board : (content : Option (List ℕ)) (fault : JournalFault)

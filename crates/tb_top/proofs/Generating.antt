@@ -18,13 +18,13 @@ use Rattle.tb_top.specs.declared.command.Inputs.{Inputs}
 use Rattle.tb_top.specs.declared.load.Asked.{Asked}
 use Rattle.tb_top.specs.declared.load.Asked.TheVariants as asked
 use Rattle.tb_top.specs.declared.load.Scripted.{Scripted}
-use Rattle.tb_top.specs.declared.endings.Input.{Input}
-use Rattle.tb_top.specs.declared.endings.Input.TheVariants as input
-use Rattle.tb_top.specs.declared.endings.End.{End}
-use Rattle.tb_top.specs.declared.endings.End.TheVariants as end
+use Rattle.tb_endings.specs.declared.endings.Input.{Input}
+use Rattle.tb_endings.specs.declared.endings.Input.TheVariants as input
+use Rattle.tb_endings.specs.declared.endings.End.{End}
+use Rattle.tb_endings.specs.declared.endings.End.TheVariants as end
 use Rattle.tb_top.specs.Asking.{AskedValue, CensusValue, Contents, Gen, bytes_in, generated_asked, most_bytes, people_in, perturbation_in, schema_in, script_in, script_over, scripted_in}
 use Rattle.tb_top.specs.Commands.{NamedFile, scripted_files}
-use Rattle.tb_top.specs.Endings.{input_name}
+use Rattle.tb_endings.specs.Endings.{input_name}
 use Rattle.tb_top.specs.GeneratedFiles.{HoldGenerated, generated_contents, generated_inputs}
 use Rattle.tb_top.specs.Loading.{Hold, Loads, Makes, Reading, asked_value, census_value, scripted_value}
 use Rattle.tb_top.specs.Populations.{HasPersons, Population}

@@ -12,11 +12,11 @@ use Rattle.tb_serve.specs.Serves.{IsEnded}
 use Rattle.tb_serve.specs.Stages.{IsFresh}
 use Rattle.tb_top.specs.declared.command.Command.{Command}
 use Rattle.tb_top.specs.declared.command.Command.TheVariants as command
-use Rattle.tb_top.specs.declared.endings.End.TheVariants as end
+use Rattle.tb_endings.specs.declared.endings.End.TheVariants as end
 use Rattle.tb_top.specs.Asking.{AskedValue, CensusValue, Keep, asked_of, base_of}
 use Rattle.tb_top.specs.Calls.{Call, journal_seen, output_of}
 use Rattle.tb_top.specs.Commands.{asks_to_generate, asks_to_keep, command_of}
-use Rattle.tb_top.specs.Endings.{last_line}
+use Rattle.tb_endings.specs.Endings.{last_line}
 use Rattle.tb_top.specs.KeepOutputs.{AreKeepLinesAnswered, AreKeepReplies, HasFailed, IsKeepAnswered, IsKeepLine}
 use Rattle.tb_top.specs.Outputs.{IsBegun}
 use Rattle.tb_top.specs.Promises.{IsPriced, IsSomeLastLine, IsWhole, Keeps}

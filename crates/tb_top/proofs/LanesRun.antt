@@ -1,17 +1,20 @@
 -- What a call keeps that answered the lanes of a script at the same time.
-use Rattle.std.proofs.Common.{◌≡◌, ◌≢◌, ◌⊎◌, refl, subst, ℕ, ◌≤◌, List, [], ◌++◌, All, Option, Some, Ok, inl, inr}
+use Rattle.std.proofs.Common.{◌≡◌, ◌≢◌, ◌⊎◌, refl, subst, sym, ℕ, ◌≤◌, List, [], ◌++◌, All, Option, Some, Ok, inl, inr}
 use Rattle.std.specs.Prelude.{IfSome}
 use Rattle.tb_base.specs.declared.status.Status.{Status}
 use Rattle.tb_base.specs.declared.status.Status.TheVariants as status
 use Rattle.tb_board.specs.Custodians.{CustodianValue, OpeningValue, first_custodian}
-use Rattle.tb_io.proofs.FaultLemmas.{HasRisen-earlier}
+use Rattle.tb_io.proofs.FaultLemmas.{HasRisen-earlier, HasRisen-later}
 use Rattle.tb_io.proofs.TakenLemmas.{Took-append, TookPart-append}
-use Rattle.tb_io.specs.Taken.{Took}
+use Rattle.tb_io.specs.Faults.{HasRisen}
+use Rattle.tb_io.specs.Taken.{Took, TookPart}
 use Rattle.tb_ahead.specs.Publishing.{after_seeing}
-use Rattle.tb_lanes.specs.Phases.{PhasesGo, Progress, begun_with}
+use Rattle.tb_lanes.specs.Phases.{AreLanesRun, PhasesGo, Progress, begun_with}
 use Rattle.tb_model.specs.Releases.{ReleaseValue}
 use Rattle.tb_model.specs.Setups.{SetupValue}
 use Rattle.tb_script.specs.Scripts.{ScriptValue}
+use Rattle.tb_script.specs.declared.run.RunEnd.{RunEnd}
+use Rattle.tb_script.specs.declared.run.RunEnd.TheVariants as run_end
 use Rattle.tb_session.specs.Parties.{state_at}
 use Rattle.tb_serve.specs.Serves.{output}
 use Rattle.tb_serve.specs.Serves as serves
@@ -19,13 +22,13 @@ use Rattle.tb_serve.specs.Stages.{IsFresh}
 use Rattle.tb_top.specs.Asking.{CensusValue, Lanes, asked_of}
 use Rattle.tb_top.specs.Calls.{Call}
 use Rattle.tb_top.specs.Commands.{command_of}
-use Rattle.tb_top.specs.Endings.{IsEnded, last_line}
+use Rattle.tb_endings.specs.Endings.{IsEnded, IsRunEnded, last_line}
 use Rattle.tb_top.specs.KeepOutputs.{IsStill}
 use Rattle.tb_top.specs.LaneOutputs.{AreLanesAnswered, IsLanesText, IsTextOfPhases}
 use Rattle.tb_top.specs.Loading.{IsBase, census_over}
 use Rattle.tb_top.specs.Promises.{IsWhole, Keeps}
 use Rattle.tb_top.specs.declared.command.Command.{Command}
-use Rattle.tb_top.specs.declared.endings.End.TheVariants as end
+use Rattle.tb_endings.specs.declared.endings.End.TheVariants as end
 use Rattle.tb_top.proofs.DiskKept.{left-alone}
 use Rattle.tb_top.proofs.PortLemmas.{all-unserved, same-idle}
 use Rattle.tb_top.proofs.Serving.{IsFinal, keeps_by_final}
@@ -68,7 +71,7 @@ keeps_by_lanes call command census script s named told free fresh same still (fi
 -- ---- over a new board
 
 -- phases from where its custodian stood are those of the census
-pub phases-on-board : (setup : SetupValue) (opening : OpeningValue) (custodian : CustodianValue) (script : ScriptValue) (n : ℕ) (last : Progress)
+phases-on-board : (setup : SetupValue) (opening : OpeningValue) (custodian : CustodianValue) (script : ScriptValue) (n : ℕ) (last : Progress)
     → custodian ≡ first_custodian opening → IsBase opening.start.base
     → PhasesGo setup custodian.writer.start.base script n (begun_with (state_at custodian.writer [])) last
     → IsTextOfPhases (census_over setup opening.start.base) script n last.text
@@ -83,3 +86,27 @@ pub ended-after : {s : Status} {f between f' : ℕ} (t mid t' : Option (List ℕ
 ended-after t mid t' before le up took (inl (is, line)) = inl (is, Took-append t mid t' before (last_line end.Memory) took line)
 ended-after {f} {between} {f'} t mid t' before le up took (inr (is, rose, part)) =
     inr (is, TookPart-append t mid t' before (last_line end.Memory) took part, HasRisen-earlier f between f' le rose up)
+
+-- how a run of lanes over the new board of a census ended, and then the whole run
+pub lanes-on-board : (setup : SetupValue) (opening : OpeningValue) (custodian : CustodianValue) (script : ScriptValue) (e : RunEnd) {s : Status} {f between f' : ℕ} (t mid t' : Option (List ℕ))
+    → custodian ≡ first_custodian opening → IsBase opening.start.base → between ≤ f' → f ≤ between → (e ≡ run_end.WriteFault → HasRisen f between)
+    → AreLanesRun setup custodian.writer.start.base script e (state_at custodian.writer []) t mid → IsRunEnded e s between f' mid t'
+    → AreLanesAnswered (census_over setup opening.start.base) script s f f' t t'
+lanes-on-board setup opening custodian script run_end.Done t mid t' made first up le failed (last, go, took) (is, still, same) = (
+  status.Done,
+  last.text,
+  inl (refl, phases-on-board setup opening custodian script _ last made first go),
+  inl (is, subst (λ (x : Option (List ℕ)). Took t x last.text) (sym same) took),
+)
+lanes-on-board setup opening custodian script run_end.WriteFault {s} {f} {between} {f'} t mid t' made first up le failed (last, go, part) (is, still, same) = (
+  status.Done,
+  last.text,
+  inl (refl, phases-on-board setup opening custodian script _ last made first go),
+  inr (is, subst (λ (x : Option (List ℕ)). TookPart t x last.text) (sym same) part, HasRisen-later f between f' (failed refl) up),
+)
+lanes-on-board setup opening custodian script run_end.Memory t mid t' made first up le failed (n, last, few, go, took) ended = (
+  status.Memory,
+  last.text ++ last_line end.Memory,
+  inr (refl, (n, last.text, few, phases-on-board setup opening custodian script n last made first go, refl)),
+  ended-after _ _ _ last.text le up took ended,
+)

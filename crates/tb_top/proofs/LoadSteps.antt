@@ -25,11 +25,12 @@ use Rattle.tb_units.specs.Units.{units_of}
 use Rattle.tb_units.specs.declared.fault.UnitsFault.{UnitsFault}
 use Rattle.tb_units.specs.declared.fault.UnitsFault.TheVariants as units_fault
 use Rattle.tb_top.specs.declared.command.Inputs.{Inputs}
-use Rattle.tb_top.specs.declared.endings.Input.{Input}
-use Rattle.tb_top.specs.declared.endings.Input.TheVariants as input
-use Rattle.tb_top.specs.declared.endings.End.{End}
-use Rattle.tb_top.specs.declared.endings.End.TheVariants as end
-use Rattle.tb_top.specs.Asking.{◌>>=◌, CensusValue, Contents, bytes_in, census_in, contents_for, counted_in, file_end, input_place, or_end, people_in, perturbation_in, recodes_in, schema_end, schema_in, units_end, units_in, with_units}
+use Rattle.tb_endings.specs.declared.endings.Input.{Input}
+use Rattle.tb_endings.specs.declared.endings.Input.TheVariants as input
+use Rattle.tb_endings.specs.declared.endings.End.{End}
+use Rattle.tb_endings.specs.declared.endings.End.TheVariants as end
+use Rattle.tb_top.specs.Asking.{◌>>=◌, CensusValue, Contents, bytes_in, census_in, contents_for, counted_in, input_place, or_end, people_in, perturbation_in, recodes_in, schema_in, units_in, with_units}
+use Rattle.tb_endings.specs.Refusals.{file_end, schema_end, units_end}
 use Rattle.tb_top.specs.Calls.{IsReadTo, readings_more}
 use Rattle.tb_top.specs.Commands.{NamedFile, class_files, input_files, named}
 use Rattle.tb_top.specs.Loading.{Gives, Hold, Loads, Reading}

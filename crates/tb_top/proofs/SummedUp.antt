@@ -4,9 +4,9 @@ use Rattle.tb_base.specs.declared.status.Status.{Status}
 use Rattle.tb_base.specs.declared.status.Status.TheVariants as status
 use Rattle.tb_io.proofs.FaultLemmas.{HasRisen-zero}
 use Rattle.tb_script.specs.Scripts.{ScriptValue}
-use Rattle.tb_top.specs.declared.endings.End.TheVariants as end
+use Rattle.tb_endings.specs.declared.endings.End.TheVariants as end
 use Rattle.tb_top.specs.Asking.{CensusValue, Script}
-use Rattle.tb_top.specs.Endings.{IsEnded}
+use Rattle.tb_endings.specs.Endings.{IsEnded}
 use Rattle.tb_top.specs.Outputs.{IsGenAnswered, IsScriptAnswered, IsSummedUp}
 use Rattle.tb_top.specs.Populations.{Population}
 

@@ -9,7 +9,7 @@ use Rattle.tb_top.specs.declared.command.Command.{Command}
 use Rattle.tb_top.specs.Asking.{AskedValue, asked_of}
 use Rattle.tb_top.specs.Calls.{Call}
 use Rattle.tb_top.specs.Commands.{command_of}
-use Rattle.tb_top.specs.Endings.{IsLineWritten}
+use Rattle.tb_endings.specs.Endings.{IsLineWritten}
 use Rattle.tb_top.specs.Outputs.{IsOutput}
 use Rattle.tb_top.specs.Promises.{IsPriced, IsWhole, Keeps, defined_status}
 use Rattle.tb_top.proofs.DiskKept.{KeepsDisk}

@@ -11,27 +11,15 @@ use Rattle.tb_ptable.specs.Lines.{perturbation_of}
 use Rattle.tb_ptable.specs.Table.{TableValue}
 use Rattle.tb_records.specs.FaultNames.{fault_name as people_name}
 use Rattle.tb_records.specs.People.{people_of}
-use Rattle.tb_rows.specs.FaultNames.{FaultNameValue}
-use Rattle.tb_rows.specs.declared.fault.Fault.{Fault}
-use Rattle.tb_rows.specs.declared.fault.Fault.TheVariants as fault
-use Rattle.tb_schema.specs.FaultNames.{fault_name as schema_name}
 use Rattle.tb_schema.specs.Recodes.{schema_of}
-use Rattle.tb_schema.specs.declared.fault.ClassFile.{ClassFile}
-use Rattle.tb_schema.specs.declared.fault.ClassFile.TheVariants as class_file
-use Rattle.tb_schema.specs.declared.fault.SchemaFault.{SchemaFault}
-use Rattle.tb_schema.specs.declared.fault.SchemaFault.TheVariants as schema_fault
 use Rattle.tb_script.specs.Scripts.{ScriptValue, script_of}
 use Rattle.tb_model.specs.Units.{UnitsValue}
-use Rattle.tb_units.specs.FaultNames.{fault_name as units_name}
 use Rattle.tb_units.specs.Units.{units_of}
-use Rattle.tb_units.specs.declared.fault.UnitsFault.{UnitsFault}
-use Rattle.tb_units.specs.declared.fault.UnitsFault.TheVariants as units_fault
-use Rattle.tb_units.specs.declared.fault.UnitsFile.{UnitsFile}
-use Rattle.tb_units.specs.declared.fault.UnitsFile.TheVariants as units_file
-use Rattle.tb_top.specs.declared.endings.Input.{Input}
-use Rattle.tb_top.specs.declared.endings.Input.TheVariants as input
-use Rattle.tb_top.specs.declared.endings.End.{End}
-use Rattle.tb_top.specs.declared.endings.End.TheVariants as end
+use Rattle.tb_endings.specs.Refusals.{file_end, schema_end, units_end}
+use Rattle.tb_endings.specs.declared.endings.Input.{Input}
+use Rattle.tb_endings.specs.declared.endings.Input.TheVariants as input
+use Rattle.tb_endings.specs.declared.endings.End.{End}
+use Rattle.tb_endings.specs.declared.endings.End.TheVariants as end
 use Rattle.tb_top.specs.declared.load.TheConstants.{MOST_BYTES}
 use Rattle.tb_script.specs.declared.limits.TheConstants.{MOST_SCRIPT_BYTES}
 use Rattle.tb_top.specs.declared.command.Command.{Command}
@@ -67,31 +55,6 @@ abbrev pub bytes_in : Input → Option (List ℕ) → Result (List ℕ) End
 bytes_in file None = Err (end.Unread file)
 bytes_in file (Some bytes) =
     if nat_lt (most_bytes file) (length bytes) then Err (end.TooLong file) else Ok bytes
-
--- the end for a file that its reader refuses, by the names of its kinds of fault
-abbrev pub file_end : {K : Type 0} → Input → (K → FaultNameValue) → Fault K → End
-file_end file name_of (fault.Refused kind at) = end.Refused file (name_of kind) at
-file_end file name_of fault.Memory = end.Memory
-
--- which file a fault of the schema is in
-abbrev pub input_of : ClassFile → Input
-input_of class_file.Classes = input.Classes
-input_of class_file.Recodes = input.Recodes
-
--- the end for a classification or recodes that are refused
-abbrev pub schema_end : SchemaFault → End
-schema_end (schema_fault.Refused file kind at) = end.Refused (input_of file) (schema_name kind) at
-schema_end schema_fault.Memory = end.Memory
-
--- which file a fault of dwellings or of links is in
-abbrev pub units_input : UnitsFile → Input
-units_input units_file.Dwellings = input.Dwellings
-units_input units_file.Links = input.Links
-
--- the end for dwellings or links that are refused
-abbrev pub units_end : UnitsFault → End
-units_end (units_fault.Refused file kind at) = end.Refused (units_input file) (units_name kind) at
-units_end units_fault.Memory = end.Memory
 
 -- what a reader gives, or the end for what it refuses
 abbrev pub or_end : {A E : Type 0} → (E → End) → Result A E → Result A End

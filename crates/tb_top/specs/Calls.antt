@@ -6,7 +6,7 @@ use Rattle.tb_keep.specs.JournalRuns.{JournalRun}
 use Rattle.tb_serve.specs.Ports.{PortValue}
 use Rattle.tb_serve.specs.Serves.{Output, output}
 use Rattle.tb_serve.specs.Stages.{HasRisenSome}
-use Rattle.tb_top.specs.declared.endings.Input.{Input}
+use Rattle.tb_endings.specs.declared.endings.Input.{Input}
 use Rattle.tb_top.specs.Commands.{NamedFile}
 use Rattle.tb_top.specs.KeepOutputs.{DiskSeen, kept_seen}
 

@@ -8,8 +8,8 @@ use Rattle.tb_base.specs.declared.limits.TheConstants.{MOST_THRESHOLD}
 use Rattle.tb_top.specs.Numbers.{number_within}
 use Rattle.tb_top.specs.Populations.{population_named}
 use Rattle.tb_top.specs.ServicePorts.{Service, service_named}
-use Rattle.tb_top.specs.declared.endings.Input.{Input}
-use Rattle.tb_top.specs.declared.endings.Input.TheVariants as input
+use Rattle.tb_endings.specs.declared.endings.Input.{Input}
+use Rattle.tb_endings.specs.declared.endings.Input.TheVariants as input
 
 -- whether an argument is a file's name: it isn't empty and doesn't begin with a minus sign
 abbrev pub is_file_name : List ℕ → Bool

@@ -4,9 +4,9 @@ use Rattle.tb_gen.specs.Generated.{generated_classes, generated_people, generate
 use Rattle.tb_io.specs.HeldFiles.{HeldFiles, bytes_of}
 use Rattle.tb_top.specs.declared.command.Inputs.{Inputs}
 use Rattle.tb_top.specs.declared.command.TheConstants.{GENERATED_THRESHOLD}
-use Rattle.tb_top.specs.declared.endings.Input.{Input}
-use Rattle.tb_top.specs.declared.endings.Input.TheVariants as input
-use Rattle.tb_top.specs.Endings.{input_name}
+use Rattle.tb_endings.specs.declared.endings.Input.{Input}
+use Rattle.tb_endings.specs.declared.endings.Input.TheVariants as input
+use Rattle.tb_endings.specs.Endings.{input_name}
 use Rattle.tb_top.specs.Populations.{Population}
 
 -- what each file holds

@@ -5,12 +5,12 @@ use Rattle.tb_io.specs.BoundedSink.{BoundedSink}
 use Rattle.tb_io.specs.HeldFiles.{FailingFiles, bytes_of}
 use Rattle.tb_serve.specs.Ports.{PortValue}
 use Rattle.tb_serve.specs.Serves.{output}
-use Rattle.tb_top.specs.declared.endings.Input.{Input}
-use Rattle.tb_top.specs.declared.endings.End.TheVariants as end
+use Rattle.tb_endings.specs.declared.endings.Input.{Input}
+use Rattle.tb_endings.specs.declared.endings.End.TheVariants as end
 use Rattle.tb_top.specs.declared.command.Command.{Command}
 use Rattle.tb_top.specs.Calls.{Call, IsReadTo}
 use Rattle.tb_top.specs.Commands.{command_of, command_files}
-use Rattle.tb_top.specs.Endings.{last_line}
+use Rattle.tb_endings.specs.Endings.{last_line}
 use Rattle.tb_top.specs.KeepOutputs.{DiskSeen}
 use Rattle.tb_top.specs.Promises.{IsTextOf}
 use Rattle.tb_top.specs.Seen.{call_over}

@@ -18,8 +18,8 @@ use Rattle.tb_script.specs.Scripts.{ScriptValue}
 use Rattle.tb_script.specs.declared.run.RunEnd.TheVariants as run_end
 use Rattle.tb_serve.specs.Serves.{IsEnded, Output}
 use Rattle.tb_top.specs.Asking.{CensusValue, base_of}
-use Rattle.tb_top.specs.Endings.{fault_line, last_line}
-use Rattle.tb_top.specs.declared.endings.End.TheVariants as end
+use Rattle.tb_endings.specs.Endings.{fault_line, last_line}
+use Rattle.tb_endings.specs.declared.endings.End.TheVariants as end
 
 -- what is seen of a disk: what each name had before it was attached, where that is told, and what a
 -- stop could leave under it; the moment before the call; whether it is attached at the end, and

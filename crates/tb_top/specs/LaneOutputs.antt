@@ -7,8 +7,8 @@ use Rattle.tb_lanes.specs.Phases.{PhasesGo, Progress, begun_with}
 use Rattle.tb_script.specs.Scripts.{ScriptValue}
 use Rattle.tb_serve.specs.Serves.{IsEnded, output}
 use Rattle.tb_top.specs.Asking.{CensusValue, base_of}
-use Rattle.tb_top.specs.Endings.{last_line}
-use Rattle.tb_top.specs.declared.endings.End.TheVariants as end
+use Rattle.tb_endings.specs.Endings.{last_line}
+use Rattle.tb_endings.specs.declared.endings.End.TheVariants as end
 
 -- a text is that of the first so many phases, from release 0 of the microdata on
 abbrev pub IsTextOfPhases : CensusValue → ScriptValue → ℕ → List ℕ → Type 0

@@ -4,7 +4,6 @@ pub mod Populations
 pub mod Summaries
 pub mod Summing
 pub mod Commands
-pub mod Endings
 pub mod GeneratedFiles
 pub mod Asking
 pub mod Services

@@ -5,9 +5,9 @@ use Rattle.tb_io.specs.Faults.{HasRisen}
 use Rattle.tb_model.specs.Releases.{ReleaseValue, first_release}
 use Rattle.tb_model.specs.Schemas.{shape_of}
 use Rattle.tb_model.specs.Setups.{SetupValue}
-use Rattle.tb_top.specs.declared.endings.Input.{Input}
-use Rattle.tb_top.specs.declared.endings.End.{End}
-use Rattle.tb_top.specs.declared.endings.End.TheVariants as end
+use Rattle.tb_endings.specs.declared.endings.Input.{Input}
+use Rattle.tb_endings.specs.declared.endings.End.{End}
+use Rattle.tb_endings.specs.declared.endings.End.TheVariants as end
 use Rattle.tb_top.specs.declared.load.Asked.{Asked}
 use Rattle.tb_top.specs.declared.load.Asked.TheVariants as asked
 use Rattle.tb_top.specs.declared.load.Census.{Census}

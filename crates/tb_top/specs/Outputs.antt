@@ -13,9 +13,9 @@ use Rattle.tb_serve.specs.Ports.{PortValue}
 use Rattle.tb_serve.specs.Serves.{output}
 use Rattle.tb_ahead.specs.Publishing.{after_seeing}
 use Rattle.tb_lines.specs.Outputs.{AreReplies, ReplyValue, price_of, text_of}
-use Rattle.tb_top.specs.declared.endings.End.TheVariants as end
+use Rattle.tb_endings.specs.declared.endings.End.TheVariants as end
 use Rattle.tb_top.specs.Asking.{AskedValue, CensusValue, Follow, Gen, Host, Keep, Lanes, Mirror, Script, Serve, base_of}
-use Rattle.tb_top.specs.Endings.{IsEnded, IsLineWritten, last_line}
+use Rattle.tb_endings.specs.Endings.{IsEnded, IsLineWritten, last_line}
 use Rattle.tb_top.specs.KeepOutputs.{AreKeepReplies, DiskSeen, IsKeepAnswered, IsStill}
 use Rattle.tb_top.specs.KeepOutputs.{kept_seen}
 use Rattle.tb_top.specs.HostOutputs.{IsHostAnswered, IsHostOutput}

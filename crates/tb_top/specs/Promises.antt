@@ -3,15 +3,15 @@ use Rattle.std.specs.Prelude.{◌≡◌, ◌⊎◌, ◌+◌, ◌≤◌, ℕ, Lis
 use Rattle.tb_base.specs.declared.status.Status.{Status}
 use Rattle.tb_base.specs.declared.status.Status.TheVariants as status
 use Rattle.tb_lines.specs.Outputs.{ReplyValue, price_of}
-use Rattle.tb_top.specs.declared.endings.Input.{Input}
-use Rattle.tb_top.specs.declared.endings.End.{End}
-use Rattle.tb_top.specs.declared.endings.End.TheVariants as end
+use Rattle.tb_endings.specs.declared.endings.Input.{Input}
+use Rattle.tb_endings.specs.declared.endings.End.{End}
+use Rattle.tb_endings.specs.declared.endings.End.TheVariants as end
 use Rattle.tb_top.specs.Asking.{AskedValue, CensusValue, Host, Keep, asked_by, asked_of, contents_at, contents_for}
 use Rattle.tb_top.specs.Calls.{Call, HasTaken, IsReadTo, NetFailed, ReadFailed, WriteFailed}
 use Rattle.tb_top.specs.Calls.{journal_seen, output_of}
 use Rattle.tb_top.specs.Commands.{asks_to_generate, asks_to_keep, asks_to_serve, command_of, command_files}
 use Rattle.tb_top.specs.declared.command.Command.{Command}
-use Rattle.tb_top.specs.Endings.{last_line, status_of}
+use Rattle.tb_endings.specs.Endings.{last_line, status_of}
 use Rattle.tb_top.specs.HostOutputs.{IsHostAnswered}
 use Rattle.tb_top.specs.KeepOutputs.{AreKeepLinesAnswered, HasFailed, IsKeepLine, IsStill}
 use Rattle.tb_top.specs.KeepOutputs.{disk_line, journal_line}

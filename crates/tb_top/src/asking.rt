@@ -2,17 +2,17 @@
 
 ghost use Rattle.std.specs.Prelude.{◌≡◌, IfErr, IfOk, None, Some, Err, map, string_bytes, true};
 ghost use Rattle.tb_top.specs.declared.command.Command.{Command as CommandValue};
-ghost use Rattle.tb_top.specs.declared.endings.End.TheVariants as end;
+ghost use Rattle.tb_endings.specs.declared.endings.End.TheVariants as end;
 ghost use Rattle.tb_top.specs.Asking.{asked_over, is_keep, is_service};
 ghost use Rattle.tb_top.specs.Commands.{asks_to_generate, asks_to_keep, asks_to_serve};
 ghost use Rattle.tb_top.specs.Commands.{command_files, command_of};
 ghost use Rattle.tb_top.specs.Loading.{AskedIsFirst, Loads, asked_value, reading};
 
 use crate::command::read_command;
-use crate::endings::End;
 use crate::load::{Asked, load};
 use std::alloc::Global;
 use std::thread::Threads;
+use tb_endings::End;
 use tb_io::Files;
 use tb_words::in_positions;
 

@@ -14,12 +14,12 @@ ghost use Rattle.tb_top.specs.Commands.{with_script, with_service, words_with_sc
 ghost use Rattle.tb_top.specs.Commands.{words_with_service};
 ghost use Rattle.tb_top.specs.GeneratedFiles.{generated_inputs as inputs_of_generated};
 
-use crate::endings::Input;
 use crate::numbers::read_within;
 use crate::population::{Population, read_population};
 use crate::service::{Service, read_service};
 use std::marker::Model;
 use tb_base::MOST_THRESHOLD;
+use tb_endings::Input;
 
 /// The threshold over generated files.
 pub const GENERATED_THRESHOLD: u32 = 10;

@@ -7,13 +7,12 @@ ghost use Rattle.tb_top.specs.Asking.{Follow as AskedFollow};
 ghost use Rattle.tb_top.specs.Loading.{IsBase, IsFirst, census_over, census_value};
 ghost use Rattle.tb_top.specs.Outputs.{IsScriptAnswered};
 
-use crate::endings::End;
 use crate::load::Census;
-use crate::top::end_by;
 use std::alloc::Global;
 use std::sync::ledger::Ledger;
 use std::thread::Threads;
 use tb_base::{Memory, Status, Steps};
+use tb_endings::{End, end_by};
 use tb_follow::Follower;
 use tb_follow_lanes::run_follow;
 use tb_io::{Sink, Wrote};

@@ -2,19 +2,19 @@
 // generated files, which stand in memory and are read like any others.
 
 ghost use Rattle.std.specs.Prelude.{◌≡◌, IfErr, IfOk, false};
-ghost use Rattle.tb_top.specs.declared.endings.End.TheVariants as end;
+ghost use Rattle.tb_endings.specs.declared.endings.End.TheVariants as end;
 ghost use Rattle.tb_top.specs.Asking.{generated_asked, is_keep, is_service};
 ghost use Rattle.tb_top.specs.GeneratedFiles.{HoldGenerated};
 ghost use Rattle.tb_top.specs.Loading.{AskedIsFirst, Makes, asked_value};
 ghost use Rattle.tb_top.specs.Populations.{HasPersons};
 
 use crate::command::{FileName, generated_inputs};
-use crate::endings::{End, Input};
 use crate::load::{Asked, Scripted, load_scripted};
 use crate::population::Population;
 use std::alloc::Global;
 use std::thread::Threads;
 use tb_base::Memory;
+use tb_endings::{End, Input};
 use tb_gen::files_of;
 use tb_io::SureFiles;
 

@@ -1,6 +1,7 @@
 // A script with a journal, answered over a census.
 
 ghost use Rattle.std.specs.Prelude.{◌≡◌, ◌≤◌, false, string_bytes, true};
+ghost use Rattle.tb_base.specs.Records.{AllFit};
 ghost use Rattle.tb_base.specs.declared.status.Status.TheVariants as status;
 ghost use Rattle.tb_disk.specs.Moments.{KeepsPast};
 ghost use Rattle.tb_model.specs.Schemas.{shape_of};
@@ -9,21 +10,21 @@ ghost use Rattle.tb_top.specs.KeepOutputs.{IsKeepAnswered, disk_line, disk_seen,
 ghost use Rattle.tb_top.specs.KeepOutputs.{journal_fault_at, journal_fault_name, kept_seen};
 ghost use Rattle.tb_top.specs.Loading.{IsBase, IsFirst, census_over, census_value};
 
-use crate::endings::{End, write_fault_line};
 use crate::load::Census;
-use crate::top::end_by;
 use std::alloc::Global;
 use std::marker::Brand;
 use std::sync::Wait;
 use std::sync::ledger::Ledger;
 use std::thread::Threads;
-use tb_base::{Status, Steps};
+use tb_base::{Memory, Status, Steps};
 use tb_board::{Board, Named, Opening};
 use tb_disk::{Disk, Done};
+use tb_endings::{End, end_by, end_run, write_fault_line};
 use tb_io::{Sink, Wrote};
 use tb_keep::{JournalFault, KeepEnd, run_with_journal};
+use tb_release::Release;
 use tb_rows::FaultName;
-use tb_script::{RunEnd, Script};
+use tb_script::Script;
 use tb_session::{FIRST_CAPACITY, Setting};
 use tb_text::Setup;
 
@@ -115,15 +116,73 @@ fn answer_on_board<B: Named, R: Threads + Wait + Sync, O: Sink, D: Disk, L: Ledg
         alloc,
     };
     match run_with_journal(&setting, script, custodian, disk, out, steps) {
-        KeepEnd::Ran(RunEnd::Done) => Status::Done,
-        KeepEnd::Ran(RunEnd::WriteFault) => Status::WriteFault,
-        KeepEnd::Ran(RunEnd::Memory) => end_by(&End::Memory, out),
+        KeepEnd::Ran(end) => end_run(end, out),
         KeepEnd::Refused(fault) => end_refused(&fault, out),
         KeepEnd::DiskFault => end_by_disk(out),
     }
 }
 
-// Answers the lines of a script over a census, with the journal in the file of this name.
+// The same from the opening of a board, with the journal in the file of this name.
+fn keep_opened<R: Threads + Wait + Sync, O: Sink, D: Disk, L: Ledger>(
+    rt: &R,
+    alloc: Global,
+    setup: &Setup,
+    opening: Opening,
+    journal: &str,
+    script: &Script,
+    out: &mut O,
+    disk: &mut D,
+    steps: &mut Steps<L>,
+) -> Status
+    requires shape { opening.start.shape ≡ shape_of setup.now.schema }
+    requires first { IsBase opening.start.base }
+    requires attached { D.attached disk.old ≡ false }
+    ensures { let seen = output (O.taken out.old) (O.taken out.new)
+        (O.faults out.old) (O.faults out.new) in
+        IsKeepAnswered (census_over setup.now opening.start.base) script.now result seen
+        (kept_seen (disk_seen D.named D.could_leave D.attached D.content
+        D.may_leave D.moment D.left_since D.faults disk.old disk.new)
+        journal.now steps.old steps.new seen) }
+{
+    match disk.attach(journal) {
+        Done::All => {
+            answer_on_board::<Brand, R, O, D, L>(
+                rt, alloc, setup, opening, script, out, disk, steps,
+            )
+        }
+        Done::Failed => end_by_disk(out),
+    }
+}
+
+// The same from release 0.
+fn keep_from<R: Threads + Wait + Sync, O: Sink, D: Disk, L: Ledger>(
+    rt: &R,
+    alloc: Global,
+    setup: &Setup,
+    base: Release,
+    journal: &str,
+    script: &Script,
+    out: &mut O,
+    disk: &mut D,
+    steps: &mut Steps<L>,
+) -> Status
+    requires base { IsBase base }
+    requires fit { AllFit (shape_of setup.now.schema) base.records }
+    requires attached { D.attached disk.old ≡ false }
+    ensures { let seen = output (O.taken out.old) (O.taken out.new)
+        (O.faults out.old) (O.faults out.new) in
+        IsKeepAnswered (census_over setup.now base) script.now result seen
+        (kept_seen (disk_seen D.named D.could_leave D.attached D.content
+        D.may_leave D.moment D.left_since D.faults disk.old disk.new)
+        journal.now steps.old steps.new seen) }
+{
+    match Opening::new(alloc, setup.schema.shape(), base, FIRST_CAPACITY) {
+        Ok(opening) => keep_opened(rt, alloc, setup, opening, journal, script, out, disk, steps),
+        Err(Memory) => end_by(&End::Memory, out),
+    }
+}
+
+// The same over a census.
 fn keep_census<R: Threads + Wait + Sync, O: Sink, D: Disk, L: Ledger>(
     rt: &R,
     alloc: Global,
@@ -144,17 +203,9 @@ fn keep_census<R: Threads + Wait + Sync, O: Sink, D: Disk, L: Ledger>(
         journal.now steps.old steps.new seen) }
 {
     let Census { setup, release } = census;
-    let Ok(opening) = Opening::new(alloc, setup.schema.shape(), release, FIRST_CAPACITY) else {
-        return end_by(&End::Memory, out);
-    };
-    match disk.attach(journal) {
-        Done::All => {
-            answer_on_board::<Brand, R, O, D, L>(
-                rt, alloc, &setup, opening, script, out, disk, steps,
-            )
-        }
-        Done::Failed => end_by_disk(out),
-    }
+    keep_from(
+        rt, alloc, &setup, release, journal, script, out, disk, steps,
+    )
 }
 
 /// Answers the lines of a script over a census, with the journal in the file of this name: attaches

@@ -14,7 +14,6 @@
 
 mod asking;
 mod command;
-mod endings;
 mod follow;
 mod generated;
 mod host;
@@ -33,8 +32,7 @@ mod told_text;
 mod top;
 
 pub use command::{Command, FileName, GENERATED_THRESHOLD, Inputs, read_command};
-pub use endings::{End, Input};
 pub use load::{Asked, Census, MOST_BYTES, most_bytes_of};
 pub use population::Population;
 pub use service::{MOST_PORT, MOST_SESSIONS, MOST_WORKERS, Service};
-pub use top::{end_by, tablebuilder};
+pub use top::tablebuilder;

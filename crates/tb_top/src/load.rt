@@ -13,8 +13,8 @@ ghost use Rattle.tb_base.specs.declared.people.TheConstants.{MOST_PERSONS};
 ghost use Rattle.tb_base.specs.Persons.{AreDistinct};
 ghost use Rattle.tb_base.specs.Records.{AllFit};
 ghost use Rattle.tb_model.specs.Schemas.{shape_of};
-ghost use Rattle.tb_top.specs.declared.endings.End.TheVariants as end;
-ghost use Rattle.tb_top.specs.declared.endings.Input.TheVariants as input;
+ghost use Rattle.tb_endings.specs.declared.endings.End.TheVariants as end;
+ghost use Rattle.tb_endings.specs.declared.endings.Input.TheVariants as input;
 ghost use Rattle.tb_top.specs.Asking.{asked_over, bytes_in, census_in, input_place, is_keep};
 ghost use Rattle.tb_top.specs.Asking.{host_in, is_service};
 ghost use Rattle.tb_top.specs.Asking.{most_bytes, people_in, perturbation_in, recodes_in};
@@ -29,13 +29,13 @@ ghost use Rattle.tb_top.specs.Loading.{AskedIsFirst, IsFirst, Loads, asked_value
 ghost use Rattle.tb_top.specs.Loading.{reading, scripted_value};
 
 use crate::command::{Command, FileName, Inputs};
-use crate::endings::{End, Input};
 use crate::generated::load_generated;
 use crate::population::Population;
 use crate::service::Service;
 use std::alloc::Global;
 use std::thread::Threads;
 use tb_base::{Keys, Record, Rules};
+use tb_endings::{End, Input};
 use tb_io::{FileRead, Files};
 use tb_ptable::PTable;
 use tb_records::read_people_in_parts;

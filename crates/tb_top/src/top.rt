@@ -4,19 +4,17 @@
 // exit of the match: so the fields of `Keep` are handed over by value, to a function that lends
 // them.
 
-ghost use Rattle.std.specs.Prelude.{◌≡◌, ◌≤◌, ◌+◌, ℕ, List, All, false, map, string_bytes};
+ghost use Rattle.std.specs.Prelude.{◌≡◌, ◌+◌, ℕ, List, All, false, map, string_bytes};
 ghost use Rattle.std.specs.Prelude.{vec_len};
-ghost use Rattle.tb_base.specs.declared.status.Status.TheVariants as status;
+ghost use Rattle.tb_base.specs.Records.{AllFit};
 ghost use Rattle.tb_model.specs.Schemas.{shape_of};
 ghost use Rattle.tb_serve.specs.Serves.{output};
 ghost use Rattle.tb_serve.specs.Stages.{IsFresh};
 ghost use Rattle.tb_top.specs.declared.service.TheConstants.{MOST_WORKERS};
 ghost use Rattle.tb_top.specs.Asking.{Script as AskedScript};
-ghost use Rattle.tb_top.specs.declared.endings.End.TheVariants as end;
 ghost use Rattle.tb_top.specs.KeepOutputs.{disk_seen};
 ghost use Rattle.tb_top.specs.Loading.{AskedIsFirst, IsBase, IsFirst, asked_value};
 ghost use Rattle.tb_top.specs.Loading.{census_over, census_value, reading};
-ghost use Rattle.tb_top.specs.Endings.{IsEnded};
 ghost use Rattle.tb_top.specs.Outputs.{IsAnswered, IsGenAnswered, IsScriptAnswered, IsSummedUp};
 ghost use Rattle.tb_top.specs.Services.{IsServiceAnswered};
 ghost use Rattle.tb_top.specs.Promises.{Keeps};
@@ -24,7 +22,6 @@ ghost use Rattle.tb_top.specs.Seen.{call_over};
 ghost use Rattle.tb_top.specs.Summing.{AreSums};
 
 use crate::asking::ask;
-use crate::endings::End;
 use crate::follow::answer_follow;
 use crate::host::answer_host;
 use crate::keep::answer_keep;
@@ -44,23 +41,13 @@ use std::thread::Threads;
 use tb_base::{Memory, Status, Steps};
 use tb_board::{Board, Named, Opening};
 use tb_disk::Disk;
+use tb_endings::{End, end_by, end_run};
 use tb_io::{Files, Listen, Sink, Wrote};
-use tb_script::{RunEnd, Script, run_script};
+use tb_release::Release;
+use tb_script::{Script, run_script};
 use tb_serve::{Port, serve};
 use tb_session::FIRST_CAPACITY;
 use tb_text::Setup;
-
-/// Writes the last line of a run that ends before its task begins, and returns how the run ended.
-pub fn end_by<O: Sink>(end: &End, out: &mut O) -> Status
-    ensures count { O.faults out.old ≤ O.faults out.new }
-    ensures ended { IsEnded end.now result
-        (O.faults out.old) (O.faults out.new) (O.taken out.old) (O.taken out.new) }
-{
-    match end.write_last_line(out) {
-        Wrote::All => end.status(),
-        Wrote::Failed => Status::WriteFault,
-    }
-}
 
 // Answers the lines of a script over a board.
 fn answer_on_board<B: Named, R: Threads + Wait + Sync, O: Sink, L: Ledger>(
@@ -81,14 +68,35 @@ fn answer_on_board<B: Named, R: Threads + Wait + Sync, O: Sink, L: Ledger>(
         steps.old steps.new }
 {
     let (board, custodian) = Board::<B>::new(opening);
-    match run_script(setup, &board, rt, alloc, script, custodian, out, steps) {
-        RunEnd::Done => Status::Done,
-        RunEnd::WriteFault => Status::WriteFault,
-        RunEnd::Memory => end_by(&End::Memory, out),
+    let end = run_script(setup, &board, rt, alloc, script, custodian, out, steps);
+    end_run(end, out)
+}
+
+// The same from release 0.
+fn script_from<R: Threads + Wait + Sync, O: Sink, L: Ledger>(
+    rt: &R,
+    alloc: Global,
+    setup: &Setup,
+    base: Release,
+    script: &Script,
+    out: &mut O,
+    steps: &mut Steps<L>,
+) -> Status
+    requires base { IsBase base }
+    requires fit { AllFit (shape_of setup.now.schema) base.records }
+    ensures { IsScriptAnswered (AskedScript (census_over setup.now base) script.now) result
+        (O.faults out.old) (O.faults out.new) (O.taken out.old) (O.taken out.new)
+        steps.old steps.new }
+{
+    match Opening::new(alloc, setup.schema.shape(), base, FIRST_CAPACITY) {
+        Ok(opening) => {
+            answer_on_board::<Brand, R, O, L>(rt, alloc, setup, opening, script, out, steps)
+        }
+        Err(Memory) => end_by(&End::Memory, out),
     }
 }
 
-// Answers the lines of a script over a census.
+// The same over a census.
 fn answer_script<R: Threads + Wait + Sync, O: Sink, L: Ledger>(
     rt: &R,
     alloc: Global,
@@ -103,12 +111,7 @@ fn answer_script<R: Threads + Wait + Sync, O: Sink, L: Ledger>(
         steps.old steps.new }
 {
     let Census { setup, release } = census;
-    match Opening::new(alloc, setup.schema.shape(), release, FIRST_CAPACITY) {
-        Ok(opening) => {
-            answer_on_board::<Brand, R, O, L>(rt, alloc, &setup, opening, script, out, steps)
-        }
-        Err(Memory) => end_by(&End::Memory, out),
-    }
+    script_from(rt, alloc, &setup, release, script, out, steps)
 }
 
 // Writes what a text of replies comes to, of which these are the sums, or, where it has more bytes

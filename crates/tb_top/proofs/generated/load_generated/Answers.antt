@@ -4,12 +4,12 @@ use Rattle.tb_io.proofs.FaultLemmas.{HasRisen-zero}
 use Rattle.tb_io.specs.Faults.{HasRisen}
 use Rattle.tb_io.specs.HeldFiles.{HeldFiles, bytes_or_none}
 use Rattle.tb_top.specs.declared.command.Inputs.{Inputs}
-use Rattle.tb_top.specs.declared.endings.End.{End}
+use Rattle.tb_endings.specs.declared.endings.End.{End}
 use Rattle.tb_top.specs.declared.load.Scripted.{Scripted}
-use Rattle.tb_top.specs.declared.endings.Input.TheVariants as input
+use Rattle.tb_endings.specs.declared.endings.Input.TheVariants as input
 use Rattle.tb_top.specs.Asking.{Gen, generated_asked, script_over, scripted_in}
 use Rattle.tb_top.specs.Commands.{scripted_files}
-use Rattle.tb_top.specs.Endings.{input_name}
+use Rattle.tb_endings.specs.Endings.{input_name}
 use Rattle.tb_top.specs.GeneratedFiles.{HoldGenerated, generated_contents, generated_inputs}
 use Rattle.tb_top.specs.Loading.{Loads, Makes, Reading, asked_value, scripted_value}
 use Rattle.tb_top.specs.Populations.{Population}

@@ -5,7 +5,7 @@ use Rattle.tb_serve.specs.Serves.{output}
 use Rattle.tb_top.specs.HostOutputs.{IsHostAnswered}
 use Rattle.tb_top.specs.KeepOutputs.{disk_seen}
 use Rattle.tb_top.specs.Loading.{census_over}
-use Rattle.tb_top.specs.declared.endings.End.TheVariants as end
+use Rattle.tb_endings.specs.declared.endings.End.TheVariants as end
 use Rattle.tb_top.proofs.Boards.{ended-so}
 use Rattle.tb_top.proofs.host.host_from.Goals as goal
 

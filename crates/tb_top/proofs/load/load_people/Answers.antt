@@ -1,9 +1,10 @@
 use Rattle.std.proofs.Common.{◌≡◌, ap, Ok}
 use Rattle.std.proofs.lemmas.Result.{err_from_is_err_and}
-use Rattle.tb_top.specs.declared.endings.Input.TheVariants as input
+use Rattle.tb_endings.specs.declared.endings.Input.TheVariants as input
 use Rattle.tb_records.specs.FaultNames.{fault_name as people_name}
 use Rattle.tb_records.specs.People.{people_of}
-use Rattle.tb_top.specs.Asking.{bytes_in, file_end, or_end}
+use Rattle.tb_top.specs.Asking.{bytes_in, or_end}
+use Rattle.tb_endings.specs.Refusals.{file_end}
 use Rattle.tb_top.proofs.LoadSteps.{all_of, Loads-ends, Loads-fails, Loads-refused}
 use Rattle.tb_top.proofs.load.load_people.Goals as goal
 

@@ -1,9 +1,10 @@
 use Rattle.std.proofs.Common.{◌≡◌, ap, Ok}
 use Rattle.std.proofs.lemmas.Result.{err_from_is_err_and}
-use Rattle.tb_top.specs.declared.endings.Input.TheVariants as input
+use Rattle.tb_endings.specs.declared.endings.Input.TheVariants as input
 use Rattle.tb_ptable.specs.FaultNames.{fault_name as ptable_name}
 use Rattle.tb_ptable.specs.Lines.{perturbation_of}
-use Rattle.tb_top.specs.Asking.{bytes_in, file_end, or_end}
+use Rattle.tb_top.specs.Asking.{bytes_in, or_end}
+use Rattle.tb_endings.specs.Refusals.{file_end}
 use Rattle.tb_top.proofs.LoadSteps.{Loads-ends, Loads-fails, Loads-refused}
 use Rattle.tb_top.proofs.load.load_ptable.Goals as goal
 

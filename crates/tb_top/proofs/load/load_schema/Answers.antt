@@ -2,8 +2,9 @@ use Rattle.std.proofs.Common.{◌≡◌, ap, refl, Ok, Err, arith}
 use Rattle.std.specs.Prelude.{option_map}
 use Rattle.std.proofs.lemmas.Result.{err_from_is_err_and}
 use Rattle.tb_schema.specs.Recodes.{schema_of}
-use Rattle.tb_top.specs.declared.endings.Input.TheVariants as input
-use Rattle.tb_top.specs.Asking.{◌>>=◌, bytes_in, or_end, recodes_in, schema_end, schema_in}
+use Rattle.tb_endings.specs.declared.endings.Input.TheVariants as input
+use Rattle.tb_top.specs.Asking.{◌>>=◌, bytes_in, or_end, recodes_in, schema_in}
+use Rattle.tb_endings.specs.Refusals.{schema_end}
 use Rattle.tb_top.specs.Commands.{recodes_files}
 use Rattle.tb_top.proofs.LoadSteps.{Loads-before, Loads-ends, Loads-fails, Loads-refused-schema, Loads-then, skips-bytes}
 use Rattle.tb_top.proofs.load.load_schema.Goals as goal

@@ -1,8 +1,8 @@
 use Rattle.std.proofs.Common.{rules, ◌≡◌, ap, Ok, Err}
 use Rattle.std.proofs.lemmas.Result.{err_from_is_err_and}
 use Rattle.tb_script.specs.Scripts.{script_of}
-use Rattle.tb_top.specs.declared.endings.Input.TheVariants as input
-use Rattle.tb_top.specs.declared.endings.End.TheVariants as end
+use Rattle.tb_endings.specs.declared.endings.Input.TheVariants as input
+use Rattle.tb_endings.specs.declared.endings.End.TheVariants as end
 use Rattle.tb_top.specs.Asking.{bytes_in, or_end}
 use Rattle.tb_top.proofs.LoadSteps.{Loads-ends, Loads-fails, Loads-refuses}
 use Rattle.tb_top.proofs.load.load_script.Goals as goal

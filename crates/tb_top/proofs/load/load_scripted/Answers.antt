@@ -1,7 +1,7 @@
 use Rattle.std.proofs.Common.{◌∷◌, [], refl, Ok, Err, arith}
 use Rattle.std.proofs.lemmas.Result.{err_from_is_err_and}
 use Rattle.tb_script.specs.Scripts.{ScriptValue}
-use Rattle.tb_top.specs.declared.endings.Input.TheVariants as input
+use Rattle.tb_endings.specs.declared.endings.Input.TheVariants as input
 use Rattle.tb_top.specs.Asking.{◌>>=◌, census_in, script_in, scripted_in}
 use Rattle.tb_top.specs.Commands.{named}
 use Rattle.tb_top.specs.Loading.{census_value, scripted_value}

@@ -1,8 +1,9 @@
 use Rattle.std.proofs.Common.{◌≡◌, ◌∷◌, [], ap, refl, Ok, Err, arith}
 use Rattle.std.proofs.lemmas.Result.{err_from_is_err_and}
 use Rattle.tb_units.specs.Units.{units_of}
-use Rattle.tb_top.specs.declared.endings.Input.TheVariants as input
-use Rattle.tb_top.specs.Asking.{◌>>=◌, bytes_in, or_end, units_end, units_in}
+use Rattle.tb_endings.specs.declared.endings.Input.TheVariants as input
+use Rattle.tb_top.specs.Asking.{◌>>=◌, bytes_in, or_end, units_in}
+use Rattle.tb_endings.specs.Refusals.{units_end}
 use Rattle.tb_top.specs.Commands.{named}
 use Rattle.tb_top.proofs.LoadSteps.{Loads-before, Loads-ends, Loads-fails, Loads-refused-units, Loads-then, skips-bytes}
 use Rattle.tb_top.proofs.load.load_units.Goals as goal

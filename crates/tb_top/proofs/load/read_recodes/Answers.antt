@@ -1,7 +1,7 @@
 use Rattle.std.proofs.Common.{refl, Ok, Some, List, ℕ}
 use Rattle.std.specs.Prelude.{option_map}
 use Rattle.std.proofs.lemmas.Result.{err_from_is_err_and}
-use Rattle.tb_top.specs.declared.endings.Input.TheVariants as input
+use Rattle.tb_endings.specs.declared.endings.Input.TheVariants as input
 use Rattle.tb_top.specs.Asking.{bytes_in}
 use Rattle.tb_top.proofs.LoadSteps.{Loads-ends, Loads-fails}
 use Rattle.tb_top.proofs.load.read_recodes.Goals as goal

@@ -1,14 +1,16 @@
--- How a run ends before its task begins.
+-- How a run ends before its task begins, and after the run of a script.
 use Rattle.std.specs.Prelude.{◌≡◌, ◌⊎◌, ℕ, List, ◌++◌, Option, codes, decimal}
 use Rattle.tb_base.specs.declared.status.Status.{Status}
 use Rattle.tb_base.specs.declared.status.Status.TheVariants as status
 use Rattle.tb_io.specs.Faults.{HasRisen}
 use Rattle.tb_io.specs.Taken.{Took, TookPart}
 use Rattle.tb_rows.specs.FaultNames.{FaultNameValue}
-use Rattle.tb_top.specs.declared.endings.Input.{Input}
-use Rattle.tb_top.specs.declared.endings.Input.TheVariants as input
-use Rattle.tb_top.specs.declared.endings.End.{End}
-use Rattle.tb_top.specs.declared.endings.End.TheVariants as end
+use Rattle.tb_script.specs.declared.run.RunEnd.{RunEnd}
+use Rattle.tb_script.specs.declared.run.RunEnd.TheVariants as run_end
+use Rattle.tb_endings.specs.declared.endings.Input.{Input}
+use Rattle.tb_endings.specs.declared.endings.Input.TheVariants as input
+use Rattle.tb_endings.specs.declared.endings.End.{End}
+use Rattle.tb_endings.specs.declared.endings.End.TheVariants as end
 
 -- the name of a file in a last line
 abbrev pub input_name : Input → List ℕ
@@ -70,3 +72,14 @@ IsLineWritten own line s faults faults' taken taken' =
 -- a run ended so: its last line was taken, or, where a write failed, a beginning of it
 abbrev pub IsEnded : End → Status → (faults faults' : ℕ) → (taken taken' : Option (List ℕ)) → Type 0
 IsEnded e = IsLineWritten (status_of e) (last_line e)
+
+-- the run of a script ended so, and then the whole run with this status: nothing more was written,
+-- but for the last line where memory ran out
+abbrev pub IsRunEnded : RunEnd → Status → (faults faults' : ℕ) → (taken taken' : Option (List ℕ))
+    → Type 0
+IsRunEnded run_end.Done s faults faults' taken taken' =
+    (s ≡ status.Done) × (faults' ≡ faults) × (taken' ≡ taken)
+IsRunEnded run_end.WriteFault s faults faults' taken taken' =
+    (s ≡ status.WriteFault) × (faults' ≡ faults) × (taken' ≡ taken)
+IsRunEnded run_end.Memory s faults faults' taken taken' =
+    IsEnded end.Memory s faults faults' taken taken'

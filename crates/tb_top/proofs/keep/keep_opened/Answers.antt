@@ -1,17 +1,13 @@
 use Rattle.std.proofs.Common.{subst, ℕ, List, Option, refl, inl, inr, ⊎_elim}
 use Rattle.tb_base.specs.declared.status.Status.TheVariants as status
-use Rattle.tb_board.specs.Starts.{StartValue}
 use Rattle.tb_journal.proofs.Beginning.{as-one-now}
 use Rattle.tb_keep.specs.JournalRuns.{JournalRun}
 use Rattle.tb_serve.specs.Serves.{output}
 use Rattle.tb_top.specs.KeepOutputs.{IsKeepAnswered, disk_line}
-use Rattle.tb_top.specs.Loading.{census_over, census_value}
-use Rattle.tb_top.specs.declared.endings.End.TheVariants as end
+use Rattle.tb_top.specs.Loading.{census_over}
+use Rattle.tb_endings.specs.declared.endings.End.TheVariants as end
 use Rattle.tb_top.proofs.Boards.{answered-earlier, ended-so}
-use Rattle.tb_top.proofs.keep.keep_census.Goals as goal
-
-pub returns-in_default : goal.returns-in_default
-returns-in_default g c = inr (refl, inl (ended-so end.Memory _ _ _ _ _ c.end_by.ensures.ended))
+use Rattle.tb_top.proofs.keep.keep_opened.Goals as goal
 
 pub returns-in-All : goal.returns-in-All
 returns-in-All g c =
@@ -36,17 +32,16 @@ returns-in-All g c =
     let now = saw content (g.D.Disk.faults c.attach.new.self) (g.D.Disk.moment c.attach.new.self) (g.D.Disk.may_leave c.attach.new.self) in
     let could_leave = g.D.Disk.could_leave c.args.disk.now c.args.journal.now in
     let moment = g.D.Disk.moment c.args.disk.now in
-    let answered = subst (λ (start : StartValue). IsKeepAnswered (census_over c.args.census.setup start.base) script c.answer_on_board.result out now)
-    {y = record { shape = c.shape.result.now; base = c.args.census.release }} c.in-Ok.ensures c.answer_on_board.ensures.answered in
-    subst (λ (told : Option (List ℕ)). IsKeepAnswered (census_value c.args.census) script c.answer_on_board.result out (saw told (g.D.Disk.faults c.args.disk.now) moment could_leave))
+    let census = census_over c.args.setup.now c.args.opening.start.base in
+    subst (λ (told : Option (List ℕ)). IsKeepAnswered census script c.answer_on_board.result out (saw told (g.D.Disk.faults c.args.disk.now) moment could_leave))
     (c.in-All.ensures.found refl)
-    (answered-earlier (census_value c.args.census) script c.answer_on_board.result out now (g.D.Disk.faults c.args.disk.now)
+    (answered-earlier census script c.answer_on_board.result out now (g.D.Disk.faults c.args.disk.now)
     c.in-All.ensures.count c.answer_on_board.ensures.disk_count could_leave c.in-All.ensures.left moment c.in-All.ensures.later
     (λ image left. ⊎_elim (λ was. inl (c.in-All.ensures.any_moment image was)) (λ since. inr since)
-    (c.answer_on_board.ensures.past.nothing_else moment image c.in-All.ensures.later left)) answered)
+    (c.answer_on_board.ensures.past.nothing_else moment image c.in-All.ensures.later left)) c.answer_on_board.ensures.answered)
 
-pub returns : goal.returns
-returns g c =
+pub returns-in-Failed : goal.returns-in-Failed
+returns-in-Failed g c =
     let could_leave = g.D.Disk.could_leave c.args.disk.now c.args.journal.now in
     inr (
       refl,

@@ -4,13 +4,12 @@
 // and not by references.
 
 ghost use Rattle.std.specs.Prelude.{◌≡◌};
+ghost use Rattle.tb_endings.specs.Endings.{fault_line, input_name, input_status, last_line};
+ghost use Rattle.tb_endings.specs.Endings.{refusal_line, status_of};
+ghost use Rattle.tb_endings.specs.Refusals.{file_end, input_of as input_of_file};
+ghost use Rattle.tb_endings.specs.Refusals.{units_input as input_of_units_file};
+ghost use Rattle.tb_endings.specs.declared.endings.End.TheVariants as end;
 ghost use Rattle.tb_io.specs.Taken.{IsWritten};
-ghost use Rattle.tb_top.specs.Asking.{file_end, input_of as input_of_file};
-ghost use Rattle.tb_top.specs.Asking.{units_input as input_of_units_file};
-ghost use Rattle.tb_top.specs.Endings.{fault_line, input_name, input_status, last_line};
-ghost use Rattle.tb_top.specs.Endings.{refusal_line};
-ghost use Rattle.tb_top.specs.Endings.{status_of};
-ghost use Rattle.tb_top.specs.declared.endings.End.TheVariants as end;
 
 use std::alloc::{AllocError, AllocFailed};
 use tb_base::{Memory, Status, print_number};
@@ -74,7 +73,7 @@ impl<T: Drop> From<AllocFailed<T>> for End {
 
 impl From<SchemaFault> for End {
     ghost use Rattle.std.specs.Prelude.{◌≡◌};
-    ghost use Rattle.tb_top.specs.Asking.{schema_end};
+    ghost use Rattle.tb_endings.specs.Refusals.{schema_end};
 
     ghost from_gives = { λ fault e. e ≡ schema_end fault };
 
@@ -101,7 +100,7 @@ fn input_of(file: ClassFile) -> Input
 
 impl From<UnitsFault> for End {
     ghost use Rattle.std.specs.Prelude.{◌≡◌};
-    ghost use Rattle.tb_top.specs.Asking.{units_end};
+    ghost use Rattle.tb_endings.specs.Refusals.{units_end};
 
     ghost from_gives = { λ fault e. e ≡ units_end fault };
 
@@ -224,13 +223,7 @@ fn write_refusal<O: Sink>(out: &mut O, file: Input, name: &FaultName, at: u32) -
 
 /// Writes the line for a file under this name that is refused: the number and the word of its first
 /// fault, and the number of the record.
-pub(crate) fn write_fault_line<O: Sink>(
-    out: &mut O,
-    file: &str,
-    number: u8,
-    word: &str,
-    at: u32,
-) -> Wrote
+pub fn write_fault_line<O: Sink>(out: &mut O, file: &str, number: u8, word: &str, at: u32) -> Wrote
     ensures written { IsWritten result (O.faults out.old) (O.faults out.new)
         (O.taken out.old) (O.taken out.new)
         (fault_line file.now (record { number = number; word = word.now }) at) }
