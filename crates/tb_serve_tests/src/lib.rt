@@ -43,4 +43,6 @@ mod talks;
 #[cfg(test)]
 mod tasks;
 #[cfg(test)]
+mod unspoiled;
+#[cfg(test)]
 mod waiting;

@@ -25,7 +25,7 @@ use Rattle.tb_lines.specs.Outputs.{AreReplies, ReplyValue, charged, text_of}
 use Rattle.tb_session.specs.Parties.{state_at}
 use Rattle.tb_top.specs.Asking.{CensusValue, Script, base_of}
 use Rattle.tb_endings.specs.Endings.{IsEnded, IsRunEnded, fault_line, last_line, status_of}
-use Rattle.tb_top.specs.KeepOutputs.{IsKeepAnswered, IsKeepLine, journal_fault_at, journal_fault_name, journal_line}
+use Rattle.tb_top.specs.KeepOutputs.{IsKeepLine, IsKeepRun, journal_fault_at, journal_fault_name, journal_line}
 use Rattle.tb_top.specs.Loading.{IsBase, census_over}
 use Rattle.tb_top.specs.Outputs.{AreAnswers, IsScriptAnswered}
 use Rattle.tb_endings.specs.declared.endings.End.{End}
@@ -124,7 +124,7 @@ module _ (setup : SetupValue) (opening : OpeningValue) (custodian : CustodianVal
   pub kept-on-board : (script : ScriptValue) (e : RunEnd) {s : Status} {f between f' : ℕ} (t' : Option (List ℕ)) (saw : JournalRun) → between ≤ f' → f ≤ between
       → (e ≡ run_end.WriteFault → HasRisen f between) → IsJournalRun setup custodian.writer.start.base script.lines (keep_end.Ran e) saw
       → IsRunEnded e s between f' saw.taken_after t'
-      → IsKeepAnswered (census_over setup opening.start.base) script s (output saw.taken t' f f') (record saw { taken_after = t' })
+      → IsKeepRun (census_over setup opening.start.base) script s (output saw.taken t' f f') (record saw { taken_after = t' })
   kept-on-board script run_end.Done t' saw up le failed run (is, still, same) = inl (inl (
     is,
     subst (λ (x : Option (List ℕ)). AreLinesKept setup (base_of (census_over setup opening.start.base)) script.lines run_end.Done (record saw { taken_after = x })) (sym same)
@@ -137,7 +137,7 @@ module _ (setup : SetupValue) (opening : OpeningValue) (custodian : CustodianVal
         (lines-on-board script.lines run_end.WriteFault saw run),
   ))
   kept-on-board script run_end.Memory t' saw up le failed (none, left) ended =
-      inr (none.1, inl (line-later (last_line end.Memory) status.Memory t' le up none.0 (ended-so end.Memory _ _ _ _ _ ended)))
+      inr (none.1, inl (left.ever, line-later (last_line end.Memory) status.Memory t' le up none.0 (ended-so end.Memory _ _ _ _ _ ended)))
 
   -- the fault of its journal's file
   pub fault-on-board : (content : Option (List ℕ)) (fault : JournalFault)
@@ -180,8 +180,9 @@ module _ (census : CensusValue) (script : ScriptValue) (s : Status) (out : Outpu
     line,
   )
 
-  pub answered-earlier : IsKeepAnswered census script s out saw → IsKeepAnswered census script s out then
+  pub answered-earlier : IsKeepRun census script s out saw → IsKeepRun census script s out then
   answered-earlier (inl (inl (is, lines))) = inl (inl (is, lines-earlier run_end.Done lines))
   answered-earlier (inl (inr (is, rose, lines))) = inl (inr (is, rose, lines-earlier run_end.WriteFault lines))
-  answered-earlier (inr (free, inl ended)) = inr (free, inl ended)
+  answered-earlier (inr (free, inl (stood, ended))) =
+      inr (free, inl (stands-earlier (seen_of saw) faults could_leave could moment came stood, ended))
   answered-earlier (inr (free, inr (final, text, line, ended))) = inr (free, inr (final, text, line-earlier final text line, ended))

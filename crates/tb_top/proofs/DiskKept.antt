@@ -1,5 +1,5 @@
 -- What a call keeps of its disk.
-use Rattle.std.proofs.Common.{◌≡◌, ◌⊎◌, ◌∙◌, sym, ap, subst, ℕ, List, Ok, inl, inr, true, false, true≢false}
+use Rattle.std.proofs.Common.{◌≡◌, ◌⊎◌, ◌∙◌, sym, ap, subst, ℕ, List, Option, Ok, Err, inl, inr, true, false, true≢false}
 use Rattle.std.specs.Prelude.{IfSome}
 use Rattle.tb_base.specs.declared.status.Status.{Status}
 use Rattle.tb_top.specs.Asking.{AskedValue, Follow, Gen, Host, Keep, Lanes, Mirror, Script, Serve, asked_of, is_keep, is_service}
@@ -8,11 +8,24 @@ use Rattle.tb_top.specs.Commands.{asks_to_keep, command_of}
 use Rattle.tb_top.specs.HostOutputs.{IsHostAnswered}
 use Rattle.tb_top.specs.KeepOutputs.{AreKeepLinesAnswered, IsStill}
 use Rattle.tb_top.specs.Promises.{IsHostKept, IsJournalKept, IsSomeLastLine}
+use Rattle.tb_endings.specs.declared.endings.End.{End}
+use Rattle.tb_keep.specs.JournalRuns.{seen_of}
+use Rattle.tb_keep.specs.Seen.{StandsAsBefore}
 use Rattle.tb_top.proofs.Telling.{always_told, where_told}
 use Rattle.tb_serve.specs.Serves.{IsEnded}
 
+-- where nothing is asked for the disk was left alone
+abbrev IsUnbegun : Call → (List ℕ → Option (List ℕ)) → Type 0
+IsUnbegun call at = (e : End) → asked_of at call.words ≡ Err e → IsStill call.disk
+
+-- something was
+asked-for : (call : Call) (asked : AskedValue) → IfSome call.content (λ at. asked_of at call.words ≡ Ok asked)
+    → IfSome call.content (λ at. IsUnbegun call at)
+asked-for call asked told = where_told _ _ call.content (λ at h e k. cc) told
+
 -- where a journal is asked for its batches are kept, and else the disk was left alone
 pub record KeepsDisk (call : Call) (s : Status) : Type 0 where
+  pub unbegun : IfSome call.content (λ at. IsUnbegun call at)
   pub kept : IfSome call.content (λ at. IsJournalKept call at s)
   pub hosted : IfSome call.content (λ at. IsHostKept call at s)
   pub still : asks_to_keep (command_of call.words) ≡ false → IsStill call.disk
@@ -39,33 +52,45 @@ module _ (call : Call) (asked : AskedValue) (s : Status) (told : IfSome call.con
 pub left-alone : (call : Call) (asked : AskedValue) (s : Status) → is_keep asked ≡ false
     → IfSome call.content (λ at. asked_of at call.words ≡ Ok asked) → IsStill call.disk → KeepsDisk call s
 left-alone call asked s other told alone = record {
+  unbegun = always_told _ call.content (λ at e h. alone);
   kept = no_keep call asked s told (inl other);
   hosted = no_host call asked s told (inl other);
   still = λ h. alone;
 }
 
--- no line was answered, and some last line was written
-no_line : (call : Call) (s final : Status) (text : List ℕ) → call.steps_after ≡ call.steps → IsSomeLastLine final text
-    → IsEnded text final (output_of call) s → IfSome call.content (λ at. IsJournalKept call at s)
-no_line call s final text free line ended =
-    always_told _ call.content (λ at census journal script asked. inr (free, (final, text, line, ended)))
-
 -- so it was before the task
 pub ended-before : (call : Call) (s final : Status) (text : List ℕ) → call.steps_after ≡ call.steps → call.ports_after ≡ call.ports
     → IsStill call.disk → IsSomeLastLine final text → IsEnded text final (output_of call) s → KeepsDisk call s
 ended-before call s final text free same still line ended = record {
-  kept = no_line call s final text free line ended;
+  unbegun = always_told _ call.content (λ at e h. still);
+  kept = always_told _ call.content (λ at census journal script asked. inr (free, inl still, (final, text, line, ended)));
   hosted = always_told _ call.content (λ at census journal service asked. inr (same, still, (final, text, line, ended)));
   still = λ h. still;
 }
 
+-- the disk was left alone, or stops left nothing that stands for anything else, of a script with a
+-- journal
+abbrev pub IsUnspoiledFor : Call → AskedValue → Type 0
+IsUnspoiledFor call (Keep census journal script) =
+    IsStill call.disk ⊎ StandsAsBefore (seen_of (journal_seen call journal))
+IsUnspoiledFor call (Script census script) = ⊥
+IsUnspoiledFor call (Lanes census script) = ⊥
+IsUnspoiledFor call (Follow census script) = ⊥
+IsUnspoiledFor call (Host census journal service) = ⊥
+IsUnspoiledFor call (Mirror census service) = ⊥
+IsUnspoiledFor call (Serve census service) = ⊥
+IsUnspoiledFor call (Gen population census script) = ⊥
+
 -- or in a script with a journal
 pub ended-in-script : (call : Call) (asked : AskedValue) (s final : Status) (text : List ℕ)
     → IfSome call.content (λ at. asked_of at call.words ≡ Ok asked) → is_service asked ≡ false
-    → asks_to_keep (command_of call.words) ≡ true → call.steps_after ≡ call.steps → IsSomeLastLine final text
-    → IsEnded text final (output_of call) s → KeepsDisk call s
-ended-in-script call asked s final text told other keeps free line ended = record {
-  kept = no_line call s final text free line ended;
+    → asks_to_keep (command_of call.words) ≡ true → call.steps_after ≡ call.steps → IsUnspoiledFor call asked
+    → IsSomeLastLine final text → IsEnded text final (output_of call) s → KeepsDisk call s
+ended-in-script call asked s final text told other keeps free unspoiled line ended = record {
+  unbegun = asked-for call asked told;
+  kept = where_told _ _ call.content (λ at h census journal script k.
+      let same : asked ≡ Keep census journal script = cc in
+      inr (free, subst (IsUnspoiledFor call) same unspoiled, (final, text, line, ended))) told;
   hosted = no_host call asked s told (inr other);
   still = λ h. absurd (true≢false (sym keeps ∙ h));
 }
@@ -85,6 +110,7 @@ AreAnsweredFor call s (Gen population census script) = ⊥
 pub answered-on-disk : (call : Call) (asked : AskedValue) (s : Status) → IfSome call.content (λ at. asked_of at call.words ≡ Ok asked)
     → is_service asked ≡ false → asks_to_keep (command_of call.words) ≡ true → AreAnsweredFor call s asked → KeepsDisk call s
 answered-on-disk call asked s told other keeps answered = record {
+  unbegun = asked-for call asked told;
   kept = where_told _ _ call.content (λ at h census journal script k.
       let same : asked ≡ Keep census journal script = cc in
       inl (subst (AreAnsweredFor call s) same answered)) told;
@@ -107,6 +133,7 @@ AreServedFor call s (Gen population census script) = ⊥
 pub served-on-disk : (call : Call) (asked : AskedValue) (s : Status) → IfSome call.content (λ at. asked_of at call.words ≡ Ok asked)
     → is_service asked ≡ true → asks_to_keep (command_of call.words) ≡ true → AreServedFor call s asked → KeepsDisk call s
 served-on-disk call asked s told service keeps served = record {
+  unbegun = asked-for call asked told;
   kept = no_keep call asked s told (inr service);
   hosted = where_told _ _ call.content (λ at h census journal service k.
       let same : asked ≡ Host census journal service = cc in

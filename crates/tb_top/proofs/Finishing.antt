@@ -18,7 +18,7 @@ use Rattle.tb_endings.specs.Endings.{IsEnded, IsLineWritten, last_line, status_o
 use Rattle.tb_top.specs.KeepOutputs.{HasFailed, IsStill}
 use Rattle.tb_top.specs.Loading.{Hold, Loads, Reading}
 use Rattle.tb_top.specs.Populations.{Population}
-use Rattle.tb_top.specs.Promises.{EndsBy, IsCaused, IsDefined, IsLastLine, IsPriced, IsTextOf, IsWhole, Keeps, defined_status}
+use Rattle.tb_top.specs.Promises.{EndsBy, IsByInput, IsCaused, IsDefined, IsLastLine, IsPriced, IsTextOf, IsWhole, Keeps, defined_status}
 use Rattle.tb_top.specs.Outputs.{AreAnswers, AreScriptReplies, IsAnswered, IsBegun, IsGenAnswered, IsOutput, IsScriptAnswered}
 use Rattle.tb_top.specs.Summaries.{summary_line}
 use Rattle.tb_top.specs.Summing.{most_counted}
@@ -78,6 +78,27 @@ of_end (end.Refused input.Script name at) = tt
 of_end (end.BadLine at) = tt
 of_end end.Memory = tt
 
+-- an end is memory's, or has another status
+memory_or_not : (e : End) → (e ≡ end.Memory) ⊎ ((e ≢ end.Memory) × (status_of e ≢ status.Memory))
+memory_or_not end.Usage = inr (λ h. cc, λ h. cc)
+memory_or_not (end.TooLong input.Classes) = inr (λ h. cc, λ h. cc)
+memory_or_not (end.TooLong input.Recodes) = inr (λ h. cc, λ h. cc)
+memory_or_not (end.TooLong input.Ptable) = inr (λ h. cc, λ h. cc)
+memory_or_not (end.TooLong input.People) = inr (λ h. cc, λ h. cc)
+memory_or_not (end.TooLong input.Dwellings) = inr (λ h. cc, λ h. cc)
+memory_or_not (end.TooLong input.Links) = inr (λ h. cc, λ h. cc)
+memory_or_not (end.TooLong input.Script) = inr (λ h. cc, λ h. cc)
+memory_or_not (end.Unread file) = inr (λ h. cc, λ h. cc)
+memory_or_not (end.Refused input.Classes name at) = inr (λ h. cc, λ h. cc)
+memory_or_not (end.Refused input.Recodes name at) = inr (λ h. cc, λ h. cc)
+memory_or_not (end.Refused input.Ptable name at) = inr (λ h. cc, λ h. cc)
+memory_or_not (end.Refused input.People name at) = inr (λ h. cc, λ h. cc)
+memory_or_not (end.Refused input.Dwellings name at) = inr (λ h. cc, λ h. cc)
+memory_or_not (end.Refused input.Links name at) = inr (λ h. cc, λ h. cc)
+memory_or_not (end.Refused input.Script name at) = inr (λ h. cc, λ h. cc)
+memory_or_not (end.BadLine at) = inr (λ h. cc, λ h. cc)
+memory_or_not end.Memory = inl refl
+
 module _ (call : Call) (at : List ℕ → Option (List ℕ)) (same : call.ports_after ≡ call.ports) where
   -- a last line is the text of its status
   whole_by_status : (s : Status) (text : List ℕ) → IsOfEnd s → s ≢ status.Memory → IsLastLine call at s text → IsWhole call at s text
@@ -94,27 +115,6 @@ module _ (call : Call) (at : List ℕ → Option (List ℕ)) (same : call.ports_
   whole_by_status status.Journal text of m h = absurd of
   whole_by_status status.DiskFault text of m h = absurd of
   whole_by_status status.Units text of m h = h
-
-  -- an end is memory's, or has another status
-  memory_or_not : (e : End) → (e ≡ end.Memory) ⊎ ((e ≢ end.Memory) × (status_of e ≢ status.Memory))
-  memory_or_not end.Usage = inr (λ h. cc, λ h. cc)
-  memory_or_not (end.TooLong input.Classes) = inr (λ h. cc, λ h. cc)
-  memory_or_not (end.TooLong input.Recodes) = inr (λ h. cc, λ h. cc)
-  memory_or_not (end.TooLong input.Ptable) = inr (λ h. cc, λ h. cc)
-  memory_or_not (end.TooLong input.People) = inr (λ h. cc, λ h. cc)
-  memory_or_not (end.TooLong input.Dwellings) = inr (λ h. cc, λ h. cc)
-  memory_or_not (end.TooLong input.Links) = inr (λ h. cc, λ h. cc)
-  memory_or_not (end.TooLong input.Script) = inr (λ h. cc, λ h. cc)
-  memory_or_not (end.Unread file) = inr (λ h. cc, λ h. cc)
-  memory_or_not (end.Refused input.Classes name at) = inr (λ h. cc, λ h. cc)
-  memory_or_not (end.Refused input.Recodes name at) = inr (λ h. cc, λ h. cc)
-  memory_or_not (end.Refused input.Ptable name at) = inr (λ h. cc, λ h. cc)
-  memory_or_not (end.Refused input.People name at) = inr (λ h. cc, λ h. cc)
-  memory_or_not (end.Refused input.Dwellings name at) = inr (λ h. cc, λ h. cc)
-  memory_or_not (end.Refused input.Links name at) = inr (λ h. cc, λ h. cc)
-  memory_or_not (end.Refused input.Script name at) = inr (λ h. cc, λ h. cc)
-  memory_or_not (end.BadLine at) = inr (λ h. cc, λ h. cc)
-  memory_or_not end.Memory = inl refl
 
   whole_by_end : (e : End) → (e ≢ end.Memory → EndsBy call at e) → IsWhole call at (status_of e) (last_line e)
   whole_by_end e ends = elim (memory_or_not e) [
@@ -191,7 +191,7 @@ module _ (call : Call) (e : End) (s : Status) (usage : e ≡ end.Usage → comma
     (rose : (file : Input) → e ≡ end.Unread file → ReadFailed call) (ends : IfSome call.content (λ at. e ≢ end.Memory → EndsBy call at e))
     (accepted : asks_to_generate (command_of call.words) ≡ true → e ≡ end.Memory)
     (priced : IfSome call.content (λ at. (call.steps_after ≡ call.steps) ⊎ IsPriced call at s)) (fresh : All IsFresh call.ports)
-    (same : call.ports_after ≡ call.ports) (disk : KeepsDisk call s) where
+    (same : call.ports_after ≡ call.ports) (disk : KeepsDisk call s) (alone : e ≢ end.Memory → IsStill call.disk) where
   usage_told : IsToldBy call e s → s ≡ status.Usage → (command_of call.words ≡ None) × HasTaken call (last_line end.Usage)
   usage_told (inl (is, took)) h = let u = status-usage e (sym is ∙ h) in (usage u, subst (λ x. HasTaken call (last_line x)) u took)
   usage_told (inr (is, failed, part)) h = cc
@@ -220,6 +220,13 @@ module _ (call : Call) (e : End) (s : Status) (usage : e ≡ end.Usage → comma
   generated_told (inl (is, took)) h = inr (inr (is ∙ ap status_of (accepted h)))
   generated_told (inr (is, failed, part)) h = inr (inl is)
 
+  alone_told : IsToldBy call e s → IsByInput s → IsStill call.disk
+  alone_told (inl (is, took)) h = elim (memory_or_not e) [
+    | inl memory ↦ absurd (subst IsByInput (is ∙ ap status_of memory) h)
+    | inr (other, other_status) ↦ alone other
+  ]
+  alone_told (inr (is, failed, part)) h = absurd (subst IsByInput is h)
+
   -- a run that ends before its task keeps all
   pub keeps_by_end : IsToldBy call e s → Keeps call s
   keeps_by_end told = record {
@@ -238,6 +245,8 @@ module _ (call : Call) (e : End) (s : Status) (usage : e ≡ end.Usage → comma
     kept = disk.kept;
     hosted = disk.hosted;
     still = disk.still;
+    alone = alone_told told;
+    unbegun = disk.unbegun;
   }
 
 -- no line was answered
@@ -279,7 +288,7 @@ module _ (call : Call) (command : Command) (asked : AskedValue) (s : Status) (na
       (script_priced replies answers (λ m. cc) part cost) fresh same disk (inr (is, failed, part))
   keeps_by_script (inr (inr (free, ended))) =
       keeps_by_end call end.Memory s (λ h. cc) (λ h. cc) (λ file h. cc) (always_told _ call.content (λ at ne. absurd (ne refl)))
-      (λ h. refl) (unpriced call s free) fresh same disk ended
+      (λ h. refl) (unpriced call s free) fresh same disk (λ ne. absurd (ne refl)) ended
 
 -- how a generated population was answered, and the status
 abbrev pub IsGenAnsweredBy : Call → Population → CensusValue → ScriptValue → Status → Type 0
@@ -318,10 +327,10 @@ module _ (call : Call) (command : Command) (population : Population) (census : C
   keeps_by_gen (inl (replies, answers, cost, inr (long, ended))) =
       keeps_by_end call end.Memory s (λ h. cc) (λ h. cc) (λ file h. cc) (always_told _ call.content (λ at ne. absurd (ne refl)))
       (λ h. refl) (priced_by replies answers cost (begun_long replies long ended)) fresh same
-      (left-alone call (Gen population census script) s refl told still) ended
+      (left-alone call (Gen population census script) s refl told still) (λ ne. absurd (ne refl)) ended
   keeps_by_gen (inr (free, ended)) =
       keeps_by_end call end.Memory s (λ h. cc) (λ h. cc) (λ file h. cc) (always_told _ call.content (λ at ne. absurd (ne refl)))
-      (λ h. refl) (unpriced call s free) fresh same (undone call end.Memory s free same ended still) ended
+      (λ h. refl) (unpriced call s free) fresh same (undone call end.Memory s free same ended still) (λ ne. absurd (ne refl)) ended
 
 -- how what is asked for was answered, and the status
 abbrev pub IsAnsweredBy : Call → AskedValue → Status → Type 0
@@ -427,7 +436,7 @@ keeps_by_load view call after command e s named loads accepted free fresh same s
       caused call command e named rose last,
       same,
     )) loads.gives)
-    accepted (unpriced call s free) fresh same (undone call e s free same told still) told
+    accepted (unpriced call s free) fresh same (undone call e s free same told still) (λ ne. still) told
 
 -- other arguments end the run at once
 pub keeps_by_usage : (call : Call) (s : Status) → command_of call.words ≡ None → call.steps_after ≡ call.steps → All IsFresh call.ports
@@ -436,7 +445,7 @@ keeps_by_usage call s none free fresh same still told =
     keeps_by_end call end.Usage s (λ h. none) (λ h. refl) (λ file h. cc)
     (always_told _ call.content (λ at ne. (rw none refl, tt, same)))
     (λ h. absurd (true≢false (sym h ∙ ap asks_to_generate none))) (unpriced call s free) fresh same
-    (undone call end.Usage s free same told still) told
+    (undone call end.Usage s free same told still) (λ ne. still) told
 
 -- files that were all read lead to the task
 pub keeps_by_task : {A : Type 0} (view : A → AskedValue) (call : Call) (after : Option (List ℕ → Option (List ℕ))) (command : Command)

@@ -5,7 +5,8 @@ use Rattle.tb_base.specs.declared.status.Status.{Status}
 use Rattle.tb_base.specs.declared.status.Status.TheVariants as status
 use Rattle.tb_io.proofs.TakenLemmas.{TookPart-all}
 use Rattle.tb_keep.proofs.SomeKeptReplies.{kept-all, kept-part}
-use Rattle.tb_keep.specs.JournalRuns.{JournalRun}
+use Rattle.tb_keep.specs.JournalRuns.{JournalRun, seen_of}
+use Rattle.tb_keep.specs.Seen.{StandsAsBefore}
 use Rattle.tb_lines.specs.Outputs.{ReplyValue, price_of, text_of}
 use Rattle.tb_script.specs.Scripts.{ScriptValue}
 use Rattle.tb_serve.specs.Serves.{IsEnded}
@@ -17,7 +18,7 @@ use Rattle.tb_top.specs.Asking.{AskedValue, CensusValue, Keep, asked_of, base_of
 use Rattle.tb_top.specs.Calls.{Call, journal_seen, output_of}
 use Rattle.tb_top.specs.Commands.{asks_to_generate, asks_to_keep, command_of}
 use Rattle.tb_endings.specs.Endings.{last_line}
-use Rattle.tb_top.specs.KeepOutputs.{AreKeepLinesAnswered, AreKeepReplies, HasFailed, IsKeepAnswered, IsKeepLine}
+use Rattle.tb_top.specs.KeepOutputs.{AreKeepLinesAnswered, AreKeepReplies, HasFailed, IsKeepAnswered, IsKeepLine, IsStill}
 use Rattle.tb_top.specs.Outputs.{IsBegun}
 use Rattle.tb_top.specs.Promises.{IsPriced, IsSomeLastLine, IsWhole, Keeps}
 use Rattle.tb_top.proofs.DiskKept.{answered-on-disk, ended-in-script}
@@ -75,11 +76,11 @@ module _ (call : Call) (command : Command) (census : CensusValue) (journal : Lis
   -- none was, and a last line was written
   by_last_line : (final : Status) (text : List ℕ) → IsFinal final → final ≢ status.NetFault → (final ≡ status.DiskFault → HasFailed call.disk)
       → ((at : List ℕ → Option (List ℕ)) → asked_of at call.words ≡ Ok asked → IsWhole call at final text) → IsSomeLastLine final text
-      → call.steps_after ≡ call.steps → IsEnded text final (output_of call) s → Keeps call s
-  by_last_line final text is net failed whole line free ended =
+      → call.steps_after ≡ call.steps → IsStill call.disk ⊎ StandsAsBefore (seen_of saw) → IsEnded text final (output_of call) s → Keeps call s
+  by_last_line final text is net failed whole line free unspoiled ended =
       keeps_by_final call command asked s final text named told free is (λ h. absurd (net h)) (λ h. inl (failed h))
       (same-idle call.ports call.ports_after same fresh) (λ h. same) (λ h. absurd (keeps-alone command keeps h)) whole
-      (ended-in-script call asked s final text told refl asks free line ended) ended
+      (ended-in-script call asked s final text told refl asks free unspoiled line ended) ended
 
   -- that of a journal's file that is refused, or of a disk that failed
   by_journal_line : (final : Status) (text : List ℕ) → IsKeepLine census saw final text → call.steps_after ≡ call.steps
@@ -88,16 +89,22 @@ module _ (call : Call) (command : Command) (census : CensusValue) (journal : Lis
       by_last_line final text (subst IsFinal (sym is) tt) (λ h. cc) (λ h. cc)
       (λ at h. subst (λ x. IsWhole call at x text) (sym is)
       (census, journal, inl (script, h), inl (fault, refused, left, refl, line)))
-      (inr (inl (fault, is, line))) free ended
+      (inr (inl (fault, is, line))) free (inr left.ever) ended
   by_journal_line final text (inr (failed, stood, is, line)) free ended =
       by_last_line final text (subst IsFinal (sym is) tt) (λ h. cc) (λ h. failed)
       (λ at h. subst (λ x. IsWhole call at x text) (sym is) (inl (census, journal, inl (script, h), inr (failed, stood, refl, line))))
-      (inr (inr (is, line))) free ended
+      (inr (inr (is, line))) free (inr stood) ended
+
+  -- memory ran out
+  by_memory : call.steps_after ≡ call.steps → IsStill call.disk ⊎ StandsAsBefore (seen_of saw)
+      → IsEnded (last_line end.Memory) status.Memory (output_of call) s → Keeps call s
+  by_memory free unspoiled ended =
+      by_last_line status.Memory (last_line end.Memory) tt (λ h. cc) (λ h. cc)
+      (λ at h. (inl refl, all-unserved call.ports call.ports_after same)) (inl (end.Memory, refl, refl)) free unspoiled ended
 
   -- a run that came to a script with a journal keeps all
-  pub keeps_by_keep : IsKeepAnswered census script s (output_of call) saw → Keeps call s
-  keeps_by_keep (inl lines) = by_lines lines
-  keeps_by_keep (inr (free, inl ended)) =
-      by_last_line status.Memory (last_line end.Memory) tt (λ h. cc) (λ h. cc)
-      (λ at h. (inl refl, all-unserved call.ports call.ports_after same)) (inl (end.Memory, refl, refl)) free ended
-  keeps_by_keep (inr (free, inr (final, text, line, ended))) = by_journal_line final text line free ended
+  pub keeps_by_keep : IsKeepAnswered census script journal s (output_of call) call.disk call.steps call.steps_after → Keeps call s
+  keeps_by_keep (inl (free, still, ended)) = by_memory free (inl still) ended
+  keeps_by_keep (inr (inl lines)) = by_lines lines
+  keeps_by_keep (inr (inr (free, inl (stood, ended)))) = by_memory free (inr stood) ended
+  keeps_by_keep (inr (inr (free, inr (final, text, line, ended)))) = by_journal_line final text line free ended

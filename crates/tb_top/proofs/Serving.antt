@@ -18,7 +18,7 @@ use Rattle.tb_top.specs.Commands.{asks_to_generate, asks_to_keep, asks_to_serve,
 use Rattle.tb_top.specs.KeepOutputs.{HasFailed, IsStill}
 use Rattle.tb_top.specs.Outputs.{IsOutput}
 use Rattle.tb_top.specs.ServicePorts.{Service}
-use Rattle.tb_top.specs.Promises.{IsAskedOutput, IsDefined, IsJournalText, IsTextOf, IsWhole, Keeps, defined_status}
+use Rattle.tb_top.specs.Promises.{IsAskedOutput, IsByInput, IsDefined, IsJournalText, IsTextOf, IsWhole, Keeps, defined_status}
 use Rattle.tb_top.specs.Services.{IsIdle, IsServiceAnswered}
 use Rattle.tb_top.specs.declared.command.Command.{Command}
 use Rattle.tb_top.specs.declared.command.Command.TheVariants as command
@@ -41,6 +41,21 @@ IsFinal status.NetFault = Unit {0}
 IsFinal status.Journal = Unit {0}
 IsFinal status.DiskFault = Unit {0}
 IsFinal status.Units = ⊥
+
+final-task : (s : Status) → IsFinal s → IsByInput s → ⊥
+final-task status.Done is by = by
+final-task status.Usage is by = is
+final-task status.Schema is by = is
+final-task status.Perturbation is by = is
+final-task status.Microdata is by = is
+final-task status.Script is by = is
+final-task status.ReadFault is by = is
+final-task status.WriteFault is by = is
+final-task status.Memory is by = by
+final-task status.NetFault is by = by
+final-task status.Journal is by = by
+final-task status.DiskFault is by = by
+final-task status.Units is by = is
 
 -- a call that came to its task, and whose text is one of a final status
 module _ (call : Call) (command : Command) (task : AskedValue) (s final : Status) (text : List ℕ)
@@ -81,6 +96,11 @@ module _ (call : Call) (command : Command) (task : AskedValue) (s final : Status
   never : (other : Status) → IsEnded text final (output_of call) s → other ≢ status.WriteFault → (IsFinal other → ⊥) → s ≢ other
   never other (inl (is, took)) write none h = none (subst IsFinal (sym is ∙ h) is_final)
   never other (inr (is, part, rose)) write none h = write (sym h ∙ is)
+
+  -- nor is it one that the arguments, a file or a reading decides
+  by_input_never : IsEnded text final (output_of call) s → IsByInput s → ⊥
+  by_input_never (inl (is, took)) h = final-task final is_final (subst IsByInput is h)
+  by_input_never (inr (is, part, rose)) h = subst IsByInput is h
 
   exact_told : (at : List ℕ → Option (List ℕ)) → IsEnded text final (output_of call) s
       → asked_of at call.words ≡ Ok task → IsDefined call at s
@@ -127,6 +147,8 @@ module _ (call : Call) (command : Command) (task : AskedValue) (s final : Status
     kept = disk.kept;
     hosted = disk.hosted;
     still = disk.still;
+    alone = λ h. absurd (by_input_never ended h);
+    unbegun = disk.unbegun;
   }
 
 -- an output of a final status

@@ -1,5 +1,5 @@
 -- What a call keeps that wrote an output of what was asked for.
-use Rattle.std.proofs.Common.{◌≡◌, ◌⊎◌, ◌∙◌, sym, ap, ℕ, List, All, ◌++◌, take, drop, Option, Some, Ok, inl, inr}
+use Rattle.std.proofs.Common.{◌≡◌, ◌⊎◌, ◌∙◌, sym, ap, subst, ℕ, List, All, ◌++◌, take, drop, Option, Some, Ok, inl, inr}
 use Rattle.std.specs.Prelude.{IfSome}
 use Rattle.std.proofs.lemmas.List.{take-append-drop}
 use Rattle.tb_base.specs.declared.status.Status.{Status}
@@ -11,7 +11,7 @@ use Rattle.tb_top.specs.Calls.{Call}
 use Rattle.tb_top.specs.Commands.{command_of}
 use Rattle.tb_endings.specs.Endings.{IsLineWritten}
 use Rattle.tb_top.specs.Outputs.{IsOutput}
-use Rattle.tb_top.specs.Promises.{IsPriced, IsWhole, Keeps, defined_status}
+use Rattle.tb_top.specs.Promises.{IsByInput, IsPriced, IsWhole, Keeps, defined_status}
 use Rattle.tb_top.proofs.DiskKept.{KeepsDisk}
 use Rattle.tb_top.proofs.PortLemmas.{same-idle}
 use Rattle.tb_top.proofs.Telling.{where_told}
@@ -42,6 +42,8 @@ module _ (call : Call) (command : Command) (asked : AskedValue) (s : Status) (te
     kept = disk.kept;
     hosted = disk.hosted;
     still = disk.still;
+    alone = λ h. absurd (subst IsByInput is h);
+    unbegun = disk.unbegun;
   }
   keeps_by_written (inr (is, failed, part)) = record {
     text = where_told _ _ call.content (λ at h.
@@ -61,4 +63,6 @@ module _ (call : Call) (command : Command) (asked : AskedValue) (s : Status) (te
     kept = disk.kept;
     hosted = disk.hosted;
     still = disk.still;
+    alone = λ h. absurd (subst IsByInput is h);
+    unbegun = disk.unbegun;
   }

@@ -127,12 +127,21 @@ AreKeepLinesAnswered census script s out saw =
     ⊎ ((s ≡ status.WriteFault) × HasRisen out.faults out.faults_after
     × AreLinesKept census.setup (base_of census) script.lines run_end.WriteFault saw)
 
--- A script with a journal was answered: its lines were; or none was, since memory ran out, or the
--- journal's file is refused, or the disk failed.
-abbrev pub IsKeepAnswered : CensusValue → ScriptValue → Status → Output → JournalRun → Type 0
-IsKeepAnswered census script s out saw =
+-- What became of a script with a journal, once its file was to be attached: its lines were
+-- answered; or none was, since memory ran out, and then each file that a stop in the run left
+-- stands as one that a stop before it could leave, or since the file is refused, or the disk failed.
+abbrev pub IsKeepRun : CensusValue → ScriptValue → Status → Output → JournalRun → Type 0
+IsKeepRun census script s out saw =
     AreKeepLinesAnswered census script s out saw
     ⊎ ((saw.steps_after ≡ saw.steps)
-    × (IsEnded (last_line end.Memory) status.Memory out s
+    × ((StandsAsBefore (seen_of saw) × IsEnded (last_line end.Memory) status.Memory out s)
     ⊎ ((final : Status) × (text : List ℕ) × IsKeepLine census saw final text
     × IsEnded text final out s)))
+
+-- A script with a journal was answered: memory was refused before the file was to be attached, and
+-- the disk was left alone; or it went as told there.
+abbrev pub IsKeepAnswered : CensusValue → ScriptValue → (journal : List ℕ) → Status → Output
+    → DiskSeen → (steps steps' : ℕ) → Type 0
+IsKeepAnswered census script journal s out disk steps steps' =
+    ((steps' ≡ steps) × IsStill disk × IsEnded (last_line end.Memory) status.Memory out s)
+    ⊎ IsKeepRun census script s out (kept_seen disk journal steps steps' out)

@@ -157,7 +157,7 @@ IsAnswered (Keep census journal script) ports ports' disk s faults faults' taken
     steps' =
     let out = output taken taken' faults faults' in
     (ports' ≡ ports)
-    × IsKeepAnswered census script s out (kept_seen disk journal steps steps' out)
+    × IsKeepAnswered census script journal s out disk steps steps'
 IsAnswered (Follow census script) ports ports' disk s faults faults' taken taken' steps steps' =
     (ports' ≡ ports) × IsStill disk
     × IsScriptAnswered (Follow census script) s faults faults' taken taken' steps steps'

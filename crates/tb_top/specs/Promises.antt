@@ -18,6 +18,8 @@ use Rattle.tb_top.specs.KeepOutputs.{disk_line, journal_line}
 use Rattle.tb_top.specs.Outputs.{AreAnswers, IsBegun, IsOutput, IsOutputToMemory}
 use Rattle.tb_top.specs.ServicePorts.{Service}
 use Rattle.tb_top.specs.Services.{IsIdle, IsUnserved}
+use Rattle.tb_keep.specs.JournalRuns.{seen_of}
+use Rattle.tb_keep.specs.Seen.{StandsAsBefore}
 use Rattle.tb_keep.specs.declared.recovery.JournalFault.{JournalFault}
 use Rattle.tb_script.specs.Scripts.{ScriptValue}
 use Rattle.tb_serve.specs.Each.{Each}
@@ -140,13 +142,16 @@ IsSomeLastLine s text =
     ⊎ ((s ≡ status.DiskFault) × (text ≡ disk_line)))
 
 -- Where a script with a journal was asked for: its lines were answered, and what a stop now may
--- leave stands for the batches of these replies; or no line was, and a last line was written.
+-- leave stands for the batches of these replies; or no line was, and a last line was written: then
+-- the disk was left alone, or each file that a stop in the call left stands as one that a stop
+-- before it could leave.
 abbrev pub IsJournalKept : Call → (List ℕ → Option (List ℕ)) → Status → Type 0
 IsJournalKept call at s =
     (census : CensusValue) → (journal : List ℕ) → (script : ScriptValue)
     → asked_of at call.words ≡ Ok (Keep census journal script)
     → AreKeepLinesAnswered census script s (output_of call) (journal_seen call journal)
     ⊎ ((call.steps_after ≡ call.steps)
+    × (IsStill call.disk ⊎ StandsAsBefore (seen_of (journal_seen call journal)))
     × ((final : Status) × (text : List ℕ) × IsSomeLastLine final text
     × IsEnded text final (output_of call) s))
 
@@ -160,6 +165,22 @@ IsHostKept call at s =
     ⊎ ((call.ports_after ≡ call.ports) × IsStill call.disk
     × ((final : Status) × (text : List ℕ) × IsSomeLastLine final text
     × IsEnded text final (output_of call) s))
+
+-- a status that the arguments, a file or a reading decides
+abbrev pub IsByInput : Status → Type 0
+IsByInput status.Usage = Unit {0}
+IsByInput status.Schema = Unit {0}
+IsByInput status.Perturbation = Unit {0}
+IsByInput status.Microdata = Unit {0}
+IsByInput status.Units = Unit {0}
+IsByInput status.Script = Unit {0}
+IsByInput status.ReadFault = Unit {0}
+IsByInput status.Done = ⊥
+IsByInput status.WriteFault = ⊥
+IsByInput status.Memory = ⊥
+IsByInput status.NetFault = ⊥
+IsByInput status.Journal = ⊥
+IsByInput status.DiskFault = ⊥
 
 -- what a call keeps, whatever its status
 pub record Keeps (call : Call) (s : Status) : Type 0 where
@@ -196,3 +217,8 @@ pub record Keeps (call : Call) (s : Status) : Type 0 where
   pub kept : IfSome call.content (λ at. IsJournalKept call at s)
   pub hosted : IfSome call.content (λ at. IsHostKept call at s)
   pub still : asks_to_keep (command_of call.words) ≡ false → IsStill call.disk
+  -- And so it was where the arguments, a file or a reading ended the call, whatever was asked for;
+  -- where the files tell what they hold, also if its last line couldn't be written.
+  pub alone : IsByInput s → IsStill call.disk
+  pub unbegun : IfSome call.content (λ at.
+      (e : End) → asked_of at call.words ≡ Err e → IsStill call.disk)

@@ -6,8 +6,9 @@ ghost use Rattle.tb_base.specs.declared.status.Status.TheVariants as status;
 ghost use Rattle.tb_disk.specs.Moments.{KeepsPast};
 ghost use Rattle.tb_model.specs.Schemas.{shape_of};
 ghost use Rattle.tb_serve.specs.Serves.{IsEnded, output};
-ghost use Rattle.tb_top.specs.KeepOutputs.{IsKeepAnswered, disk_line, disk_seen, journal_line};
-ghost use Rattle.tb_top.specs.KeepOutputs.{journal_fault_at, journal_fault_name, kept_seen};
+ghost use Rattle.tb_top.specs.KeepOutputs.{IsKeepAnswered, IsKeepRun, disk_line, disk_seen};
+ghost use Rattle.tb_top.specs.KeepOutputs.{journal_fault_at, journal_fault_name, journal_line};
+ghost use Rattle.tb_top.specs.KeepOutputs.{kept_seen};
 ghost use Rattle.tb_top.specs.Loading.{IsBase, IsFirst, census_over, census_value};
 
 use crate::load::Census;
@@ -91,7 +92,7 @@ fn answer_on_board<B: Named, R: Threads + Wait + Sync, O: Sink, D: Disk, L: Ledg
     requires attached { D.attached disk.old ≡ true }
     ensures disk_count { D.faults disk.old ≤ D.faults disk.new }
     ensures past { KeepsPast D.moment D.left_since disk.old disk.new }
-    ensures answered { IsKeepAnswered (census_over setup.now opening.start.base) script.now result
+    ensures answered { IsKeepRun (census_over setup.now opening.start.base) script.now result
         (output (O.taken out.old) (O.taken out.new) (O.faults out.old) (O.faults out.new))
         (record {
           content = D.content disk.old;
@@ -139,7 +140,7 @@ fn keep_opened<R: Threads + Wait + Sync, O: Sink, D: Disk, L: Ledger>(
     requires attached { D.attached disk.old ≡ false }
     ensures { let seen = output (O.taken out.old) (O.taken out.new)
         (O.faults out.old) (O.faults out.new) in
-        IsKeepAnswered (census_over setup.now opening.start.base) script.now result seen
+        IsKeepRun (census_over setup.now opening.start.base) script.now result seen
         (kept_seen (disk_seen D.named D.could_leave D.attached D.content
         D.may_leave D.moment D.left_since D.faults disk.old disk.new)
         journal.now steps.old steps.new seen) }
@@ -171,10 +172,10 @@ fn keep_from<R: Threads + Wait + Sync, O: Sink, D: Disk, L: Ledger>(
     requires attached { D.attached disk.old ≡ false }
     ensures { let seen = output (O.taken out.old) (O.taken out.new)
         (O.faults out.old) (O.faults out.new) in
-        IsKeepAnswered (census_over setup.now base) script.now result seen
-        (kept_seen (disk_seen D.named D.could_leave D.attached D.content
+        IsKeepAnswered (census_over setup.now base) script.now journal.now result seen
+        (disk_seen D.named D.could_leave D.attached D.content
         D.may_leave D.moment D.left_since D.faults disk.old disk.new)
-        journal.now steps.old steps.new seen) }
+        steps.old steps.new }
 {
     match Opening::new(alloc, setup.schema.shape(), base, FIRST_CAPACITY) {
         Ok(opening) => keep_opened(rt, alloc, setup, opening, journal, script, out, disk, steps),
@@ -197,10 +198,10 @@ fn keep_census<R: Threads + Wait + Sync, O: Sink, D: Disk, L: Ledger>(
     requires attached { D.attached disk.old ≡ false }
     ensures { let seen = output (O.taken out.old) (O.taken out.new)
         (O.faults out.old) (O.faults out.new) in
-        IsKeepAnswered (census_value census) script.now result seen
-        (kept_seen (disk_seen D.named D.could_leave D.attached D.content
+        IsKeepAnswered (census_value census) script.now journal.now result seen
+        (disk_seen D.named D.could_leave D.attached D.content
         D.may_leave D.moment D.left_since D.faults disk.old disk.new)
-        journal.now steps.old steps.new seen) }
+        steps.old steps.new }
 {
     let Census { setup, release } = census;
     keep_from(
@@ -225,10 +226,10 @@ pub(crate) fn answer_keep<R: Threads + Wait + Sync, O: Sink, D: Disk, L: Ledger>
     requires attached { D.attached disk.old ≡ false }
     ensures { let seen = output (O.taken out.old) (O.taken out.new)
         (O.faults out.old) (O.faults out.new) in
-        IsKeepAnswered (census_value census) script result seen
-        (kept_seen (disk_seen D.named D.could_leave D.attached D.content
+        IsKeepAnswered (census_value census) script (string_bytes journal) result seen
+        (disk_seen D.named D.could_leave D.attached D.content
         D.may_leave D.moment D.left_since D.faults disk.old disk.new)
-        (string_bytes journal) steps.old steps.new seen) }
+        steps.old steps.new }
 {
     let name = journal.as_str();
     keep_census(rt, alloc, census, name, &script, out, disk, steps)

@@ -3,7 +3,7 @@ use Rattle.tb_base.specs.declared.status.Status.TheVariants as status
 use Rattle.tb_journal.proofs.Beginning.{as-one-now}
 use Rattle.tb_keep.specs.JournalRuns.{JournalRun}
 use Rattle.tb_serve.specs.Serves.{output}
-use Rattle.tb_top.specs.KeepOutputs.{IsKeepAnswered, disk_line}
+use Rattle.tb_top.specs.KeepOutputs.{IsKeepRun, disk_line}
 use Rattle.tb_top.specs.Loading.{census_over}
 use Rattle.tb_endings.specs.declared.endings.End.TheVariants as end
 use Rattle.tb_top.proofs.Boards.{answered-earlier, ended-so}
@@ -33,7 +33,7 @@ returns-in-All g c =
     let could_leave = g.D.Disk.could_leave c.args.disk.now c.args.journal.now in
     let moment = g.D.Disk.moment c.args.disk.now in
     let census = census_over c.args.setup.now c.args.opening.start.base in
-    subst (λ (told : Option (List ℕ)). IsKeepAnswered census script c.answer_on_board.result out (saw told (g.D.Disk.faults c.args.disk.now) moment could_leave))
+    subst (λ (told : Option (List ℕ)). IsKeepRun census script c.answer_on_board.result out (saw told (g.D.Disk.faults c.args.disk.now) moment could_leave))
     (c.in-All.ensures.found refl)
     (answered-earlier census script c.answer_on_board.result out now (g.D.Disk.faults c.args.disk.now)
     c.in-All.ensures.count c.answer_on_board.ensures.disk_count could_leave c.in-All.ensures.left moment c.in-All.ensures.later
