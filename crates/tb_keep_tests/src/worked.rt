@@ -33,7 +33,7 @@ type Row = (
     &'static [u8],
 );
 
-static ROWS: [Row; 18] = [
+static ROWS: [Row; 19] = [
     ("no_batch", b"", SEX, 0, BEFORE),
     ("no_batch", b"012345678", SEX, 0, BEFORE),
     ("no_batch", b"TBJOURN1\x00\x01\x02\x03", SEX, 0, BEFORE),
@@ -44,6 +44,13 @@ static ROWS: [Row; 18] = [
         b"a at 0 table SEX\ncustodian at 2 table SEX\n",
         0,
         b"release 0\nSEX,count\n1,1\n2,2\n.\nrefused 10 NoSuchRelease 1\n",
+    ),
+    (
+        "what_may_be_asked",
+        ONE_BATCH,
+        b"a describe SEX\ncustodian describe SEX x\n",
+        0,
+        b"describe SEX\ncode,label\n1,Male\n2,Female\n.\nrefused 2 Syntax 3\n",
     ),
     (
         "analysts_beside_the_custodian",

@@ -7,7 +7,7 @@ ghost use Rattle.tb_serve.specs.Stages.{IsFresh};
 ghost use Rattle.tb_top.specs.declared.service.TheConstants.{MOST_WORKERS};
 
 use super::command::ends_over;
-use super::ports::{add_sessions, fill, is_told};
+use super::ports::{add_port, add_sessions, fill, is_told};
 use std::alloc::Global;
 use std::sync::Wait;
 use std::test::Fail;
@@ -48,7 +48,7 @@ type Row = (
     &'static [u8],
 );
 
-static ROWS: [Row; 8] = [
+static ROWS: [Row; 9] = [
     (
         "host_recovers",
         b"",
@@ -135,6 +135,23 @@ static ROWS: [Row; 8] = [
         Status::Done,
         b"worker 0 sessions 2\nworker 1 sessions 1\nrelease 0\n",
         NO_BATCH,
+    ),
+    (
+        "what_may_be_asked",
+        ONE_BATCH,
+        ONE,
+        (
+            "describe SEX\n",
+            "describe SEX\ncode,label\n1,Male\n2,Female\n.\n",
+        ),
+        (
+            "describe SEX\n",
+            "describe SEX\ncode,label\n1,Male\n2,Female\n.\n",
+        ),
+        (false, 0, ALL),
+        Status::Done,
+        b"worker 0 sessions 1\nworker 1 sessions 1\nrelease 1\n",
+        ONE_BATCH,
     ),
     // What a page in a browser sends comes to no edit, and the next session is served.
     (
@@ -301,6 +318,43 @@ fn is_quiet(net: &[Port<MemListen>], place: usize) -> bool {
         Some(port) => port.listener.back() == 0,
         None => false,
     }
+}
+
+// The custodian's port with a session, and an analyst's, whose bind fails.
+fn unbound(alloc: Global) -> Result<Vec<Port<MemListen>>, Memory>
+    ensures ports { IfOk result (λ net. vec_len net ≡ MOST_WORKERS + 1) }
+    ensures fresh { IfOk result (λ net. All IsFresh net.items) }
+{
+    let mut net = Vec::new(alloc);
+    add_port(alloc, &mut net, b"drop 103\npublish\n", 1, false, &[])?;
+    add_port(alloc, &mut net, b"table SEX\n", 1, true, &[])?;
+    fill(alloc, &mut net, b"", 0, MOST_WORKERS as usize + 1)?;
+    Ok(net)
+}
+
+// Whether a run whose journal was played serves nobody where a bind fails, and keeps its batch.
+fn keeps_the_batch<R: Threads + Wait + Sync + Eprint>(
+    rt: &R,
+    alloc: Global,
+) -> Result<bool, Memory> {
+    let mut net = unbound(alloc)?;
+    let mut disk = MemDisk::new(alloc, ONE_BATCH, &[])?;
+    let ends = ends_over(
+        rt,
+        alloc,
+        ONE,
+        &mut net,
+        &mut disk,
+        Status::NetFault,
+        b"fault net\n",
+    );
+    Ok(ends && is_quiet(&net, 0) && is_quiet(&net, 1) && is_text(rt, disk.bytes(), ONE_BATCH))
+}
+
+#[test]
+fn a_bind_fails_behind_a_journal(rt: HostRuntime) -> Result<(), Fail> {
+    assert!(&rt; keeps_the_batch(&rt, rt.alloc())?);
+    Ok(())
 }
 
 // Whether the run of a row ends so, and no session of two came back.

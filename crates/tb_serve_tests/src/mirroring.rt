@@ -5,7 +5,7 @@ ghost use Rattle.tb_serve.specs.Stages.{IsFresh};
 ghost use Rattle.tb_top.specs.declared.service.TheConstants.{MOST_WORKERS};
 
 use super::command::ends_so;
-use super::ports::{add_sessions, fill, is_told};
+use super::ports::{add_port, add_sessions, fill, is_told};
 use std::alloc::Global;
 use std::sync::Wait;
 use std::test::Fail;
@@ -44,9 +44,9 @@ static ROWS: [Row; 5] = [
     ),
     (
         "lines_of_a_custodian",
-        "publish\ntable SEX\nrestart\nend\ncache 3\nclear\nstats\n \n# x\nwhere x\n\
+        "publish\ntable SEX\nrestart\nend\ndescribe\ncache 3\nclear\nstats\n \n# x\nwhere x\n\
             quit\nwhere\n",
-        "refused leader\nrefused leader\nrefused leader\nrefused leader\ncache 3\ncleared\n\
+        "refused leader\nrefused leader\nrefused leader\nrefused leader\nrefused leader\ncache 3\ncleared\n\
             stats release 0 looks 0 hits 0 entries 0 capacity 3\nrefused leader\n",
         ALL,
         b"worker 0 sessions 1\nworker 1 sessions 1\nrelease 0\n",
@@ -105,6 +105,38 @@ fn is_so<R: Threads + Wait + Sync + Eprint>(
     let (_, lines, told, bound, text) = row;
     let mut net = ports(alloc, lines, *bound)?;
     Ok(ends_so(rt, alloc, COMMAND, &mut net, Status::Done, text) && is_told(rt, &net, 0, told))
+}
+
+// The first port with no session, and an analyst's with one: its bind fails, or its first accept.
+fn failing(alloc: Global, bind_fails: bool, fails: u32) -> Result<Vec<Port<MemListen>>, Memory>
+    ensures ports { IfOk result (λ net. vec_len net ≡ MOST_WORKERS + 1) }
+    ensures fresh { IfOk result (λ net. All IsFresh net.items) }
+{
+    let mut net = Vec::new(alloc);
+    add_port(alloc, &mut net, b"", 0, false, &[])?;
+    add_port(alloc, &mut net, b"table SEX\n", 1, bind_fails, &[fails])?;
+    fill(alloc, &mut net, b"", 0, MOST_WORKERS as usize + 1)?;
+    Ok(net)
+}
+
+// Whether the run ends by that fault, and writes this.
+fn is_net_fault<R: Threads + Wait + Sync + Eprint>(
+    rt: &R,
+    alloc: Global,
+    bind_fails: bool,
+    fails: u32,
+    text: &[u8],
+) -> Result<bool, Memory> {
+    let mut net = failing(alloc, bind_fails, fails)?;
+    Ok(ends_so(rt, alloc, COMMAND, &mut net, Status::NetFault, text))
+}
+
+#[test]
+fn a_port_of_a_mirror_fails(rt: HostRuntime) -> Result<(), Fail> {
+    assert!(&rt; is_net_fault(&rt, rt.alloc(), true, 0, b"fault net\n")?);
+    let text = b"worker 0 sessions 0\nworker 1 sessions 0\nrelease 0\nfault net\n";
+    assert!(&rt; is_net_fault(&rt, rt.alloc(), false, 1, text)?);
+    Ok(())
 }
 
 #[test]

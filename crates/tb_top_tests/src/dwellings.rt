@@ -13,7 +13,7 @@ use tb_small::{DWELLINGS, LINKS, WIDE_CLASSES};
 // The persons 101, 102 and 103 are of SEX 1, and 101 and 102 in E1; 101 is young. The first two
 // live in dwelling 1 with the key 50, the others in dwelling 2 with the key 60. No pvalue belongs
 // to these keys or to their sum.
-static SCRIPTS: [Script; 12] = [
+static SCRIPTS: [Script; 13] = [
     Script {
         name: "dwellings_count_once",
         lines: b"a dwellings SEX with totals\ncustodian drop 101\ncustodian drop 102\n\
@@ -28,6 +28,11 @@ static SCRIPTS: [Script; 12] = [
         replies: b"release 0\nSEX,count\n1,1\n2,2\nTotal,6\n.\n\
             release 0\nSEX,count\n1,2\n2,1\nTotal,2\n.\n\
             release 0\nSEX,count\n1,1\n2,2\n.\nrelease 0\nSEX,count\n1,2\n2,1\n.\n",
+    },
+    Script {
+        name: "what_may_be_asked",
+        lines: b"a describe SEX\ncustodian describe dwellings\n",
+        replies: b"describe SEX\ncode,label\n1,Male\n2,Female\n.\nrefused 3 UnknownName 2\n",
     },
     Script {
         name: "labels_with_commas",

@@ -19,7 +19,7 @@ struct Row {
     text: &'static [u8],
 }
 
-static ROWS: [Row; 7] = [
+static ROWS: [Row; 8] = [
     Row {
         name: "no_line_at_all",
         script: b"",
@@ -48,6 +48,12 @@ static ROWS: [Row; 7] = [
         name: "comments_alone",
         script: b"a # nothing is asked\nb publish\n",
         text: b"phase 1\nlane a\nlane b\nrefused 2 Syntax 1\n",
+    },
+    Row {
+        name: "what_may_be_asked",
+        script: b"custodian drop 104\na describe SEX\n--\ncustodian describe SEX\n",
+        text: b"phase 1\nlane custodian\nheld 1\nlane a\ndescribe SEX\ncode,label\n1,Male\n2,Female\n.\n\
+            phase 2\nlane custodian\ndescribe SEX\ncode,label\n1,Male\n2,Female\n.\n",
     },
     Row {
         name: "order_of_first_appearance",
