@@ -2,6 +2,9 @@
 //
 // At the end the owner is taken apart into names, the lent disk too, as in `run_with_journal`: else
 // nothing is known of what the borrow left.
+//
+// The disk may go to another thread, so in an answer `g.met.D.Disk` is of every world like this
+// one, and is told which first (`serve_ready`).
 
 ghost use Rattle.std.specs.Prelude.{◌≡◌, ◌≤◌, ◌<◌, ◌+◌, ◌^◌, All, List, None, [], drop, length};
 ghost use Rattle.std.specs.Prelude.{take, true};

@@ -4,6 +4,9 @@
 // At the end the owner is taken apart into names, the lent disk too: of one that is dropped whole,
 // or whose `&mut` goes into `_`, nothing is known of what the borrow left. Which of the other
 // fields may be `_` had to be tried: a name for the journal lost what the disk is.
+//
+// `run_played` says what a run leaves of any batches for which the files stood (`AreKeptFrom`); who
+// played them gives those.
 
 ghost use Rattle.std.specs.Prelude.{◌≡◌, ◌≤◌, List, [], None, true};
 ghost use Rattle.tb_disk.specs.Moments.{KeepsPast};

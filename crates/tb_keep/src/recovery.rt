@@ -1,4 +1,7 @@
 // A journal that is opened, and whose batches are published, before anything else is answered.
+//
+// No file is both recovered and at fault, and one that is refused has one first fault: three cases
+// over lists of payloads (`proofs/Refusing`).
 
 ghost use Rattle.std.specs.Prelude.{◌≡◌, ◌≤◌, [], true};
 ghost use Rattle.tb_disk.specs.Moments.{KeepsPast};

@@ -1,4 +1,7 @@
 // The text of a phase.
+//
+// Texts by lane number are one function of numbers (`Tell`), which `choose` of `proofs/Going` makes
+// of what there is for each lane.
 
 ghost use Rattle.std.specs.Prelude.{◌≡◌, ◌<◌, ◌≤◌, ◌+◌, ◌++◌, ℕ, List, length, slice_index_or};
 ghost use Rattle.std.specs.Prelude.{Some, IsTrue};

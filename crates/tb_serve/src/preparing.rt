@@ -1,4 +1,7 @@
 // What is done with all ports before the board is made.
+//
+// What is done with each of some ports is `Each`: one length, and a relation at every place.
+// `Halfway` of `proofs/Each` serves every loop over them.
 
 ghost use Rattle.std.specs.Prelude.{◌≡◌, ◌+◌, ◌≤◌, All, OnErr, OnOk, length};
 ghost use Rattle.tb_io.specs.declared.answers.Bound.TheVariants as bound;

@@ -58,6 +58,7 @@ RepliesAnswerTakes =
 pub record RunWorld : Type 0 where
   -- a setup, and a release 0 that fits it
   pub setup : SetupValue
+  -- each schema of the program is, by the invariant of `Schema`: no reply of it is left out
   pub sound : IsSound setup.schema
   pub base : ReleaseValue
   pub fits : IsRevised (shape_of setup.schema) base []

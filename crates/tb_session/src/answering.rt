@@ -1,3 +1,8 @@
+// What a line leads to is one definition for both roles (`IsStep`: a party sees, is answered, and
+// is led on), so laws need no cases on who asks. A batch whose reply couldn't be written is
+// published all the same. An analyst's table is never of an older release than one that the analyst
+// had seen.
+
 ghost use Rattle.std.specs.Prelude.{◌≡◌, ◌<◌, ◌≤◌, [], length};
 ghost use Rattle.tb_board.specs.Custodians.{IsWhole};
 ghost use Rattle.tb_board.specs.Holders.{release_seen};

@@ -1,5 +1,6 @@
 //! Laws of legal transcripts, and of what the replies of a run of events show. Each function does
-//! nothing, and its contract is a law over the definitions alone.
+//! nothing, and its contract is a law over the definitions alone. What an event of a run may do is
+//! one record over any relation (`Moves` of `proofs/RunSteps`).
 
 ghost use Rattle.tb_session.specs.Laws.{DescriptionsChangeNothing, DescriptionsGoByTheSchema};
 ghost use Rattle.tb_session.specs.Laws.{MeetingTranscriptsJoin, NumbersNeverFall, OneMoreLine};

@@ -1,4 +1,6 @@
 // Sessions over a board.
+//
+// No cut of the bytes changes a reply, and each session begins with no held edits.
 
 ghost use Rattle.std.specs.Prelude.{◌≡◌, ◌≤◌};
 ghost use Rattle.tb_io.specs.Faults.{HasRisen};

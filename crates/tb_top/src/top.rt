@@ -3,6 +3,9 @@
 // A match arm that takes several owned fields and lends them to its call owes their drops at each
 // exit of the match: so the fields of `Keep` are handed over by value, to a function that lends
 // them.
+//
+// Each way to end has a lemma that gives all of `Keeps`: `proofs/Finishing`, of a task that is no
+// script `Serving`, and of files that are made `Generating`.
 
 ghost use Rattle.std.specs.Prelude.{◌≡◌, ◌≤◌, ◌+◌, ℕ, List, All, false, map, string_bytes};
 ghost use Rattle.std.specs.Prelude.{vec_len};
