@@ -28,7 +28,8 @@ help:
 
 # [test] The tests, which prove nothing: each crate of tests, built so that it checks as it goes, the
 # guide's examples and the refusals by the program of `make try`, and the clients' tests where Python 3
-# and R are there. Some 6 minutes on four processors. The last line is `N passed, N failed`.
+# and R are there. What takes more than a minute so is left to the gate, which is said. Some 6 minutes
+# on four processors. The last line is `N passed, N failed`.
 test:
 	@python3 -B docs/test.py
 

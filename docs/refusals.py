@@ -1,9 +1,11 @@
 """Runs the program on each kind of refusal once, and compares what it prints, what it says of it on the
 standard error, and its status.
 
-Usage: refusals.py PROGRAM
+Usage: refusals.py PROGRAM [short]
 
-Each run is over the files of examples/small, of which a row of a table replaces one.
+Each run is over the files of examples/small, of which a row of a table replaces one. With the word `short`
+what a program that checks as it goes can't show is passed over: files of a million records, which it
+reads for minutes, and want of memory, since it takes more of its own.
 """
 
 import errno
@@ -245,10 +247,17 @@ JOURNALS = [
 class Runs:
     """Runs of a program over copies of the accepted files, with how many were right and wrong."""
 
-    def __init__(self, program, work):
+    def __init__(self, program, work, is_short=False):
         self.program = os.path.abspath(program)
         self.work = work
-        self.right = self.wrong = 0
+        self.is_short = is_short
+        self.right = self.wrong = self.passed = 0
+
+    def passes_over(self, text):
+        """Whether a file is passed over."""
+        passes = self.is_short and isinstance(text, str) and text.count("\n") > 1_000_000
+        self.passed += passes
+        return passes
 
     def fill(self, name=None, text=None):
         """Copies the accepted files, with another one, or none, under `name`."""
@@ -368,8 +377,9 @@ def units(runs):
     before either is checked, and the script comes last."""
     words = UNITS.split()
     for name, text, line, said, status in UNITS_FILES:
-        runs.fill(name, text)
-        runs.run(words, line + "\n", said + "\n", status)
+        if not runs.passes_over(text):
+            runs.fill(name, text)
+            runs.run(words, line + "\n", said + "\n", status)
     runs.fill("dwellings.csv", "")
     said = "dwellings.csv, header: the header must have each of `dwelling` and `dwelling_key` once\n"
     for name, text in (("links.csv", ""), ("script.txt", "!x\n")):
@@ -420,7 +430,10 @@ def others(runs):
             for each in (serve[:6], mirror[:6], [*host[:6], "free"]):
                 runs.run([*each, str(port), "2", "1"], "fault net\n", said, 10)
     runs.fill("people.csv", LONG - 1)
-    runs.run(words, "fault memory\n", "out of memory\n", 9, limit=less_memory)
+    if runs.is_short:
+        runs.passed += 1
+    else:
+        runs.run(words, "fault memory\n", "out of memory\n", 9, limit=less_memory)
     runs.fill()
     with open("/dev/full", "wb") as full:
         runs.run(words, "", "the standard output must take what is written\n", 8, stdout=full)
@@ -457,17 +470,20 @@ def compare_look(runs, given, said):
 
 
 def main():
-    (program,) = sys.argv[1:]
+    program, *short = sys.argv[1:]
     with tempfile.TemporaryDirectory() as work:
-        runs = Runs(program, work)
+        runs = Runs(program, work, short == ["short"])
         for name, text, line, said, status in FILES:
-            runs.fill(name, text)
-            runs.run(SCRIPT.split(), line + "\n", said + "\n", status)
+            if not runs.passes_over(text):
+                runs.fill(name, text)
+                runs.run(SCRIPT.split(), line + "\n", said + "\n", status)
         units(runs)
         journals(runs)
         hosts(runs)
         others(runs)
         first_looks(runs)
+    if runs.passed:
+        print(f"{runs.passed} refusals were passed over: files of a million records, and want of memory")
     print(f"{runs.right} refusals as wanted, {runs.wrong} not")
     return 1 if runs.wrong else 0
 
