@@ -1,5 +1,5 @@
 -- What a call keeps that served sessions with a journal.
-use Rattle.std.proofs.Common.{◌≡◌, ◌≢◌, ◌⊎◌, ◌∙◌, sym, ap, subst, refl, ℕ, zero, suc, ◌+◌, ◌<◌, ◌≤◌, List, length, take, drop, get_or, All, Bool, true, false, Option, Some, Result, Ok, inl, inr, arith}
+use Rattle.std.proofs.Common.{◌≡◌, ◌≢◌, ◌⊎◌, ◌∙◌, sym, ap, subst, refl, ℕ, zero, suc, ◌+◌, ◌≤◌, List, length, take, drop, All, Bool, true, false, Option, Some, Result, Ok, inl, inr, arith}
 use Rattle.std.specs.Prelude.{IfSome, is_none}
 use Rattle.tb_ahead.specs.Keeping.{KeptState}
 use Rattle.tb_base.specs.declared.status.Status.{Status}
@@ -26,7 +26,7 @@ use Rattle.tb_top.specs.Commands.{asks_to_generate, asks_to_keep, asks_to_serve,
 use Rattle.tb_top.specs.HostOutputs.{IsFileRefused, IsHostAnswered, IsHostOutput, IsHostRun, file_seen, host_report, host_status}
 use Rattle.tb_top.specs.KeepOutputs.{HasFailed, IsStill, disk_line, journal_line}
 use Rattle.tb_top.specs.Loading.{IsBase, census_over}
-use Rattle.tb_top.specs.Promises.{IsAskedOutput, IsWhole, Keeps}
+use Rattle.tb_top.specs.Promises.{IsWhole, Keeps}
 use Rattle.tb_top.specs.ServicePorts.{Service}
 use Rattle.tb_top.specs.Services.{IsIdle, ports_of}
 use Rattle.tb_top.specs.declared.command.Command.{Command}

@@ -6,6 +6,9 @@ pub mod Earlier
 pub mod Finishing
 pub mod Following
 pub mod Generating
+pub mod Headline
+pub mod HeadlineSessions
+pub mod HeadlineLanes
 pub mod Hosting
 pub mod Keeping
 pub mod LanesRun

@@ -14,6 +14,9 @@ pub mod MirrorOutputs
 pub mod Outputs
 pub mod Calls
 pub mod Promises
+pub mod Headline
+pub mod HeadlineSessions
+pub mod HeadlineLanes
 pub mod InMemory
 pub mod Loading
 pub mod Seen

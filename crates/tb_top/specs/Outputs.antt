@@ -17,7 +17,6 @@ use Rattle.tb_endings.specs.declared.endings.End.TheVariants as end
 use Rattle.tb_top.specs.Asking.{AskedValue, CensusValue, Follow, Gen, Host, Keep, Lanes, Mirror, Script, Serve, base_of}
 use Rattle.tb_endings.specs.Endings.{IsEnded, IsLineWritten, last_line}
 use Rattle.tb_top.specs.KeepOutputs.{AreKeepReplies, DiskSeen, IsKeepAnswered, IsStill}
-use Rattle.tb_top.specs.KeepOutputs.{kept_seen}
 use Rattle.tb_top.specs.HostOutputs.{IsHostAnswered, IsHostOutput}
 use Rattle.tb_top.specs.LaneOutputs.{AreLanesAnswered, IsTextOfPhases, IsTextToMemory}
 use Rattle.tb_top.specs.MirrorOutputs.{IsMirrorAnswered, IsMirrorOutput}

@@ -1,4 +1,4 @@
-// The top call over forms in memory.
+// The headline, and the top call over forms in memory.
 
 ghost use Rattle.std.specs.Prelude.{◌≡◌, ◌≢◌, ◌⊎◌, ◌+◌, All, Some, false, map, string_bytes};
 ghost use Rattle.std.specs.Prelude.{true, vec_len};
@@ -6,13 +6,19 @@ ghost use Rattle.tb_io.specs.Faults.{HasRisen};
 ghost use Rattle.tb_top.specs.KeepOutputs.{disk_seen};
 ghost use Rattle.tb_base.specs.declared.status.Status.TheVariants as status;
 ghost use Rattle.tb_io.specs.HeldFiles.{bytes_of, bytes_or_none};
+ghost use Rattle.tb_serve.specs.Serves.{output};
 ghost use Rattle.tb_serve.specs.Stages.{IsFresh};
 ghost use Rattle.tb_serve.specs.Stages.{HasRisenSome};
 ghost use Rattle.tb_top.specs.declared.service.TheConstants.{MOST_WORKERS};
 ghost use Rattle.tb_top.specs.Asking.{asked_of};
 ghost use Rattle.tb_top.specs.Commands.{asks_to_keep, asks_to_serve, command_of};
+ghost use Rattle.tb_top.specs.Headline.{EachTableIsCounted};
+ghost use Rattle.tb_top.specs.HeadlineLanes.{EachLaneIsCounted};
+ghost use Rattle.tb_top.specs.HeadlineSessions.{EachSessionIsCounted};
 ghost use Rattle.tb_top.specs.InMemory.{Adds, NamesTheFailingRead, memory_call};
+ghost use Rattle.tb_top.specs.Loading.{reading};
 ghost use Rattle.tb_top.specs.Promises.{IsDefined, defined_status};
+ghost use Rattle.tb_top.specs.Seen.{call_over};
 
 use crate::top::tablebuilder;
 use std::alloc::Global;
@@ -21,8 +27,10 @@ use std::sync::ledger::Ledger;
 use std::thread::Threads;
 use tb_base::{Status, Steps};
 use tb_disk::Disk;
-use tb_io::{Listen, MemFiles, MemSink, SureFiles, SureSink};
+use tb_io::{Files, Listen, MemFiles, MemSink, Sink, SureFiles, SureSink};
 use tb_serve::Port;
+use tb_session::laws::numbers_never_fall;
+use tb_text::laws::each_line_ends_with_its_world;
 
 /// Runs one command over files and a sink whose counts of faults are the constant 0: no fault of
 /// files and the sink can come, and the status is the one that the arguments and the files define,
@@ -88,5 +96,53 @@ pub fn run_in_memory<N: Listen + Send, D: Disk + Send, L: Ledger>(
         D.may_leave D.moment D.left_since D.faults disk.old disk.new) steps.old steps.new in
         IsDefined call (bytes_of files.old.held) result }
 {
+    tablebuilder(rt, alloc, words, files, out, net, disk, steps)
+}
+
+/// Runs one command. Each table of persons that a script, a lane or a session prints is that of its
+/// query over one release of the one chain, which isn't older than any that its caller, the script,
+/// the lane or the port, had seen; and a query is refused only for a stated fault of its text, or
+/// answered `memory`. Nothing is said here of `follow` and of a mirror's first port. `gen` prints no
+/// table.
+pub fn print_counted_tables<F: Files, O: Sink, N: Listen + Send, D: Disk + Send, L: Ledger>(
+    rt: &(impl Threads + Wait + Sync),
+    alloc: Global,
+    words: &[String],
+    files: &mut F,
+    out: &mut O,
+    net: &mut Vec<Port<N>>,
+    disk: &mut D,
+    steps: &mut Steps<L>,
+) -> Status
+    requires ports { vec_len net.old ≡ MOST_WORKERS + 1 }
+    requires fresh { All IsFresh net.old.items }
+    requires attached { D.attached disk.old ≡ false }
+    // Of a script, with a journal or without.
+    ensures scripts { let call = call_over (map string_bytes words.now)
+        (reading F.content F.faults F.readings files.old files.new)
+        (output (O.taken out.old) (O.taken out.new) (O.faults out.old) (O.faults out.new))
+        net.old.items net.new.items
+        (disk_seen D.named D.could_leave D.attached D.content
+        D.may_leave D.moment D.left_since D.faults disk.old disk.new) steps.old steps.new in
+        EachTableIsCounted call result }
+    // Of lanes that are answered at the same time.
+    ensures lanes { let call = call_over (map string_bytes words.now)
+        (reading F.content F.faults F.readings files.old files.new)
+        (output (O.taken out.old) (O.taken out.new) (O.faults out.old) (O.faults out.new))
+        net.old.items net.new.items
+        (disk_seen D.named D.could_leave D.attached D.content
+        D.may_leave D.moment D.left_since D.faults disk.old disk.new) steps.old steps.new in
+        EachLaneIsCounted call result }
+    // Of sessions, with a journal or without, and of a mirror's but at its leader's port.
+    ensures sessions { let call = call_over (map string_bytes words.now)
+        (reading F.content F.faults F.readings files.old files.new)
+        (output (O.taken out.old) (O.taken out.new) (O.faults out.old) (O.faults out.new))
+        net.old.items net.new.items
+        (disk_seen D.named D.could_leave D.attached D.content
+        D.may_leave D.moment D.left_since D.faults disk.old disk.new) steps.old steps.new in
+        EachSessionIsCounted call }
+{
+    numbers_never_fall();
+    each_line_ends_with_its_world();
     tablebuilder(rt, alloc, words, files, out, net, disk, steps)
 }

@@ -1,4 +1,4 @@
-use Rattle.std.proofs.Common.{ap, refl, inl, inr, subst, arith}
+use Rattle.std.proofs.Common.{ap, refl, inl, subst, arith}
 use Rattle.tb_board.specs.Starts.{StartValue}
 use Rattle.tb_model.specs.Releases.{ReleaseValue}
 use Rattle.tb_serve.specs.Serves.{output}

@@ -1,4 +1,4 @@
-use Rattle.std.proofs.Common.{refl, Ok, Err, inl, inr}
+use Rattle.std.proofs.Common.{Ok, Err, inl, inr}
 use Rattle.tb_base.specs.declared.status.Status.TheVariants as status
 use Rattle.tb_keep.specs.Seen.{JournalSeen}
 use Rattle.tb_serve.specs.Serves.{output}

@@ -5,8 +5,7 @@ use Rattle.tb_keep.specs.JournalRuns.{JournalRun}
 use Rattle.tb_serve.specs.Serves.{output}
 use Rattle.tb_top.specs.KeepOutputs.{IsKeepRun, disk_line}
 use Rattle.tb_top.specs.Loading.{census_over}
-use Rattle.tb_endings.specs.declared.endings.End.TheVariants as end
-use Rattle.tb_top.proofs.Boards.{answered-earlier, ended-so}
+use Rattle.tb_top.proofs.Boards.{answered-earlier}
 use Rattle.tb_top.proofs.keep.keep_opened.Goals as goal
 
 pub returns-in-All : goal.returns-in-All

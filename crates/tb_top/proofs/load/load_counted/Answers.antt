@@ -2,7 +2,7 @@ use Rattle.std.proofs.Common.{◌∷◌, [], ap, refl, sym, Ok, Err, arith}
 use Rattle.std.proofs.lemmas.Result.{err_from_is_err_and}
 use Rattle.tb_model.specs.Units.{UnitsValue}
 use Rattle.tb_endings.specs.declared.endings.Input.TheVariants as input
-use Rattle.tb_top.specs.Asking.{◌>>=◌, census_in, counted_in, units_in, with_units}
+use Rattle.tb_top.specs.Asking.{census_in, counted_in, units_in, with_units}
 use Rattle.tb_top.specs.Commands.{named}
 use Rattle.tb_top.specs.Loading.{census_value}
 use Rattle.tb_top.proofs.LoadSteps.{Loads-before, Loads-ends, Loads-fails, Loads-then, after_census, skips-census}
