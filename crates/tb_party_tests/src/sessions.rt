@@ -2,6 +2,7 @@
 // and of sessions; failing reads and writes; and that ample memory is enough.
 
 mod cuts;
+mod foreign;
 mod lines;
 mod memory;
 mod talking;

@@ -12,21 +12,22 @@ use tb_session::SessionEnd;
 use tb_small_values::setup;
 use tb_text::Setup;
 
-// A session: the bytes, the most bytes of a read, the reads that fail, and how many bytes the sink
-// takes; then how it ends, and what the sink took.
-struct Talk {
-    name: &'static str,
-    bytes: &'static [u8],
-    most: usize,
-    fails: &'static [u32],
-    bound: usize,
-    end: SessionEnd,
-    text: &'static [u8],
+/// A session: the bytes, the most bytes of a read, the reads that fail, and how many bytes the sink
+/// takes; then how it ends, and what the sink took.
+pub struct Talk {
+    pub name: &'static str,
+    pub bytes: &'static [u8],
+    pub most: usize,
+    pub fails: &'static [u32],
+    pub bound: usize,
+    pub end: SessionEnd,
+    pub text: &'static [u8],
 }
 
-const TABLE: &[u8] = b"release 0\nSEX,count\n1,1\n2,2\n.\n";
+/// The table SEX at release 0.
+pub const TABLE: &[u8] = b"release 0\nSEX,count\n1,1\n2,2\n.\n";
 
-static TALKS: [Talk; 27] = [
+static TALKS: [Talk; 15] = [
     Talk {
         name: "bytes one at a time, and a last line without line feed",
         bytes: b"table SEX\ntable AREA",
@@ -118,114 +119,6 @@ static TALKS: [Talk; 27] = [
         text: b"refused 2 Syntax 1\nrelease 0\nSEX,count\n1,1\n2,2\n.\n",
     },
     Talk {
-        name: "a request that posts edits",
-        bytes: b"POST / HTTP/1.1\r\nHost: here\r\n\r\ndrop 104\npublish\n",
-        most: 10,
-        fails: &[],
-        bound: 100,
-        end: SessionEnd::Foreign,
-        text: b"",
-    },
-    Talk {
-        name: "a request in pieces of one byte",
-        bytes: b"POST / HTTP/1.1\r\nHost: here\r\n\r\ndrop 104\npublish\n",
-        most: 1,
-        fails: &[],
-        bound: 100,
-        end: SessionEnd::Foreign,
-        text: b"",
-    },
-    Talk {
-        name: "a request of the older version, with line feeds alone",
-        bytes: b"GET /index HTTP/1.0\nHost: here\n\ndrop 104\npublish\n",
-        most: 10,
-        fails: &[],
-        bound: 100,
-        end: SessionEnd::Foreign,
-        text: b"",
-    },
-    Talk {
-        name: "a foreign line after another, and a tab before the version",
-        bytes: b"table SEX\r\nOPTIONS *\tHTTP/1.1\ntable SEX\n",
-        most: 10,
-        fails: &[],
-        bound: 100,
-        end: SessionEnd::Foreign,
-        text: TABLE,
-    },
-    Talk {
-        name: "a foreign line of the older version and a tab",
-        bytes: b"\tHTTP/1.0\r\ntable SEX\n",
-        most: 10,
-        fails: &[],
-        bound: 100,
-        end: SessionEnd::Foreign,
-        text: b"",
-    },
-    Talk {
-        name: "a foreign line as the last, without its line feed",
-        bytes: b"table SEX\nHEAD / HTTP/1.1",
-        most: 1,
-        fails: &[],
-        bound: 100,
-        end: SessionEnd::Foreign,
-        text: TABLE,
-    },
-    Talk {
-        name: "a comment that is a foreign line",
-        bytes: b"# GET / HTTP/1.1\ntable SEX\n",
-        most: 10,
-        fails: &[],
-        bound: 100,
-        end: SessionEnd::Foreign,
-        text: b"",
-    },
-    Talk {
-        name: "an edit that is a foreign line",
-        bytes: b"drop 104 HTTP/1.0\npublish\n",
-        most: 10,
-        fails: &[],
-        bound: 100,
-        end: SessionEnd::Foreign,
-        text: b"",
-    },
-    Talk {
-        name: "a byte after the version",
-        bytes: b"GET / HTTP/1.1x\ntable SEX\n",
-        most: 10,
-        fails: &[],
-        bound: 100,
-        end: SessionEnd::Ended,
-        text: b"refused 2 Syntax 1\nrelease 0\nSEX,count\n1,1\n2,2\n.\n",
-    },
-    Talk {
-        name: "a blank after the version",
-        bytes: b"GET / HTTP/1.1 \ntable SEX\n",
-        most: 10,
-        fails: &[],
-        bound: 100,
-        end: SessionEnd::Ended,
-        text: b"refused 2 Syntax 1\nrelease 0\nSEX,count\n1,1\n2,2\n.\n",
-    },
-    Talk {
-        name: "a version without a blank before it",
-        bytes: b"HTTP/1.1\nGET /HTTP/1.0\nGET / HTTP/2\n",
-        most: 10,
-        fails: &[],
-        bound: 100,
-        end: SessionEnd::Ended,
-        text: b"refused 2 Syntax 1\nrefused 2 Syntax 1\nrefused 2 Syntax 1\n",
-    },
-    Talk {
-        name: "a version in small letters, and one of HTTP/1.2",
-        bytes: b"GET / http/1.1\nGET / HTTP/1.2\n",
-        most: 10,
-        fails: &[],
-        bound: 100,
-        end: SessionEnd::Ended,
-        text: b"refused 2 Syntax 1\nrefused 2 Syntax 1\n",
-    },
-    Talk {
         name: "what may be asked, with a carriage return, and a byte that is no text",
         bytes: b"describe SEX\r\nat 0 describe\ndescribe SEX\xFF x\n",
         most: 5,
@@ -309,8 +202,9 @@ fn wrong_talk<R: Threads + Wait + Sync + Eprint>(
     rt: &R,
     alloc: Global,
     setup: &Setup,
+    talks: &'static [Talk],
 ) -> Result<Option<usize>, Memory> {
-    for (i, row) in talks().iter().enumerate() {
+    for (i, row) in talks.iter().enumerate() {
         if !is_so(rt, alloc, setup, row)? {
             return Ok(Some(i));
         }
@@ -318,17 +212,19 @@ fn wrong_talk<R: Threads + Wait + Sync + Eprint>(
     Ok(None)
 }
 
-fn wrong_talk_over_small<R: Threads + Wait + Sync + Eprint>(
+/// The place of the first of these talks over the small setup that goes otherwise.
+pub fn wrong_talk_over_small<R: Threads + Wait + Sync + Eprint>(
     rt: &R,
     alloc: Global,
+    talks: &'static [Talk],
 ) -> Result<Option<usize>, Memory> {
     let setup = setup(alloc)?;
-    wrong_talk(rt, alloc, &setup)
+    wrong_talk(rt, alloc, &setup, talks)
 }
 
 #[test]
 fn bytes_one_at_a_time(rt: HostRuntime) -> Result<(), Fail> {
-    assert_eq!(&rt; wrong_talk_over_small(&rt, rt.alloc())?, None);
+    assert_eq!(&rt; wrong_talk_over_small(&rt, rt.alloc(), talks())?, None);
     Ok(())
 }
 
