@@ -117,30 +117,16 @@ pub fn print_counted_tables<F: Files, O: Sink, N: Listen + Send, D: Disk + Send,
     requires ports { vec_len net.old ≡ MOST_WORKERS + 1 }
     requires fresh { All IsFresh net.old.items }
     requires attached { D.attached disk.old ≡ false }
-    // Of a script, with a journal or without.
-    ensures scripts { let call = call_over (map string_bytes words.now)
+    // Of a script, with a journal or without; of lanes that are answered at the same time; and of
+    // sessions, with a journal or without, and of a mirror's but at its leader's port.
+    ensures counted { let call = call_over (map string_bytes words.now)
         (reading F.content F.faults F.readings files.old files.new)
         (output (O.taken out.old) (O.taken out.new) (O.faults out.old) (O.faults out.new))
         net.old.items net.new.items
         (disk_seen D.named D.could_leave D.attached D.content
         D.may_leave D.moment D.left_since D.faults disk.old disk.new) steps.old steps.new in
-        EachTableIsCounted call result }
-    // Of lanes that are answered at the same time.
-    ensures lanes { let call = call_over (map string_bytes words.now)
-        (reading F.content F.faults F.readings files.old files.new)
-        (output (O.taken out.old) (O.taken out.new) (O.faults out.old) (O.faults out.new))
-        net.old.items net.new.items
-        (disk_seen D.named D.could_leave D.attached D.content
-        D.may_leave D.moment D.left_since D.faults disk.old disk.new) steps.old steps.new in
-        EachLaneIsCounted call result }
-    // Of sessions, with a journal or without, and of a mirror's but at its leader's port.
-    ensures sessions { let call = call_over (map string_bytes words.now)
-        (reading F.content F.faults F.readings files.old files.new)
-        (output (O.taken out.old) (O.taken out.new) (O.faults out.old) (O.faults out.new))
-        net.old.items net.new.items
-        (disk_seen D.named D.could_leave D.attached D.content
-        D.may_leave D.moment D.left_since D.faults disk.old disk.new) steps.old steps.new in
-        EachSessionIsCounted call }
+        EachTableIsCounted call result
+        × EachLaneIsCounted call result × EachSessionIsCounted call }
 {
     numbers_never_fall();
     each_line_ends_with_its_world();
