@@ -71,7 +71,7 @@ def status_of(at, words, program, folder):
             journal = f"{stack.enter_context(tempfile.TemporaryDirectory())}/journal"
             with open(journal, "wb") as file:
                 file.write(JOURNAL)
-            started(name, [program, "host", *files, "0", journal], 1, short_files)
+            started(name, [program, "host", *files, "0", "-", "-", journal], 1, short_files)
 
         environment = {**os.environ, "TABLEBUILDER_PROGRAM": program}
         server("TWO_WORKERS", "0", 2)

@@ -2,7 +2,7 @@
 
 ghost use Rattle.std.specs.Prelude.{◌≡◌, ◌<◌, ◌+◌, All, IfOk, vec_len};
 ghost use Rattle.tb_serve.specs.Stages.{IsFresh};
-ghost use Rattle.tb_top.specs.declared.service.TheConstants.{MOST_WORKERS};
+ghost use Rattle.tb_command.specs.declared.service.TheConstants.{MOST_WORKERS};
 
 use super::command::ends_so;
 use super::talks::{Client, Replies, Talk};
@@ -12,7 +12,7 @@ use std::sync::atomic::{AtomicU32, Ordering};
 use std::thread::Threads;
 use tb_base::{Memory, Status};
 use tb_serve::Port;
-use tb_top::MOST_WORKERS;
+use tb_command::MOST_WORKERS;
 
 // A run of two sessions.
 #[derive(Clone, Copy)]
@@ -123,24 +123,24 @@ fn sessions_run_at_the_same_time(rt: HostRuntime) {
 
 #[test]
 fn sessions_share_cubes_beside_a_journal(rt: HostRuntime) {
-    let command = "host classes recodes ptable people 0 journal 5000 1 1";
+    let command = "host classes recodes ptable people 0 - - journal 5000 1 1";
     assert!(&rt; both_get_theirs(&rt, rt.alloc(), Run::Late, command, LATE));
 }
 
 #[test]
 fn sessions_run_at_the_same_time_beside_a_journal(rt: HostRuntime) {
-    let command = "host classes recodes ptable people 0 journal 5000 2 1";
+    let command = "host classes recodes ptable people 0 - - journal 5000 2 1";
     assert!(&rt; both_get_theirs(&rt, rt.alloc(), Run::Crossed, command, CROSSED));
 }
 
 #[test]
 fn mirror_of_a_leader(rt: HostRuntime) {
-    let command = "mirror classes recodes ptable people 0 5000 1 1";
+    let command = "mirror classes recodes ptable people 0 - - 5000 1 1";
     assert!(&rt; both_get_theirs(&rt, rt.alloc(), Run::Led, command, LED));
 }
 
 #[test]
 fn sessions_share_cubes_of_a_mirror(rt: HostRuntime) {
-    let command = "mirror classes recodes ptable people 0 5000 1 1";
+    let command = "mirror classes recodes ptable people 0 - - 5000 1 1";
     assert!(&rt; both_get_theirs(&rt, rt.alloc(), Run::LateLed, command, LATE));
 }

@@ -18,6 +18,7 @@
 mod answer;
 mod count;
 mod homes;
+pub mod laws;
 mod query;
 mod reply;
 mod writing;

@@ -1,6 +1,5 @@
 pub mod AskingSteps
 pub mod Boards
-pub mod CommandWords
 pub mod DiskKept
 pub mod Earlier
 pub mod Finishing
@@ -16,5 +15,4 @@ pub mod Serving
 pub mod SummaryTexts
 pub mod SummedUp
 pub mod Telling
-pub mod Tested
 pub mod Writing

@@ -1,9 +1,6 @@
-pub mod Numbers
-pub mod ServicePorts
-pub mod Populations
 pub mod Summaries
 pub mod Summing
-pub mod Commands
+pub mod InputFiles
 pub mod GeneratedFiles
 pub mod Asking
 pub mod Services

@@ -1,6 +1,6 @@
 // The top call over forms in memory.
 
-ghost use Rattle.std.specs.Prelude.{◌≡◌, ◌≢◌, ◌⊎◌, ◌+◌, All, Some, false, map, string_bytes};
+ghost use Rattle.std.specs.Prelude.{◌≡◌, ◌≢◌, ◌⊎◌, ◌+◌, All, Some, false};
 ghost use Rattle.std.specs.Prelude.{true, vec_len};
 ghost use Rattle.tb_io.specs.Faults.{HasRisen};
 ghost use Rattle.tb_top.specs.KeepOutputs.{disk_seen};
@@ -8,9 +8,9 @@ ghost use Rattle.tb_base.specs.declared.status.Status.TheVariants as status;
 ghost use Rattle.tb_io.specs.HeldFiles.{bytes_of, bytes_or_none};
 ghost use Rattle.tb_serve.specs.Stages.{IsFresh};
 ghost use Rattle.tb_serve.specs.Stages.{HasRisenSome};
-ghost use Rattle.tb_top.specs.declared.service.TheConstants.{MOST_WORKERS};
+ghost use Rattle.tb_command.specs.declared.service.TheConstants.{MOST_WORKERS};
 ghost use Rattle.tb_top.specs.Asking.{asked_of};
-ghost use Rattle.tb_top.specs.Commands.{asks_to_keep, asks_to_serve, command_of};
+ghost use Rattle.tb_command.specs.Commands.{asks_to_keep, asks_to_serve, command_of};
 ghost use Rattle.tb_top.specs.InMemory.{Adds, NamesTheFailingRead, memory_call};
 ghost use Rattle.tb_top.specs.Promises.{IsDefined, defined_status};
 
@@ -20,6 +20,7 @@ use std::sync::Wait;
 use std::sync::ledger::Ledger;
 use std::thread::Threads;
 use tb_base::{Status, Steps};
+use tb_command::Arguments;
 use tb_disk::Disk;
 use tb_io::{Listen, MemFiles, MemSink, SureFiles, SureSink};
 use tb_serve::Port;
@@ -31,7 +32,7 @@ use tb_serve::Port;
 pub fn run_surely<N: Listen + Send, D: Disk + Send, L: Ledger>(
     rt: &(impl Threads + Wait + Sync),
     alloc: Global,
-    words: &[String],
+    arguments: &Arguments<'_>,
     files: &mut SureFiles,
     out: &mut SureSink,
     net: &mut Vec<Port<N>>,
@@ -45,15 +46,15 @@ pub fn run_surely<N: Listen + Send, D: Disk + Send, L: Ledger>(
     ensures write { result ≢ status.WriteFault }
     ensures defined { (result
         ≡ defined_status
-        (asked_of (λ name. Some (bytes_or_none files.old name)) (map string_bytes words.now)))
+        (asked_of (λ name. Some (bytes_or_none files.old name)) arguments.now))
         ⊎ ((result ≡ status.Memory)
         ⊎ (((result ≡ status.NetFault) × HasRisenSome net.old.items net.new.items)
         ⊎ ((result ≡ status.Journal) ⊎ (result ≡ status.DiskFault)))) }
     ensures disk { result ≡ status.DiskFault → HasRisen (D.faults disk.old) (D.faults disk.new)
-        ⊎ ((asks_to_serve (command_of (map string_bytes words.now)) ≡ true)
-        × (asks_to_keep (command_of (map string_bytes words.now)) ≡ true)) }
+        ⊎ ((asks_to_serve (command_of arguments.now) ≡ true)
+        × (asks_to_keep (command_of arguments.now) ≡ true)) }
 {
-    tablebuilder(rt, alloc, words, files, out, net, disk, steps)
+    tablebuilder(rt, alloc, arguments, files, out, net, disk, steps)
 }
 
 /// Runs one command over files and a sink in memory, of which some readings fail and which takes no
@@ -61,7 +62,7 @@ pub fn run_surely<N: Listen + Send, D: Disk + Send, L: Ledger>(
 pub fn run_in_memory<N: Listen + Send, D: Disk + Send, L: Ledger>(
     rt: &(impl Threads + Wait + Sync),
     alloc: Global,
-    words: &[String],
+    arguments: &Arguments<'_>,
     files: &mut MemFiles,
     out: &mut MemSink,
     net: &mut Vec<Port<N>>,
@@ -72,21 +73,19 @@ pub fn run_in_memory<N: Listen + Send, D: Disk + Send, L: Ledger>(
     requires fresh { All IsFresh net.old.items }
     requires attached { D.attached disk.old ≡ false }
     // The bytes are the text of the status.
-    ensures bytes { let arguments = map string_bytes words.now in
-        let call = memory_call arguments files.old files.new out.old out.new
+    ensures bytes { let call = memory_call arguments.now files.old files.new out.old out.new
         net.old.items net.new.items
         (disk_seen D.named D.could_leave D.attached D.content
         D.may_leave D.moment D.left_since D.faults disk.old disk.new) steps.old steps.new in
         Adds call files.old out.old out.new result }
     // A read fault's line names the file of the reading that failed, which was the last.
     ensures read { result ≡ status.ReadFault
-        → NamesTheFailingRead (map string_bytes words.now) files.old files.new out.old out.new }
-    ensures defined { let arguments = map string_bytes words.now in
-        let call = memory_call arguments files.old files.new out.old out.new
+        → NamesTheFailingRead arguments.now files.old files.new out.old out.new }
+    ensures defined { let call = memory_call arguments.now files.old files.new out.old out.new
         net.old.items net.new.items
         (disk_seen D.named D.could_leave D.attached D.content
         D.may_leave D.moment D.left_since D.faults disk.old disk.new) steps.old steps.new in
         IsDefined call (bytes_of files.old.held) result }
 {
-    tablebuilder(rt, alloc, words, files, out, net, disk, steps)
+    tablebuilder(rt, alloc, arguments, files, out, net, disk, steps)
 }

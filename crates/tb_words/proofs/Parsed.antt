@@ -6,7 +6,7 @@ use Rattle.clap.specs.Simple.{Shape, built, names_of, new_shape}
 use Rattle.clap.specs.Takes.{level_passes, takes, walk_passes}
 use Rattle.clap.specs.Walk.{Row, Text, finished, nothing_held, rows_after, walked}
 use Rattle.clap.specs.Words.{subcommand_of}
-use Rattle.tb_words.specs.Positions.{positions_of, program, value_at}
+use Rattle.tb_words.specs.Positions.{positions_named, program, value_at}
 use Rattle.tb_words.specs.Words.{AreCommand, is_plain}
 use Rattle.tb_words.proofs.Plain.{is_single, level_plain, next_place, positions_pass, rows_plain}
 
@@ -24,7 +24,7 @@ pub record IsParsed (words : List Text) : Type 0 where
   pub name : Text
   pub rows : List Row
   pub found : subcommand_of program words ≡ Some (name, rows)
-  pub given : name ∷ map (value_at rows) (positions_of name) ≡ words
+  pub given : name ∷ map (value_at rows) (positions_named name) ≡ words
 
 abbrev above : List Text → Bool
 above words = level_passes (built program).top (names_of (built program)) nothing_held words true
@@ -34,7 +34,7 @@ behind : (n : ℕ) (name : Text) (values : List Text) → list_all is_plain valu
     → takes program (name ∷ values) ≡ (level_passes (leaf n) [] nothing_held values false && above (name ∷ values))
     → (positions_pass (leaf n) values && above (name ∷ values)) ≡ true
     → subcommand_of program (name ∷ values) ≡ Some (name, rows_after (leaf n).rules [] values)
-    → name ∷ map (value_at (rows_of_leaf n values)) (positions_of name) ≡ name ∷ values → IsParsed (name ∷ values)
+    → name ∷ map (value_at (rows_of_leaf n values)) (positions_named name) ≡ name ∷ values → IsParsed (name ∷ values)
 behind n name values plain single level passes sub given =
     record {
       taken = level ∙ ap (λ t. t && above (name ∷ values)) (level_plain (leaf n) values single plain) ∙ passes;
@@ -73,9 +73,9 @@ parsed words (inr (inr (inr (inl (values, is, len, plain))))) =
 parsed words (inr (inr (inr (inr (inl (values, is, len, plain)))))) =
     rw is (one_by_one 8 (Behind (codes "units")) (λ a b c d e f g h plain. behind 4 _ _ plain refl refl refl refl refl) values len plain)
 parsed words (inr (inr (inr (inr (inr (inl (values, is, len, plain))))))) =
-    rw is (one_by_one 9 (Behind (codes "host")) (λ a b c d e f g h i plain. behind 5 _ _ plain refl refl refl refl refl) values len plain)
+    rw is (one_by_one 11 (Behind (codes "host")) (λ a b c d e f g h i j k plain. behind 5 _ _ plain refl refl refl refl refl) values len plain)
 parsed words (inr (inr (inr (inr (inr (inr (inl (values, is, len, plain)))))))) =
-    rw is (one_by_one 8 (Behind (codes "mirror")) (λ a b c d e f g h plain. behind 6 _ _ plain refl refl refl refl refl) values len plain)
+    rw is (one_by_one 10 (Behind (codes "mirror")) (λ a b c d e f g h i j plain. behind 6 _ _ plain refl refl refl refl refl) values len plain)
 parsed words (inr (inr (inr (inr (inr (inr (inr (inl (values, is, len, plain))))))))) =
     rw is (one_by_one 8 (Behind (codes "serve")) (λ a b c d e f g h plain. behind 7 _ _ plain refl refl refl refl refl) values len plain)
 parsed words (inr (inr (inr (inr (inr (inr (inr (inr (values, is, len, plain))))))))) =
