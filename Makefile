@@ -78,7 +78,7 @@ serve: build
 		"its journal:          $$journal" \
 		"stop the server:      Ctrl-C" && \
 	cd examples/small && ../../crates/tablebuilder/out/tablebuilder host classes.csv recodes.csv \
-		ptable.csv people.csv 0 "$$journal" 4000 2 1000
+		ptable.csv people.csv 0 - - "$$journal" 4000 2 1000
 
 # [test] Every example of docs/GUIDE.md by the built program, compared byte by byte. As `make build`, and
 # Python 3.

@@ -61,7 +61,7 @@ def on_processor(number, words):
 def start_mirror(tools, folder, processor):
     """A mirror with one worker, on a processor of its own."""
     room = tempfile.mkdtemp(dir=tools.room)
-    words = on_processor(processor, [tools.program, "mirror", *input_words(folder)])
+    words = on_processor(processor, [tools.program, "mirror", *input_words(folder), "-", "-"])
     return Server(words, room, 1, NO_LIMIT)
 
 
@@ -154,7 +154,7 @@ def relayed(tools, folder, host, mirror, journal, stack):
 def measure_behind(tools, folder, mirror, persons):
     """The milliseconds from `published N` to the first table of release N at the mirror."""
     journal, behind = f"{tools.room}/journal", []
-    host = Server([tools.program, "host", *input_words(folder), journal], tools.room, 1, NO_LIMIT)
+    host = Server([tools.program, "host", *input_words(folder), "-", "-", journal], tools.room, 1, NO_LIMIT)
     with killed_at_last(host), contextlib.ExitStack() as stack:
         relayed(tools, folder, host, mirror, journal, stack)
         custodian = stack.enter_context(Line(host.first))

@@ -189,7 +189,7 @@ def serve_words(tools, folder):
 def host_words(tools, folder):
     """The words of a server with a new journal."""
     journal = tempfile.mkdtemp(prefix="journal-", dir=tools.room)
-    return [tools.program, "host", *input_words(folder), f"{journal}/journal"]
+    return [tools.program, "host", *input_words(folder), "-", "-", f"{journal}/journal"]
 
 
 def numbers_of(tools, words):

@@ -71,9 +71,12 @@ def status_of(at, words, program, folder):
             journal = f"{stack.enter_context(tempfile.TemporaryDirectory())}/journal"
             with open(journal, "wb") as file:
                 file.write(JOURNAL)
-            started(name, [program, "host", *files, "0", journal], 1, short_files)
+            started(name, [program, "host", *files, "0", "-", "-", journal], 1, short_files)
 
         environment = {**os.environ, "TABLEBUILDER_PROGRAM": program}
+        with_dwellings = [os.path.join(folder, name) for name in ("dwellings.csv", "links.csv")]
+        journal = f"{stack.enter_context(tempfile.TemporaryDirectory())}/journal"
+        started("DWELLINGS", [program, "host", *files, "0", *with_dwellings, journal], 1)
         server("TWO_WORKERS", "0", 2)
         server("THRESHOLD", "2", 1)
         server("NEW", "0", 1)

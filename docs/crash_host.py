@@ -157,7 +157,7 @@ class Run:
         self.is_killed, self.lock = False, threading.Lock()
         self.has_news = threading.Condition(self.lock)
         self.told = open(f"{test.folder}/told", "w+b")
-        words = [*test.words("host"), test.journal, str(test.port), str(WORKERS), NO_LIMIT]
+        words = [*test.words("host"), "-", "-", test.journal, str(test.port), str(WORKERS), NO_LIMIT]
         self.process = subprocess.Popen(
             words, stdin=subprocess.DEVNULL, stdout=subprocess.DEVNULL, stderr=self.told
         )
@@ -322,7 +322,7 @@ class Test:
 
     def finish(self):
         """A server that isn't killed: each port has one session, and then it ends."""
-        words = [*self.words("host"), self.journal, str(self.port), str(WORKERS), "1"]
+        words = [*self.words("host"), "-", "-", self.journal, str(self.port), str(WORKERS), "1"]
         process = subprocess.Popen(words, stdout=subprocess.PIPE, stderr=subprocess.PIPE)
         timer = threading.Timer(self.end(PATIENCE) - time.monotonic(), process.kill)
         timer.start()

@@ -200,11 +200,11 @@ class Site:
         return done.stdout.decode().strip()
 
     def host(self):
-        words = [self.program, "host", *FILES, "0", self.journal, self.host_port, 1, NO_LIMIT]
+        words = [self.program, "host", *FILES, "0", "-", "-", self.journal, self.host_port, 1, NO_LIMIT]
         return self.process("host", words)
 
     def mirror(self, name, ports, files=FILES):
-        words = [self.program, "mirror", *files, "0", ports[0], len(ports) - 1, NO_LIMIT]
+        words = [self.program, "mirror", *files, "0", "-", "-", ports[0], len(ports) - 1, NO_LIMIT]
         return self.process(name, words)
 
     def relay(self, name, *words):

@@ -23,7 +23,7 @@ import time
 sys.dont_write_bytecode = True
 HERE = os.path.dirname(os.path.abspath(__file__))
 sys.path.insert(0, HERE)
-from pressure import FILES, QUERY, TABLE, Checks, Server, all_of
+from pressure import FILES, NONE, QUERY, TABLE, Checks, Server, all_of
 
 METHODS = ("GET", "HEAD", "POST", "PUT", "DELETE", "CONNECT", "OPTIONS", "TRACE", "PATCH", "BREW")
 EDITS = b"drop 104\npublish\n"
@@ -149,7 +149,7 @@ def main():
     if not chromium:
         print("no chromium is here, so no page in a browser tries")
     with tempfile.TemporaryDirectory() as folder:
-        for command in (("serve", *FILES), ("host", *FILES, f"{folder}/journal"), ("mirror", *FILES)):
+        for command in (("serve", *FILES), ("host", *FILES, *NONE, f"{folder}/journal"), ("mirror", *FILES, *NONE)):
             name = command[0]
             lines = MESSAGE if name == "mirror" else EDITS
             with Server(os.path.abspath(program), SESSIONS, command) as server:

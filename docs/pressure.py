@@ -28,6 +28,8 @@ from serve import free_ports
 
 SMALL = os.path.join(HERE, "..", "examples", "small")
 FILES = ["classes.csv", "recodes.csv", "ptable.csv", "people.csv", "0"]
+# No dwellings and no links.
+NONE = ["-", "-"]
 QUERY, TABLE = b"table SEX\n", b"release 0\nSEX,count\n1,1\n2,2\n.\n"
 TOO_LONG = b"refused 9 TooLong\n"
 WANT = f"failed: {os.strerror(errno.EMFILE)} (os error {errno.EMFILE})"
@@ -202,7 +204,7 @@ def client_that_stays(program, checks):
 def sessions_of_each(program, checks):
     """Each server's ports have so many sessions, and no more."""
     with tempfile.TemporaryDirectory() as folder:
-        for command in (("serve", *FILES), ("host", *FILES, f"{folder}/journal"), ("mirror", *FILES)):
+        for command in (("serve", *FILES), ("host", *FILES, *NONE, f"{folder}/journal"), ("mirror", *FILES, *NONE)):
             name = command[0]
             with Server(program, 2, command) as server:
                 checks.same(f"{name}'s worker", [server.asks() for _ in range(2)], [TABLE] * 2)

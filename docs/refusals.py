@@ -30,13 +30,14 @@ SMALL = os.path.join(TOP, "examples", "small")
 NAMES = ("classes.csv", "recodes.csv", "ptable.csv", "people.csv", "dwellings.csv", "links.csv", "script.txt")
 SCRIPT = "script classes.csv recodes.csv ptable.csv people.csv 0 script.txt"
 KEEP = "keep classes.csv recodes.csv ptable.csv people.csv 0"
-HOST = "host classes.csv recodes.csv ptable.csv people.csv 0"
+HOST = "host classes.csv recodes.csv ptable.csv people.csv 0 - -"
 UNITS = "units classes.csv recodes.csv ptable.csv people.csv 0 dwellings.csv links.csv script.txt"
 # What stands behind the first fault of arguments that are refused: the version, and the forms of docs/REFERENCE.md.
 FORMS = "\n       ".join(forms_of(TOP))
 USAGE = f"tablebuilder {read(TOP, 'VERSION').strip()}\nusage: {FORMS}\n"
 NAMED = "it must be the name of a file, which doesn't begin with `-`"
 DASHED = NAMED + ", or `-` where there are no recodes"
+PAIRED = NAMED + ", or `-` for both DWELLINGS and LINKS where there are no dwellings"
 COMMAND = "it must be a command, and there are no options"
 
 
@@ -62,7 +63,11 @@ ARGUMENTS = [
     (["keep", *FIVE, "-j", "script.txt"], f"argument 7, JOURNAL, is `-j`: {NAMED}"),
     (["units", *FIVE, "dwellings.csv", "links.csv"], f"argument 9, SCRIPT, is missing: {NAMED}"),
     (["units", *FIVE, "script.txt"], f"argument 8, LINKS, is missing: {NAMED}"),
-    (["host", *FIVE, "journal", "65520", "1", "1"], f"argument 8, PORT, is `65520`: {numbered(1, 65519)}"),
+    (["host", *FIVE, "-", "-", "journal", "65520", "1", "1"], f"argument 10, PORT, is `65520`: {numbered(1, 65519)}"),
+    (["host", *FIVE, "-", "links.csv", "journal", "4000", "1", "1"], f"argument 7, DWELLINGS, is `-`: {PAIRED}"),
+    (["mirror", *FIVE, "dwellings.csv", "-", "4000", "1", "1"], f"argument 8, LINKS, is `-`: {PAIRED}"),
+    (["mirror", *FIVE, "-"], f"argument 8, LINKS, is missing: {PAIRED}"),
+    (["units", *FIVE, "-", "links.csv", "script.txt"], f"argument 7, DWELLINGS, is `-`: {NAMED}"),
     (["serve", *FIVE, "4000", "17", "0"], f"argument 8, WORKERS, is `17`: {numbered(1, 16)}"),
     (["serve", *FIVE, "4000", "16", "0"], f"argument 9, SESSIONS, is `0`: {numbered(1, 1000000)}"),
     (["gen", "0", "0"], f"argument 2, N, is `0`: {numbered(1, 1000000)}"),
@@ -374,12 +379,18 @@ def hosts(runs):
 
 def units(runs):
     """What comes of the files that `units` reads: dwellings and links are read after the microdata, both
-    before either is checked, and the script comes last."""
+    before either is checked, and the script comes last. Servers read the first two of them."""
     words = UNITS.split()
+    host = ["host", *words[1:8], "untouched", "4000", "1", "1"]
+    mirror = ["mirror", *words[1:8], "4000", "1", "1"]
     for name, text, line, said, status in UNITS_FILES:
         if not runs.passes_over(text):
             runs.fill(name, text)
             runs.run(words, line + "\n", said + "\n", status)
+            if name != "script.txt":
+                for each in (host, mirror):
+                    runs.run(each, line + "\n", said + "\n", status)
+    runs.compare(host, os.path.exists(os.path.join(runs.work, "untouched")), False)
     runs.fill("dwellings.csv", "")
     said = "dwellings.csv, header: the header must have each of `dwelling` and `dwelling_key` once\n"
     for name, text in (("links.csv", ""), ("script.txt", "!x\n")):
@@ -412,9 +423,9 @@ def others(runs):
     runs.run(here, "fault people 5 PersonTwice 2\n", said, 5)
     serve = ["serve", *here[1:6], "4000", "1", "1"]
     runs.run(serve, "fault people 5 PersonTwice 2\n", said, 5)
-    host = ["host", *here[1:6], "journal", "4000", "1", "1"]
+    host = ["host", *here[1:6], "-", "-", "journal", "4000", "1", "1"]
     runs.run(host, "fault people 5 PersonTwice 2\n", said, 5)
-    mirror = ["mirror", *serve[1:]]
+    mirror = ["mirror", *here[1:6], "-", "-", "4000", "1", "1"]
     runs.run(mirror, "fault people 5 PersonTwice 2\n", said, 5)
     runs.run(["follow", *here[1:]], "fault people 5 PersonTwice 2\n", said, 5)
     with socket.socket() as taken:
@@ -427,7 +438,7 @@ def others(runs):
                 f"cannot listen on 127.0.0.1:{port}: {system_error(errno.EADDRINUSE)}\n"
                 f"port {port} and the 2 after it must be free on this machine, and memory suffice for their buffers\n"
             )
-            for each in (serve[:6], mirror[:6], [*host[:6], "free"]):
+            for each in (serve[:6], mirror[:8], [*host[:8], "free"]):
                 runs.run([*each, str(port), "2", "1"], "fault net\n", said, 10)
     runs.fill("people.csv", LONG - 1)
     if runs.is_short:

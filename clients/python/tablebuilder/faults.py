@@ -137,13 +137,19 @@ class Refused(Error):
             return 0, 0
         start = query_start(self.line)
         if self.word == "NotText":
-            before = self.line[start:].encode()[: self.position - 1].decode(errors="ignore")
-            return start + len(before), 1
+            return start + self._first_that_is_no_text(self.line[start:]), 1
         tokens = tokens_of(self.line, start)
         if self.position <= len(tokens):
             token = tokens[self.position - 1]
             return token.start, len(token.text)
         return len(self.line.rstrip(" \t")) + 1, 1
+
+    def _first_that_is_no_text(self, query: str) -> int:
+        """Which character that is. A server that has dwellings reads `table` for that word."""
+        data, at = query.encode(), (self.position or 1) - 1
+        if query.split()[:1] == ["dwellings"] and data[at : at + 1].isascii():
+            at += len("dwellings") - len("table")
+        return len(data[:at].decode(errors="ignore"))
 
 
 def _with_caret(line: str, at: int, size: int) -> list[str]:

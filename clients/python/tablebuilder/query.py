@@ -71,11 +71,15 @@ def tokens_of(line: str, start: int = 0) -> list[Token]:
 
 
 def stage_after(tokens: list[Token]) -> Optional[Stage]:
-    """What may stand behind these tokens. None where no query begins with them."""
+    """What may stand behind these tokens. None where no query begins with them.
+
+    ``dwellings`` may begin one in place of ``table``; whether it does the server knows.
+    """
     stage, name = "start", None
     for token in tokens:
         steps = _STEPS[stage]
-        kind = _kind_of(token.text)
+        is_first = stage == "start" and token.text == "dwellings"
+        kind = "table" if is_first else _kind_of(token.text)
         if "code" in steps and kind in (*_WORDS, "name"):
             kind = "code"
         if kind not in steps:

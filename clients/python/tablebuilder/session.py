@@ -146,14 +146,15 @@ class Session:
         totals: bool = False,
         labels: bool = False,
         at: Optional[int] = None,
+        dwellings: bool = False,
     ) -> Table:
         """A table.
 
         Parameters
         ----------
         query : str
-            The dimensions, as ``AREA by SEX``; or a whole query, which begins with ``table`` and
-            then has its filters and the rest in it.
+            The dimensions, as ``AREA by SEX``; or a whole query, which begins with ``table`` or
+            ``dwellings`` and then has its filters and the rest in it.
         where : str, optional
             The filters, as ``AGE in (16-64, 65+) and SEX not in (1)``.
         totals, labels : bool
@@ -162,14 +163,17 @@ class Session:
             The number of the release over which to count; None counts over the current one. Where
             there is no such release, `Refused` has the word ``NoSuchRelease`` and as its position
             the number of the last one.
+        dwellings : bool
+            Whether to count dwellings in place of persons. A server that has none, and a line with
+            ``at``, is `Refused` with the word ``Syntax``.
         """
         words = query.split(None, 1)
-        if words and words[0] == "table":
-            if where is not None or totals or labels:
+        if words and words[0] in ("table", "dwellings"):
+            if where is not None or totals or labels or dwellings:
                 raise ValueError("a whole query has its filters, totals and labels in it")
             line = query
         else:
-            line = f"table {query}"
+            line = f"dwellings {query}" if dwellings else f"table {query}"
             line += f" where {where}" if where is not None else ""
             line += " with totals" if totals else ""
             line += " with labels" if labels else ""

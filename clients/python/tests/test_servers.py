@@ -80,6 +80,15 @@ class Tables(unittest.TestCase):
             table = session.table("SEX", where="AGE not in (0-15)", totals=True)
             self.assertTable(table, ("SEX",), [("1", 2), ("2", 2), ("Total", 6)])
 
+    def test_dwellings(self):
+        with analyst("DWELLINGS") as session:
+            table = session.table("SEX", dwellings=True)
+            whole = session.table("dwellings SEX")
+            persons = session.table("SEX")
+        self.assertTable(table, ("SEX",), [("1", 2), ("2", 1)])
+        self.assertEqual(whole, table)
+        self.assertTable(persons, ("SEX",), [("1", 1), ("2", 2)])
+
 
 class Refusals(unittest.TestCase):
     def assertRefused(self, call, number, word, position=None, edit=None):
@@ -105,6 +114,22 @@ class Refusals(unittest.TestCase):
                 with self.subTest(query):
                     self.assertRefused(lambda: session.table(query), *fault)
             self.assertEqual(session.table("SEX").counts, [1, 2])
+
+    def test_dwellings(self):
+        with analyst("DWELLINGS") as session:
+            for query, more, *fault in [
+                ("AGE by", {}, 2, "Syntax", 4),
+                ("FOO", {}, 3, "UnknownName", 2),
+                ("SEX", {"at": 0}, 2, "Syntax", 1),
+            ]:
+                with self.subTest(query):
+                    self.assertRefused(lambda: session.table(query, dwellings=True, **more), *fault)
+            with self.assertRaises(Refused) as caught:
+                session.table("Ä", dwellings=True)
+        self.assertEqual(str(caught.exception).splitlines()[1:3], ["    dwellings Ä", " " * 14 + "^"])
+        with analyst() as session, self.assertRaises(Refused) as caught:
+            session.table("SEX", dwellings=True)
+        self.assertIn("expected `table`", str(caught.exception))
 
     def test_a_line_that_is_too_long_ends_the_session(self):
         with analyst() as session:

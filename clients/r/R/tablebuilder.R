@@ -99,26 +99,29 @@ tb_codes <- function(session, name) {
 #' Ask for a table.
 #'
 #' @param session What `tb_connect` returned.
-#' @param query The dimensions, as "AREA by SEX"; or a whole query, which begins with "table" and
-#'   then has its filters and the rest in it.
+#' @param query The dimensions, as "AREA by SEX"; or a whole query, which begins with "table" or
+#'   "dwellings" and then has its filters and the rest in it.
 #' @param where The filters, as "AGE in (16-64, 65+) and SEX not in (1)".
 #' @param totals,labels Whether to add totals, and to give labels in place of a variable's codes.
 #' @param at The number of the release over which to count, else the current one.
+#' @param dwellings Whether to count dwellings in place of persons. A server that has none, and a line
+#'   with `at`, is refused for Syntax.
 #' @return A data frame, which prints its first places. It has a factor for each dimension, whose
 #'   levels (codes, groups or labels) are in the table's order, with "Total" last where there are
 #'   totals; and the integer column `count`, which is NA where the server shows "c", since the count
 #'   is below its threshold. Where a dimension is named count that column is `count_`, so that no
 #'   two have one name. The attribute "release" is the release's number.
-tb_table <- function(session, query, where = NULL, totals = FALSE, labels = FALSE, at = NULL) {
+tb_table <- function(session, query, where = NULL, totals = FALSE, labels = FALSE, at = NULL,
+                     dwellings = FALSE) {
   line <- query
-  if (!grepl("^[ \t]*table([ \t]|$)", query)) {
+  if (!grepl("^[ \t]*(table|dwellings)([ \t]|$)", query)) {
     line <- paste0(
-      "table ", query,
+      if (dwellings) "dwellings " else "table ", query,
       if (!is.null(where)) paste0(" where ", where),
       if (totals) " with totals",
       if (labels) " with labels"
     )
-  } else if (!is.null(where) || totals || labels) {
+  } else if (!is.null(where) || totals || labels || dwellings) {
     stop("a whole query has its filters, totals and labels in it")
   }
   if (!is.null(at)) line <- paste("at", tb_digits(at), line)
@@ -342,7 +345,10 @@ tb_tokens <- function(line) {
 # What may stand at the place of this token, in words. NULL where no query begins with those before.
 tb_expected <- function(line, position) {
   stage <- "start"
-  for (token in utils::head(tb_tokens(line), position - 1)) {
+  tokens <- utils::head(tb_tokens(line), position - 1)
+  # A query may begin so too; whether it does the server knows.
+  tokens[seq_along(tokens) == 1 & tokens == "dwellings"] <- "table"
+  for (token in tokens) {
     steps <- tb_steps[[stage]]
     is_word <- grepl("^[A-Za-z0-9_.+-]+$", token)
     kind <- if (is_word && !(token %in% tb_query_words)) "name" else token

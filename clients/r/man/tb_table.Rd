@@ -6,16 +6,19 @@
 A table of perturbed counts over the current release, or over an earlier one.
 }
 \usage{
-tb_table(session, query, where = NULL, totals = FALSE, labels = FALSE, at = NULL)
+tb_table(session, query, where = NULL, totals = FALSE, labels = FALSE, at = NULL,
+         dwellings = FALSE)
 \method{print}{tb_table}(x, most = 10, ...)
 }
 \arguments{
 \item{session}{What \code{\link{tb_connect}} returned.}
 \item{query}{The dimensions, as \code{"AREA by SEX"}; or a whole query, which begins with
-\code{table} and then has its filters and the rest in it.}
+\code{table} or \code{dwellings} and then has its filters and the rest in it.}
 \item{where}{The filters, as \code{"AGE in (16-64, 65+) and SEX not in (1)"}.}
 \item{totals, labels}{Whether to add totals, and to give labels in place of a variable's codes.}
 \item{at}{The number of the release over which to count, else the current one.}
+\item{dwellings}{Whether to count dwellings in place of persons. A server that has none, and a line
+with \code{at}, is refused for Syntax.}
 \item{x}{A table.}
 \item{most}{How many places to show from the first on; the last is shown behind them.}
 \item{...}{Passed to the printing of a data frame.}

@@ -113,6 +113,20 @@ server_tests <- list(
     expect(table$count, c(2L, 2L, 6L))
     tb_close(session)
   },
+  dwellings = function() {
+    session <- analyst("DWELLINGS")
+    table <- tb_table(session, "SEX", dwellings = TRUE)
+    expect(table$count, 2:1)
+    expect(tb_table(session, "dwellings SEX"), table)
+    expect(tb_table(session, "SEX")$count, 1:2)
+    fault <- fault_of("tb_refused", tb_table(session, "AGE by", dwellings = TRUE))
+    expect(conditionMessage(fault), "refused 2 Syntax 4: expected a name: dwellings AGE by")
+    expect_refused(tb_table(session, "SEX", at = 0, dwellings = TRUE), 2, "Syntax", 1)
+    tb_close(session)
+    session <- analyst()
+    expect_refused(tb_table(session, "SEX", dwellings = TRUE), 2, "Syntax", 1)
+    tb_close(session)
+  },
   labels_with_quotes_and_other_letters = function() {
     session <- prepared()
     labels <- c("Nord, \"\u00d6\" 1", "S\u00fcd", "")

@@ -35,10 +35,11 @@ use std::thread::Threads;
 use std::time::Clock;
 use std::{env, io};
 use tb_base::{Status, Steps};
+use tb_command::Arguments;
 use tb_endings::{End, end_by};
 use tb_io::{RealFiles, RealSink, Wrote};
 use tb_real_disk::RealDisk;
-use tb_top::{Command, read_command, tablebuilder};
+use tb_top::tablebuilder;
 use unbuffered::Unbuffered;
 
 // The arguments after the program's name.
@@ -75,19 +76,19 @@ fn run_words<
         + Clock
         + Sync,
     L: Ledger,
->(rt: &R, words: &[String], out: &mut LastLine<'_, R>, blank: Blank) -> Status
+>(rt: &R, arguments: &Arguments<'_>, out: &mut LastLine<'_, R>, blank: Blank) -> Status
     requires name { blank.name ≡ L.name }
     requires parts { blank.parts ≡ L.parts }
     requires some { 0 < L.parts }
 {
-    let Ok(mut net) = ports::real_ports(rt, rt.alloc(), sessions_of(words)) else {
+    let Ok(mut net) = ports::real_ports(rt, rt.alloc(), sessions_of(arguments)) else {
         return end_by(&End::Memory, out);
     };
     let mut steps = Steps::<L>::new(blank);
     tablebuilder(
         rt,
         rt.alloc(),
-        words,
+        arguments,
         &mut RealFiles::new(rt),
         out,
         &mut net,
@@ -98,44 +99,37 @@ fn run_words<
 
 // Says in words why a run of these arguments ended so, for whoever reads the standard error. There
 // are none where they couldn't be read.
-fn explain(rt: &impl Eprint, words: Option<&[String]>, ending: &Ending<'_>) {
-    let command = read_command(words.unwrap_or(&[]));
-    if let Some(refusal) = Refusal::of(words, command.as_ref(), ending) {
+fn explain(rt: &impl Eprint, arguments: Option<&Arguments<'_>>, ending: &Ending<'_>) {
+    if let Some(refusal) = Refusal::of(arguments, ending) {
         // Where that can't be written nothing can be said of it either.
         let _ = rt.eprintln(refusal);
     }
 }
 
-// How many sessions each port has by the command of these arguments.
-fn sessions_of(words: &[String]) -> u32 {
-    match read_command(words) {
-        Some(
-            Command::Host { service, .. }
-            | Command::Mirror { service, .. }
-            | Command::Serve { service, .. },
-        ) => service.sessions(),
-        Some(
-            Command::Script { .. }
-            | Command::Lanes { .. }
-            | Command::Keep { .. }
-            | Command::Follow { .. }
-            | Command::Units { .. }
-            | Command::Gen { .. },
-        )
-        | None => 0,
+// How many sessions each port has by these arguments.
+fn sessions_of(arguments: &Arguments<'_>) -> u32 {
+    match arguments.command() {
+        Some(command) => match command.service() {
+            Some(service) => service.sessions(),
+            None => 0,
+        },
+        None => 0,
     }
 }
 
-// Whether the command of these arguments keeps its batches in a journal: each `published` of its
-// replies then acknowledges one.
-fn keeps(words: &[String]) -> bool {
-    matches!(read_command(words), Some(Command::Keep { .. }))
+// Whether the command of these arguments keeps the batches of a script in a journal: each
+// `published` of its replies then acknowledges one.
+fn keeps(arguments: &Arguments<'_>) -> bool {
+    match arguments.command() {
+        Some(command) => command.journal().is_some() && command.service().is_none(),
+        None => false,
+    }
 }
 
 // Writes out what waits and explains how the run of these arguments ended, which is returned.
 fn finish<R: Print + Eprint>(
     rt: &R,
-    words: Option<&[String]>,
+    arguments: Option<&Arguments<'_>>,
     status: Status,
     out: &mut LastLine<'_, R>,
 ) -> Status {
@@ -148,7 +142,7 @@ fn finish<R: Print + Eprint>(
         line: out.text(),
         reported: out.has_report(),
     };
-    explain(rt, words, &ending);
+    explain(rt, arguments, &ending);
     status
 }
 
@@ -178,11 +172,12 @@ fn run<
     let mut out = LastLine::new(out);
     match arguments(rt) {
         Ok(words) => {
-            if keeps(&words) {
+            let given = Arguments::read(words.as_slice());
+            if keeps(&given) {
                 out.acknowledge_at_once();
             }
-            let status = run_words::<R, Brand>(rt, &words, &mut out, Blank::new(1));
-            finish(rt, Some(words.as_slice()), status, &mut out)
+            let status = run_words::<R, Brand>(rt, &given, &mut out, Blank::new(1));
+            finish(rt, Some(&given), status, &mut out)
         }
         Err(fault) => {
             let status = end_by(&end_of(&fault), &mut out);

@@ -2,15 +2,15 @@
 
 ghost use Rattle.std.specs.Prelude.{◌≡◌, ◌+◌, All, IfOk, vec_len};
 ghost use Rattle.tb_serve.specs.Stages.{IsFresh};
-ghost use Rattle.tb_top.specs.declared.service.TheConstants.{MOST_WORKERS};
+ghost use Rattle.tb_command.specs.declared.service.TheConstants.{MOST_WORKERS};
 
 use std::alloc::Global;
 use std::net::{Net, TcpListener, TcpStream};
 use std::time::Clock;
 use tb_base::Memory;
+use tb_command::MOST_WORKERS;
 use tb_real_listen::RealListen;
 use tb_serve::Port;
-use tb_top::MOST_WORKERS;
 
 /// Ports of the system, as they are made: one for the custodian and one for each worker that there
 /// may be, each of which is to have so many sessions. It takes memory for their list.

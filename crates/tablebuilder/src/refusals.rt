@@ -3,8 +3,9 @@
 use crate::kinds::Kind;
 use crate::usage::{BadArgument, Usage};
 use tb_base::{Status, read_number};
+use tb_command::{Arguments, Command, Lines, Service, Task};
 use tb_endings::Input;
-use tb_top::{Command, Inputs, Service, most_bytes_of};
+use tb_top::most_bytes_of;
 use thiserror::Error;
 
 /// Why a run was refused, or couldn't be finished. A file has the name that the arguments gave it.
@@ -82,94 +83,39 @@ fn input_named(word: &str) -> Option<Input> {
     None
 }
 
-// The inputs of a command, unless it reads none.
-fn inputs_of<'c, 'a>(command: &'c Command<'a>) -> Option<&'c Inputs<'a>> {
+// The task of a command over files, unless it reads none.
+fn task_of<'c, 'a>(command: &'c Command<'a>) -> Option<&'c Task<'a>> {
     match command {
-        Command::Script { inputs, script: _ } => Some(inputs),
-        Command::Lanes { inputs, script: _ } => Some(inputs),
-        Command::Keep {
-            inputs,
-            journal: _,
-            script: _,
-        } => Some(inputs),
-        Command::Follow { inputs, script: _ } => Some(inputs),
-        Command::Units {
-            inputs,
-            dwellings: _,
-            links: _,
-            script: _,
-        } => Some(inputs),
-        Command::Host {
-            inputs,
-            journal: _,
-            service: _,
-        } => Some(inputs),
-        Command::Mirror { inputs, service: _ } => Some(inputs),
-        Command::Serve { inputs, service: _ } => Some(inputs),
-        Command::Gen { .. } => None,
+        Command::Over(task) => Some(task),
+        Command::Gen(_) => None,
+    }
+}
+
+// The name of the script, where lines come from one.
+fn script_of<'a>(lines: &Lines<'a>) -> Option<&'a str> {
+    match lines {
+        Lines::Script(name) | Lines::Lanes(name) => Some(name.as_str()),
+        Lines::Ports(_) => None,
     }
 }
 
 // The name that the arguments give a file.
 fn name_of<'a>(command: &Command<'a>, file: Input) -> Option<&'a str> {
-    let inputs = inputs_of(command)?;
+    let task = task_of(command)?;
     match file {
-        Input::Classes => Some(inputs.classes.as_str()),
-        Input::Recodes => Some(inputs.recodes.as_ref()?.as_str()),
-        Input::Ptable => Some(inputs.ptable.as_str()),
-        Input::People => Some(inputs.people.as_str()),
-        Input::Dwellings => match command {
-            Command::Units { dwellings, .. } => Some(dwellings.as_str()),
-            _ => None,
-        },
-        Input::Links => match command {
-            Command::Units { links, .. } => Some(links.as_str()),
-            _ => None,
-        },
-        Input::Script => match command {
-            Command::Script { inputs: _, script } => Some(script.as_str()),
-            Command::Lanes { inputs: _, script } => Some(script.as_str()),
-            Command::Keep {
-                inputs: _,
-                journal: _,
-                script,
-            } => Some(script.as_str()),
-            Command::Follow { inputs: _, script } => Some(script.as_str()),
-            Command::Units {
-                inputs: _,
-                dwellings: _,
-                links: _,
-                script,
-            } => Some(script.as_str()),
-            Command::Host { .. }
-            | Command::Mirror { .. }
-            | Command::Serve { .. }
-            | Command::Gen { .. } => None,
-        },
+        Input::Classes => Some(task.inputs.classes.as_str()),
+        Input::Recodes => Some(task.inputs.recodes.as_ref()?.as_str()),
+        Input::Ptable => Some(task.inputs.ptable.as_str()),
+        Input::People => Some(task.inputs.people.as_str()),
+        Input::Dwellings => Some(task.units.as_ref()?.dwellings.as_str()),
+        Input::Links => Some(task.units.as_ref()?.links.as_str()),
+        Input::Script => script_of(&task.lines),
     }
 }
 
 // The name that the arguments give the journal's file.
 fn journal_of<'a>(command: &Command<'a>) -> Option<&'a str> {
-    match command {
-        Command::Keep {
-            inputs: _,
-            journal,
-            script: _,
-        } => Some(journal.as_str()),
-        Command::Host {
-            inputs: _,
-            journal,
-            service: _,
-        } => Some(journal.as_str()),
-        Command::Script { .. }
-        | Command::Lanes { .. }
-        | Command::Follow { .. }
-        | Command::Units { .. }
-        | Command::Mirror { .. }
-        | Command::Serve { .. }
-        | Command::Gen { .. } => None,
-    }
+    Some(command.journal()?.as_str())
 }
 
 fn read_at(word: &str) -> Option<u32> {
@@ -229,50 +175,49 @@ fn of_net<'a>(service: &Service, reported: bool) -> Refusal<'a> {
     }
 }
 
-// What a fault of the journal's disk says.
+// What a fault of the journal's disk says: of a service, or of a script.
 fn of_disk<'a>(command: &Command<'a>) -> Option<Refusal<'a>> {
     let file = journal_of(command)?;
-    match command {
-        Command::Host { .. } => Some(Refusal::HostDisk { file }),
-        _ => Some(Refusal::Disk { file }),
+    match command.service() {
+        Some(_) => Some(Refusal::HostDisk { file }),
+        None => Some(Refusal::Disk { file }),
     }
 }
 
 impl<'a> Refusal<'a> {
-    /// Why a run of these arguments, of which there are none where they couldn't be read, and of
-    /// their command, of which there is none where they are refused, ended so. None where it was
-    /// done.
-    pub fn of(
-        words: Option<&'a [String]>,
-        command: Option<&Command<'a>>,
-        ending: &Ending<'_>,
-    ) -> Option<Refusal<'a>> {
-        match ending.status {
-            Status::Done => None,
-            Status::Usage => Some(Refusal::Usage(Usage {
-                bad: BadArgument::of(words),
-            })),
-            Status::WriteFault => Some(Refusal::Unwritten),
-            Status::Memory => Some(Refusal::Memory),
-            Status::NetFault => match command? {
-                Command::Serve { service, .. }
-                | Command::Host { service, .. }
-                | Command::Mirror { service, .. } => Some(of_net(service, ending.reported)),
-                Command::Script { .. }
-                | Command::Lanes { .. }
-                | Command::Keep { .. }
-                | Command::Follow { .. }
-                | Command::Units { .. }
-                | Command::Gen { .. } => None,
-            },
-            Status::Journal => of_journal(command?, ending.line?),
-            Status::DiskFault => of_disk(command?),
-            Status::Schema
-            | Status::Perturbation
-            | Status::Microdata
-            | Status::Script
-            | Status::Units
-            | Status::ReadFault => of_file(command?, ending.line?),
+    /// Why a run of these arguments, of which there are none where they couldn't be read, ended so.
+    /// None where it was done.
+    pub fn of(arguments: Option<&Arguments<'a>>, ending: &Ending<'_>) -> Option<Refusal<'a>> {
+        if let Status::Usage = ending.status {
+            let words = match arguments {
+                Some(given) => Some(given.words()),
+                None => None,
+            };
+            let bad = BadArgument::of(words);
+            return Some(Refusal::Usage(Usage { bad }));
         }
+        let command = match arguments {
+            Some(given) => given.command(),
+            None => None,
+        };
+        of_status(command, ending)
+    }
+}
+
+// Why a run of this command, of which there is none where the arguments couldn't be read, ended so.
+fn of_status<'a>(command: Option<&Command<'a>>, ending: &Ending<'_>) -> Option<Refusal<'a>> {
+    match ending.status {
+        Status::Done | Status::Usage => None,
+        Status::WriteFault => Some(Refusal::Unwritten),
+        Status::Memory => Some(Refusal::Memory),
+        Status::NetFault => Some(of_net(command?.service()?, ending.reported)),
+        Status::Journal => of_journal(command?, ending.line?),
+        Status::DiskFault => of_disk(command?),
+        Status::Schema
+        | Status::Perturbation
+        | Status::Microdata
+        | Status::Script
+        | Status::Units
+        | Status::ReadFault => of_file(command?, ending.line?),
     }
 }

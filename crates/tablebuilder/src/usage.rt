@@ -4,14 +4,18 @@ use crate::version::VERSION;
 use std::fmt;
 use std::fmt::{Display, Formatter, Write};
 use tb_base::{MOST_PERSONS, MOST_THRESHOLD, read_number};
-use tb_top::{MOST_PORT, MOST_SESSIONS, MOST_WORKERS};
-use tb_words::{COMMANDS, positions_of};
+use tb_command::{
+    Dwellings, Form, MOST_PORT, MOST_SESSIONS, MOST_WORKERS, all_forms, form_named, of_gen,
+    of_inputs,
+};
 
 /// What an argument must be.
 #[derive(Clone, Copy, Debug)]
 pub enum Rule {
     File,
     FileOrDash,
+    /// As DWELLINGS and LINKS are, of which both or neither is `-`.
+    FileOrDashes,
     Number { least: u32, most: u32 },
 }
 
@@ -21,9 +25,10 @@ fn may_name_a_file(word: &str) -> bool {
 }
 
 impl Rule {
-    // What an argument must be at the position of this name.
-    fn of(position: &str) -> Rule {
+    // What an argument must be at the position of this name, of a row or of `gen`.
+    fn of(form: Option<&Form>, position: &str) -> Rule {
         match position {
+            "DWELLINGS" | "LINKS" => Rule::of_dwellings(form),
             "RECODES" => Rule::FileOrDash,
             "THRESHOLD" => Rule::within(0, MOST_THRESHOLD),
             "PORT" => Rule::within(1, u32::from(MOST_PORT)),
@@ -35,6 +40,17 @@ impl Rule {
         }
     }
 
+    // What an argument must be where dwellings are named.
+    fn of_dwellings(form: Option<&Form>) -> Rule {
+        match form {
+            Some(form) => match form.dwellings {
+                Dwellings::OrDashes => Rule::FileOrDashes,
+                Dwellings::Never | Dwellings::Always => Rule::File,
+            },
+            None => Rule::File,
+        }
+    }
+
     fn within(least: u32, most: u32) -> Rule {
         Rule::Number { least, most }
     }
@@ -43,7 +59,7 @@ impl Rule {
     fn takes(self, word: &str) -> bool {
         match self {
             Rule::File => may_name_a_file(word),
-            Rule::FileOrDash => word == "-" || may_name_a_file(word),
+            Rule::FileOrDash | Rule::FileOrDashes => word == "-" || may_name_a_file(word),
             Rule::Number { least, most } => match read_number(word.as_bytes()) {
                 Some(number) => least <= number && number <= most,
                 None => false,
@@ -59,6 +75,11 @@ impl Display for Rule {
             Rule::FileOrDash => write!(
                 f,
                 "the name of a file, which doesn't begin with `-`, or `-` where there are no recodes"
+            ),
+            Rule::FileOrDashes => write!(
+                f,
+                "the name of a file, which doesn't begin with `-`, or `-` for both DWELLINGS and \
+                LINKS where there are no dwellings"
             ),
             Rule::Number { least, most } => write!(f, "a number from {least} to {most}"),
         }
@@ -80,6 +101,7 @@ pub enum BadArgument<'a> {
     Missing {
         at: usize,
         position: &'a str,
+        rule: Rule,
     },
     /// It isn't what must stand at its position.
     Unfit {
@@ -95,9 +117,20 @@ pub enum BadArgument<'a> {
     },
 }
 
-// Whether there is a command of this name.
-fn is_command(name: &str) -> bool {
-    COMMANDS.iter().any(|command| *command == name)
+static NO_POSITIONS: [&str; 0] = [];
+
+// The positions of a row, group by group, or those of `gen`.
+fn groups(form: Option<&Form>) -> [&'static [&'static str]; 4] {
+    let none = NO_POSITIONS.as_slice();
+    match form {
+        Some(form) => [
+            of_inputs(),
+            form.dwellings.positions(),
+            form.owner.positions(),
+            form.lines.positions(),
+        ],
+        None => [of_gen(), none, none, none],
+    }
 }
 
 impl<'a> BadArgument<'a> {
@@ -111,34 +144,78 @@ impl<'a> BadArgument<'a> {
             return Some(BadArgument::None);
         };
         let name = command.as_str();
-        if !is_command(name) {
+        let form = form_named(name);
+        if form.is_none() && name != "gen" {
             return Some(BadArgument::NoCommand { word: name });
         }
-        first_of(positions_of(name), rest)
+        first_of(form.as_ref(), rest)
     }
 }
 
-// The first argument after a command's name that is wrong, if one is.
-fn first_of<'a>(positions: &[&'static str], words: &'a [String]) -> Option<BadArgument<'a>> {
-    for (i, position) in positions.iter().enumerate() {
-        let at = i.saturating_add(2);
-        let position = *position;
-        let Some(word) = words.get(i) else {
-            return Some(BadArgument::Missing { at, position });
-        };
-        let word = word.as_str();
-        let rule = Rule::of(position);
-        if !rule.takes(word) {
-            return Some(BadArgument::Unfit {
-                at,
-                position,
-                word,
-                rule,
-            });
+// Whether a word is `-` where the other of DWELLINGS and LINKS isn't. Of two that aren't there
+// neither is wrong by the other.
+fn stands_alone(position: &str, words: &[String], i: usize) -> bool {
+    let other = match position {
+        "DWELLINGS" => words.get(i.saturating_add(1)),
+        "LINKS" => words.get(i.saturating_sub(1)),
+        _ => None,
+    };
+    match (words.get(i), other) {
+        (Some(word), Some(other)) => word.as_str() == "-" && other.as_str() != "-",
+        _ => false,
+    }
+}
+
+// What is wrong with the argument at this place behind the command's name, which is at a position.
+fn wrong_at<'a>(
+    form: Option<&Form>,
+    position: &'static str,
+    words: &'a [String],
+    i: usize,
+) -> Option<BadArgument<'a>> {
+    let at = i.saturating_add(2);
+    let rule = Rule::of(form, position);
+    let Some(word) = words.get(i) else {
+        return Some(BadArgument::Missing { at, position, rule });
+    };
+    let word = word.as_str();
+    if rule.takes(word) && !stands_alone(position, words, i) {
+        return None;
+    }
+    Some(BadArgument::Unfit {
+        at,
+        position,
+        word,
+        rule,
+    })
+}
+
+// The first argument of a group that is wrong, if one is: the group begins at this place.
+fn first_in<'a>(
+    form: Option<&Form>,
+    group: &[&'static str],
+    words: &'a [String],
+    from: usize,
+) -> Option<BadArgument<'a>> {
+    for (i, position) in group.iter().enumerate() {
+        if let Some(bad) = wrong_at(form, *position, words, from.saturating_add(i)) {
+            return Some(bad);
         }
     }
-    let at = positions.len().saturating_add(2);
-    let word = words.get(positions.len())?.as_str();
+    None
+}
+
+// The first argument after a command's name that is wrong, if one is.
+fn first_of<'a>(form: Option<&Form>, words: &'a [String]) -> Option<BadArgument<'a>> {
+    let mut from: usize = 0;
+    for group in groups(form) {
+        if let Some(bad) = first_in(form, group, words, from) {
+            return Some(bad);
+        }
+        from = from.saturating_add(group.len());
+    }
+    let word = words.get(from)?.as_str();
+    let at = from.saturating_add(2);
     Some(BadArgument::TooMany { at, word })
 }
 
@@ -153,8 +230,7 @@ impl<'a> Display for BadArgument<'a> {
                     "argument 1 is `{word}`: it must be a command, and there are no options"
                 )
             }
-            BadArgument::Missing { at, position } => {
-                let rule = Rule::of(position);
+            BadArgument::Missing { at, position, rule } => {
                 write!(
                     f,
                     "argument {at}, {position}, is missing: it must be {rule}"
@@ -184,11 +260,23 @@ pub struct Usage<'a> {
     pub bad: Option<BadArgument<'a>>,
 }
 
-// Writes the form of a command.
-fn write_form<W: Write>(f: &mut Formatter<W>, name: &'static str) -> fmt::Result {
-    write!(f, "tablebuilder {name}")?;
-    for position in positions_of(name) {
+// Writes the positions of a group.
+fn write_group<W: Write>(f: &mut Formatter<W>, group: &[&'static str]) -> fmt::Result {
+    for position in group {
         write!(f, " {position}")?;
+    }
+    Ok(())
+}
+
+// Writes the form of a row, or that of `gen`.
+fn write_form<W: Write>(f: &mut Formatter<W>, form: Option<&Form>) -> fmt::Result {
+    let name = match form {
+        Some(form) => form.name,
+        None => "gen",
+    };
+    write!(f, "tablebuilder {name}")?;
+    for group in groups(form) {
+        write_group(f, group)?;
     }
     Ok(())
 }
@@ -200,11 +288,12 @@ impl<'a> Display for Usage<'a> {
         }
         write!(f, "tablebuilder {VERSION}")?;
         let mut before = "\nusage: ";
-        for name in COMMANDS {
+        for form in all_forms() {
             write!(f, "{before}")?;
-            write_form(f, name)?;
+            write_form(f, Some(form))?;
             before = "\n       ";
         }
-        Ok(())
+        write!(f, "{before}")?;
+        write_form(f, None)
     }
 }

@@ -3,7 +3,7 @@
 ghost use Rattle.std.specs.Prelude.{◌≡◌, ◌<◌, ◌+◌, All, false, vec_len};
 ghost use Rattle.tb_mem_disk.specs.HeldDisk.{HeldDisk};
 ghost use Rattle.tb_serve.specs.Stages.{IsFresh};
-ghost use Rattle.tb_top.specs.declared.service.TheConstants.{MOST_WORKERS};
+ghost use Rattle.tb_command.specs.declared.service.TheConstants.{MOST_WORKERS};
 
 use super::compared::Compared;
 use std::alloc::Global;
@@ -12,6 +12,7 @@ use std::sync::Wait;
 use std::sync::ledger::{Blank, Ledger};
 use std::thread::Threads;
 use tb_base::{Status, Steps};
+use tb_command::Arguments;
 use tb_comparison::is_status;
 use tb_io::{Listen, SureFiles};
 use tb_mem_disk::MemDisk;
@@ -46,7 +47,10 @@ fn files_end_so<N: Listen + Send, R: Threads + Wait + Sync + Eprint, L: Ledger>(
 {
     let mut steps = Steps::<L>::new(blank);
     let mut out = Compared::with(run.text);
-    let status = tablebuilder(rt, alloc, run.words, files, &mut out, net, disk, &mut steps);
+    let arguments = Arguments::read(run.words);
+    let status = tablebuilder(
+        rt, alloc, &arguments, files, &mut out, net, disk, &mut steps,
+    );
     let same = is_status(rt, status.number(), run.end.number());
     out.check(rt) && same
 }

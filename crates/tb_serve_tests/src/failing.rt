@@ -2,7 +2,7 @@
 
 ghost use Rattle.std.specs.Prelude.{◌≡◌, ◌+◌, All, IfOk, vec_len};
 ghost use Rattle.tb_serve.specs.Stages.{IsFresh};
-ghost use Rattle.tb_top.specs.declared.service.TheConstants.{MOST_WORKERS};
+ghost use Rattle.tb_command.specs.declared.service.TheConstants.{MOST_WORKERS};
 
 use super::command::ends_so;
 use super::ports::{add_port, fill};
@@ -10,9 +10,9 @@ use std::alloc::Global;
 use std::sync::Wait;
 use std::thread::Threads;
 use tb_base::{Memory, Status};
+use tb_command::MOST_WORKERS;
 use tb_io::MemListen;
 use tb_serve::Port;
-use tb_top::MOST_WORKERS;
 
 // One worker, and one session at each port.
 const SERVE: &str = "serve classes recodes ptable people 0 5000 1 1";

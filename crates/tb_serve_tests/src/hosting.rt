@@ -4,7 +4,7 @@
 ghost use Rattle.std.specs.Prelude.{◌≡◌, ◌+◌, All, IfOk, false, vec_len};
 ghost use Rattle.tb_mem_disk.specs.HeldDisk.{HeldDisk};
 ghost use Rattle.tb_serve.specs.Stages.{IsFresh};
-ghost use Rattle.tb_top.specs.declared.service.TheConstants.{MOST_WORKERS};
+ghost use Rattle.tb_command.specs.declared.service.TheConstants.{MOST_WORKERS};
 
 use super::command::ends_over;
 use super::ports::{add_port, add_sessions, fill, is_told};
@@ -13,11 +13,11 @@ use std::sync::Wait;
 use std::test::Fail;
 use std::thread::Threads;
 use tb_base::{Memory, Status};
+use tb_command::MOST_WORKERS;
 use tb_comparison::is_text;
 use tb_io::MemListen;
 use tb_mem_disk::MemDisk;
 use tb_serve::Port;
-use tb_top::MOST_WORKERS;
 
 // A journal without a batch, and that of one which drops a person.
 const NO_BATCH: &[u8] = b"TBJOURN1\x00";
@@ -25,9 +25,12 @@ const NO_BATCH: &[u8] = b"TBJOURN1\x00";
 const ONE_BATCH: &[u8] = b"TBJOURN1\x01\x00\x00\x00\x09\x00\x00\x00\x01\x02\x00\x00\x00\x68\x00";
 
 // One worker, and one session at each port, or two.
-const ONE: &str = "host classes recodes ptable people 0 journal 5000 1 1";
+const ONE: &str = "host classes recodes ptable people 0 - - journal 5000 1 1";
 
-const TWO: &str = "host classes recodes ptable people 0 journal 5000 1 2";
+const TWO: &str = "host classes recodes ptable people 0 - - journal 5000 1 2";
+
+// With dwellings.
+const HOMES: &str = "host classes recodes ptable people 0 dwellings links journal 5000 1 1";
 
 // As many bytes as a session here has of replies, and more.
 const ALL: usize = 400;
@@ -48,7 +51,7 @@ type Row = (
     &'static [u8],
 );
 
-static ROWS: [Row; 9] = [
+static ROWS: [Row; 12] = [
     (
         "host_recovers",
         b"",
@@ -170,6 +173,45 @@ static ROWS: [Row; 9] = [
         Status::Done,
         b"worker 0 sessions 2\nworker 1 sessions 1\nrelease 0\n",
         NO_BATCH,
+    ),
+    // Person 104, who is dropped, is the only one of SEX 2.
+    (
+        "dwellings_before_and_after_a_batch",
+        b"",
+        HOMES,
+        (
+            "dwellings SEX\ndrop 104\npublish\ndwellings SEX\n",
+            "release 0\nSEX,count\n1,2\n2,1\n.\nheld 1\npublished 1\n\
+            release 1\nSEX,count\n1,2\n2,0\n.\n",
+        ),
+        ("", ""),
+        (false, 0, ALL),
+        Status::Done,
+        b"worker 0 sessions 1\nworker 1 sessions 1\nrelease 1\n",
+        ONE_BATCH,
+    ),
+    (
+        "dwellings_of_a_recovered_release",
+        ONE_BATCH,
+        HOMES,
+        ("", ""),
+        ("dwellings SEX\n", "release 1\nSEX,count\n1,2\n2,0\n.\n"),
+        (false, 0, ALL),
+        Status::Done,
+        b"worker 0 sessions 1\nworker 1 sessions 1\nrelease 1\n",
+        ONE_BATCH,
+    ),
+    // Without dwellings it is a query whose first word is wrong.
+    (
+        "no_dwellings_are_named",
+        ONE_BATCH,
+        ONE,
+        ("", ""),
+        ("dwellings SEX\n", "refused 2 Syntax 1\n"),
+        (false, 0, ALL),
+        Status::Done,
+        b"worker 0 sessions 1\nworker 1 sessions 1\nrelease 1\n",
+        ONE_BATCH,
     ),
 ];
 

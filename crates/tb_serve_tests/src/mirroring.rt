@@ -2,7 +2,7 @@
 
 ghost use Rattle.std.specs.Prelude.{◌≡◌, ◌+◌, All, IfOk, vec_len};
 ghost use Rattle.tb_serve.specs.Stages.{IsFresh};
-ghost use Rattle.tb_top.specs.declared.service.TheConstants.{MOST_WORKERS};
+ghost use Rattle.tb_command.specs.declared.service.TheConstants.{MOST_WORKERS};
 
 use super::command::ends_so;
 use super::ports::{add_port, add_sessions, fill, is_told};
@@ -11,12 +11,12 @@ use std::sync::Wait;
 use std::test::Fail;
 use std::thread::Threads;
 use tb_base::{Memory, Status};
+use tb_command::MOST_WORKERS;
 use tb_io::MemListen;
 use tb_serve::Port;
-use tb_top::MOST_WORKERS;
 
 // One worker, and two sessions at each port.
-const COMMAND: &str = "mirror classes recodes ptable people 0 5000 1 2";
+const COMMAND: &str = "mirror classes recodes ptable people 0 - - 5000 1 2";
 
 // As many bytes as a session here has of replies, and more.
 const ALL: usize = 400;

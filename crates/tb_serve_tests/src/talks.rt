@@ -33,6 +33,10 @@ pub enum Client {
     LateLeader,
     /// An analyst, who waits for the reply to that message between two tables.
     LateBehind,
+    /// A leader, whose message comes after the analyst's first table of dwellings.
+    HomesLeader,
+    /// An analyst, who waits for the reply to that message between two tables of dwellings.
+    HomesBehind,
 }
 
 /// How many replies two clients got, and how many clients got just those that they are to get.
@@ -55,6 +59,9 @@ fn part(client: Client, step: u32) -> Option<(u32, &'static [u8])> {
         (Client::Leader, 0) => Some((0, OUT_OF_ORDER)),
         (Client::LateLeader, 0) => Some((1, b"begin 1\ndrop 104\nend\n")),
         (Client::LateLeader, 1) => Some((2, b"stats\n")),
+        (Client::HomesLeader, 0) => Some((1, b"begin 1\ndrop 104\nend\n")),
+        (Client::HomesBehind, 0) => Some((0, b"dwellings SEX\n")),
+        (Client::HomesBehind, 1) => Some((3, b"dwellings SEX\n")),
         (Client::Late | Client::One | Client::Other | Client::LateBehind, 0) => {
             Some((0, b"table SEX\n"))
         }
@@ -77,6 +84,10 @@ fn replies_to(client: Client) -> &'static [u8] {
         Client::Behind => b"release 2\nSEX,count\n1,1\n2,1\n.\n",
         Client::LateLeader => {
             b"begun 1\nheld 1\nat 1\nstats release 1 looks 2 hits 1 entries 1 capacity 64\n"
+        }
+        Client::HomesLeader => b"begun 1\nheld 1\nat 1\n",
+        Client::HomesBehind => {
+            b"release 0\nSEX,count\n1,2\n2,1\n.\nrelease 1\nSEX,count\n1,2\n2,0\n.\n"
         }
         Client::Late | Client::LateBehind => {
             b"release 0\nSEX,count\n1,1\n2,2\n.\nrelease 1\nSEX,count\n1,1\n2,0\n.\n"
@@ -214,9 +225,11 @@ impl<'a> Talk<'a> {
     {
         let (first, second, right) = (&replies.first, &replies.second, &replies.right);
         match client {
-            Client::Late | Client::Other | Client::Behind | Client::LateBehind => {
-                Talk::with(client, second, first, right)
-            }
+            Client::Late
+            | Client::Other
+            | Client::Behind
+            | Client::LateBehind
+            | Client::HomesBehind => Talk::with(client, second, first, right),
             _ => Talk::with(client, first, second, right),
         }
     }

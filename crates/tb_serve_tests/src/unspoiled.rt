@@ -4,7 +4,7 @@
 ghost use Rattle.std.specs.Prelude.{◌≡◌, ◌<◌, ◌+◌, All, false, vec_len};
 ghost use Rattle.tb_mem_disk.specs.HeldDisk.{HeldDisk};
 ghost use Rattle.tb_serve.specs.Stages.{IsFresh};
-ghost use Rattle.tb_top.specs.declared.service.TheConstants.{MOST_WORKERS};
+ghost use Rattle.tb_command.specs.declared.service.TheConstants.{MOST_WORKERS};
 
 use super::command::ends_over;
 use std::alloc::Global;
@@ -14,6 +14,7 @@ use std::sync::ledger::{Blank, Ledger};
 use std::test::Fail;
 use std::thread::Threads;
 use tb_base::{Memory, Status, Steps};
+use tb_command::Arguments;
 use tb_comparison::{is_status, is_text};
 use tb_io::{MemListen, MemSink, SureFiles};
 use tb_mem_disk::MemDisk;
@@ -26,7 +27,7 @@ const ONE_BATCH: &[u8] = b"TBJOURN1\x01\x00\x00\x00\x09\x00\x00\x00\x01\x02\x00\
 
 // Commands with a journal, whose microdata is the perturbation table.
 static REFUSED: [&str; 2] = [
-    "host classes recodes ptable ptable 0 journal 5000 1 1",
+    "host classes recodes ptable ptable 0 - - journal 5000 1 1",
     "keep classes recodes ptable ptable 0 journal script",
 ];
 
@@ -82,7 +83,11 @@ fn into_nothing<R: Threads + Wait + Sync, L: Ledger>(
 {
     let mut steps = Steps::<L>::new(blank);
     let mut out = MemSink::new(alloc, 0)?;
-    Ok(tablebuilder(rt, alloc, words, files, &mut out, net, disk, &mut steps).number())
+    let arguments = Arguments::read(words);
+    Ok(tablebuilder(
+        rt, alloc, &arguments, files, &mut out, net, disk, &mut steps,
+    )
+    .number())
 }
 
 // The same of `keep` over a script that only holds an edit.

@@ -2,7 +2,7 @@
 
 ghost use Rattle.std.specs.Prelude.{◌≡◌, ◌<◌, ◌+◌, All, IfOk, vec_len};
 ghost use Rattle.tb_serve.specs.Stages.{IsFresh};
-ghost use Rattle.tb_top.specs.declared.service.TheConstants.{MOST_WORKERS};
+ghost use Rattle.tb_command.specs.declared.service.TheConstants.{MOST_WORKERS};
 
 use super::command::ends_so;
 use super::talks::{Client, Replies, Talk};
@@ -11,8 +11,8 @@ use std::sync::Wait;
 use std::sync::atomic::{AtomicU32, Ordering};
 use std::thread::Threads;
 use tb_base::{Memory, Status};
+use tb_command::MOST_WORKERS;
 use tb_serve::Port;
-use tb_top::MOST_WORKERS;
 
 // A run of two sessions.
 #[derive(Clone, Copy)]
@@ -24,6 +24,7 @@ enum Run {
     // One worker, and one session at each port: a leader's and an analyst's.
     Led,
     LateLed,
+    HomesLed,
 }
 
 // The client at the port of a number.
@@ -37,6 +38,8 @@ fn client_at(run: Run, number: u32) -> Client {
         (Run::Led, 1) => Client::Behind,
         (Run::LateLed, 0) => Client::LateLeader,
         (Run::LateLed, 1) => Client::LateBehind,
+        (Run::HomesLed, 0) => Client::HomesLeader,
+        (Run::HomesLed, 1) => Client::HomesBehind,
         _ => Client::None,
     }
 }
@@ -123,24 +126,30 @@ fn sessions_run_at_the_same_time(rt: HostRuntime) {
 
 #[test]
 fn sessions_share_cubes_beside_a_journal(rt: HostRuntime) {
-    let command = "host classes recodes ptable people 0 journal 5000 1 1";
+    let command = "host classes recodes ptable people 0 - - journal 5000 1 1";
     assert!(&rt; both_get_theirs(&rt, rt.alloc(), Run::Late, command, LATE));
 }
 
 #[test]
 fn sessions_run_at_the_same_time_beside_a_journal(rt: HostRuntime) {
-    let command = "host classes recodes ptable people 0 journal 5000 2 1";
+    let command = "host classes recodes ptable people 0 - - journal 5000 2 1";
     assert!(&rt; both_get_theirs(&rt, rt.alloc(), Run::Crossed, command, CROSSED));
 }
 
 #[test]
 fn mirror_of_a_leader(rt: HostRuntime) {
-    let command = "mirror classes recodes ptable people 0 5000 1 1";
+    let command = "mirror classes recodes ptable people 0 - - 5000 1 1";
     assert!(&rt; both_get_theirs(&rt, rt.alloc(), Run::Led, command, LED));
 }
 
 #[test]
 fn sessions_share_cubes_of_a_mirror(rt: HostRuntime) {
-    let command = "mirror classes recodes ptable people 0 5000 1 1";
+    let command = "mirror classes recodes ptable people 0 - - 5000 1 1";
     assert!(&rt; both_get_theirs(&rt, rt.alloc(), Run::LateLed, command, LATE));
+}
+
+#[test]
+fn dwellings_of_a_mirror(rt: HostRuntime) {
+    let command = "mirror classes recodes ptable people 0 dwellings links 5000 1 1";
+    assert!(&rt; both_get_theirs(&rt, rt.alloc(), Run::HomesLed, command, LATE));
 }

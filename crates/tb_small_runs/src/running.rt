@@ -3,7 +3,7 @@
 ghost use Rattle.std.specs.Prelude.{◌≡◌, ◌<◌, ◌+◌, All, IfOk, false, vec_len};
 ghost use Rattle.tb_mem_disk.specs.HeldDisk.{HeldDisk};
 ghost use Rattle.tb_serve.specs.Stages.{IsFresh};
-ghost use Rattle.tb_top.specs.declared.service.TheConstants.{MOST_WORKERS};
+ghost use Rattle.tb_command.specs.declared.service.TheConstants.{MOST_WORKERS};
 
 use std::alloc::Global;
 use std::marker::Brand;
@@ -11,11 +11,11 @@ use std::sync::Wait;
 use std::sync::ledger::{Blank, Ledger};
 use std::thread::Threads;
 use tb_base::{Memory, Status, Steps};
+use tb_command::{Arguments, MOST_WORKERS};
 use tb_io::{MemListen, SureFiles, SureSink};
 use tb_mem_disk::MemDisk;
 use tb_serve::Port;
-use tb_small::{CLASSES, PEOPLE, PTABLE, RECODES};
-use tb_top::MOST_WORKERS;
+use tb_small::{CLASSES, DWELLINGS, LINKS, PEOPLE, PTABLE, RECODES};
 use tb_top::laws::run_surely;
 
 /// The words of a command, which one blank parts: none where the text is empty.
@@ -36,6 +36,8 @@ pub fn small_files(alloc: Global) -> Result<SureFiles, Memory> {
     files.hold("recodes", RECODES)?;
     files.hold("ptable", PTABLE)?;
     files.hold("people", PEOPLE)?;
+    files.hold("dwellings", DWELLINGS)?;
+    files.hold("links", LINKS)?;
     Ok(files)
 }
 
@@ -77,7 +79,8 @@ fn count_surely<R: Threads + Wait + Sync, L: Ledger>(
     requires some { 0 < L.parts }
 {
     let mut steps = Steps::<L>::new(blank);
-    run_surely(rt, alloc, words, files, out, net, disk, &mut steps)
+    let arguments = Arguments::read(words);
+    run_surely(rt, alloc, &arguments, files, out, net, disk, &mut steps)
 }
 
 /// Runs a command over these files and this disk, with quiet ports of its own, and returns its

@@ -1,39 +1,29 @@
 -- What the arguments ask for, before and after the files are read.
-use Rattle.std.proofs.Common.{◌≡◌, ◌∙◌, ap, sym, subst, refl, ℕ, List, All, Option, Some, None, Result, Ok, Err, true, false, arith}
+use Rattle.std.proofs.Common.{◌≡◌, ◌∙◌, ap, sym, subst, refl, ℕ, List, All, Option, Some, None, Result, Ok, Err, true, arith}
 use Rattle.std.specs.Prelude.{is_some}
 use Rattle.tb_base.specs.declared.status.Status.{Status}
 use Rattle.tb_serve.specs.Stages.{IsFresh}
-use Rattle.tb_words.specs.Words.{AreTested}
-use Rattle.tb_top.specs.declared.command.Command.{Command}
+use Rattle.tb_words.specs.Words.{IsCommand}
+use Rattle.tb_command.specs.declared.command.Command.{Command}
 use Rattle.tb_endings.specs.declared.endings.End.{End}
 use Rattle.tb_endings.specs.declared.endings.End.TheVariants as end
 use Rattle.tb_top.specs.Asking.{AskedValue, Contents, asked_over, is_keep, is_service}
 use Rattle.tb_top.specs.Calls.{Call}
-use Rattle.tb_top.specs.Commands.{NamedFile, asks_to_generate, asks_to_keep, asks_to_serve, command_files, command_of}
+use Rattle.tb_command.specs.Commands.{asks_to_generate, asks_to_keep, asks_to_serve, command_of}
+use Rattle.tb_top.specs.InputFiles.{NamedFile, command_files}
 use Rattle.tb_top.specs.KeepOutputs.{IsStill}
 use Rattle.tb_top.specs.Loading.{Loads, Reading}
 use Rattle.tb_top.specs.Promises.{Keeps}
 use Rattle.tb_top.proofs.Finishing.{IsAnsweredBy, IsToldBy, keeps_by_load, keeps_by_task, keeps_by_usage, reading_of}
 use Rattle.tb_top.proofs.Telling.{always_told}
-use Rattle.tb_top.proofs.Tested.{tested}
 
--- words that name a command pass
-pub tested_of : (words : List (List ℕ)) (o : Option Command) → o ≡ command_of words → is_some o ≡ true → AreTested words
-tested_of words (Some command) is some = tested words command (sym is)
-tested_of words None is some = cc
-
--- others name none
-pub none_of : (words : List (List ℕ)) (o : Option Command) → o ≡ command_of words → is_some o ≡ false → command_of words ≡ None
-none_of words (Some command) is none = cc
-none_of words None is none = sym is
+-- words that name a command are a command's
+pub is_command : (words : List (List ℕ)) (command : Command) → command_of words ≡ Some command → IsCommand words
+is_command words command named = ap is_some named
 
 -- no words do both
 pub not_none : (words : List (List ℕ)) (command : Command) → command_of words ≡ None → command_of words ≡ Some command → ⊥
 not_none words command none named = let bad : None ≡ Some command = sym none ∙ named in cc
-
-pub has_command : (words : List (List ℕ)) (o : Option Command) → o ≡ command_of words → is_some o ≡ true → command_of words ≡ None → ⊥
-has_command words (Some command) is some none = not_none words command none (sym is)
-has_command words None is some none = cc
 
 -- what is true of the command that words name is true of each that they name
 pub same_asked : (words : List (List ℕ)) (P : Command → Type 0) (command : Command) → command_of words ≡ Some command → P command

@@ -23,11 +23,12 @@ use Rattle.tb_keep.specs.declared.recovery.JournalFault.{JournalFault}
 use Rattle.tb_keep.specs.declared.journal_run.KeepEnd.TheVariants as keep_end
 use Rattle.tb_lines.specs.Outputs.{AreReplies, ReplyValue, charged, text_of}
 use Rattle.tb_session.specs.Parties.{state_at}
-use Rattle.tb_top.specs.Asking.{CensusValue, Script, base_of}
+use Rattle.tb_top.specs.Asking.{CensusValue, base_of}
 use Rattle.tb_endings.specs.Endings.{IsEnded, IsRunEnded, fault_line, last_line, status_of}
 use Rattle.tb_top.specs.KeepOutputs.{IsKeepLine, IsKeepRun, journal_fault_at, journal_fault_name, journal_line}
-use Rattle.tb_top.specs.Loading.{IsBase, census_over}
-use Rattle.tb_top.specs.Outputs.{AreAnswers, IsScriptAnswered}
+use Rattle.tb_top.specs.Asking.{census_over}
+use Rattle.tb_top.specs.Loading.{IsBase}
+use Rattle.tb_top.specs.Outputs.{AreScriptReplies, IsScriptAnswered}
 use Rattle.tb_endings.specs.declared.endings.End.{End}
 use Rattle.tb_endings.specs.declared.endings.End.TheVariants as end
 use Rattle.tb_top.proofs.Earlier.{stands-earlier, stays-earlier, until-earlier}
@@ -36,7 +37,7 @@ use Rattle.tb_top.proofs.Earlier.{stands-earlier, stays-earlier, until-earlier}
 pub answers-on-board : (setup : SetupValue) (opening : OpeningValue) (custodian : CustodianValue) (script : ScriptValue) (replies : List ReplyValue)
     → custodian ≡ first_custodian opening → IsBase opening.start.base
     → AreReplies (IsLaneReply setup custodian.writer.start.base) (state_at custodian.writer []) script.lines replies
-    → AreAnswers (Script (census_over setup opening.start.base) script) replies
+    → AreScriptReplies (census_over setup opening.start.base) script replies
 answers-on-board setup opening custodian script replies made first are =
     let P : CustodianValue → Type 0 = λ c. AreReplies (IsLaneReply setup c.writer.start.base) (state_at c.writer []) script.lines replies in
     let Q : ReleaseValue → Type 0 = λ base. AreReplies (IsLaneReply setup base) (record { chain = []; held = [] }) script.lines replies in
@@ -56,7 +57,7 @@ ended-later e {s} {f} {between} {f'} t' le up same h =
 pub run-on-board : (setup : SetupValue) (opening : OpeningValue) (custodian : CustodianValue) (script : ScriptValue) (e : RunEnd) {s : Status} {f between f' : ℕ} (t mid t' : Option (List ℕ)) (steps steps' : ℕ)
     → custodian ≡ first_custodian opening → IsBase opening.start.base → between ≤ f' → f ≤ between → (e ≡ run_end.WriteFault → HasRisen f between)
     → IsRun setup custodian.writer.start.base script.lines e (charged (state_at custodian.writer []) steps) steps' t mid → IsRunEnded e s between f' mid t'
-    → IsScriptAnswered (Script (census_over setup opening.start.base) script) s f f' t t' steps steps'
+    → IsScriptAnswered (AreScriptReplies (census_over setup opening.start.base) script) s f f' t t' steps steps'
 run-on-board setup opening custodian script run_end.Done t mid t' steps steps' made first up le failed run (is, still, same) =
     let all = run-all setup _ script.lines _ _ _ _ run in
     inl (

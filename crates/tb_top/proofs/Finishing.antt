@@ -8,16 +8,24 @@ use Rattle.tb_endings.specs.declared.endings.Input.{Input}
 use Rattle.tb_endings.specs.declared.endings.Input.TheVariants as input
 use Rattle.tb_endings.specs.declared.endings.End.{End}
 use Rattle.tb_endings.specs.declared.endings.End.TheVariants as end
-use Rattle.tb_top.specs.declared.command.Command.{Command}
-use Rattle.tb_top.specs.declared.command.Command.TheVariants as command
-use Rattle.tb_top.specs.declared.command.Inputs.{Inputs}
-use Rattle.tb_top.specs.Asking.{AskedValue, CensusValue, Follow, Gen, Host, Keep, Lanes, Mirror, Script, Serve, asked_of, asked_over, contents_at, is_keep, is_service}
-use Rattle.tb_top.specs.Calls.{Call, HasTaken, IsReadTo, NetFailed, ReadFailed, WriteFailed}
-use Rattle.tb_top.specs.Commands.{asks_to_generate, asks_to_keep, asks_to_serve, command_of, command_files, input_files, named}
+use Rattle.tb_command.specs.declared.command.Command.{Command}
+use Rattle.tb_command.specs.declared.command.Command.TheVariants as command
+use Rattle.tb_command.specs.declared.command.Inputs.{Inputs}
+use Rattle.tb_top.specs.Asking.{AskedValue, CensusValue, asked_of, asked_over, asked_with, contents_at, is_keep, is_service}
+use Rattle.tb_top.specs.declared.asked.AskedLines.{AskedLines}
+use Rattle.tb_top.specs.declared.asked.AskedLines.TheVariants as lines
+use Rattle.tb_command.specs.declared.command.Lines.{Lines}
+use Rattle.tb_command.specs.declared.command.Lines.TheVariants as named_lines
+use Rattle.tb_command.specs.declared.command.Owner.{Owner}
+use Rattle.tb_command.specs.declared.command.Owner.TheVariants as owner
+use Rattle.tb_command.specs.declared.command.UnitFiles.{UnitFiles}
+use Rattle.tb_top.specs.Calls.{Call, HasTaken, IsReadTo, NetFailed, ReadFailed, WriteFailed, output_of}
+use Rattle.tb_command.specs.Commands.{asks_to_generate, asks_to_keep, asks_to_serve, command_of}
+use Rattle.tb_top.specs.InputFiles.{command_files, counted_files, lines_files}
 use Rattle.tb_endings.specs.Endings.{IsEnded, IsLineWritten, last_line, status_of}
 use Rattle.tb_top.specs.KeepOutputs.{HasFailed, IsStill}
 use Rattle.tb_top.specs.Loading.{Hold, Loads, Reading}
-use Rattle.tb_top.specs.Populations.{Population}
+use Rattle.tb_command.specs.Populations.{Population}
 use Rattle.tb_top.specs.Promises.{EndsBy, IsByInput, IsCaused, IsDefined, IsLastLine, IsPriced, IsTextOf, IsWhole, Keeps, defined_status}
 use Rattle.tb_top.specs.Outputs.{AreAnswers, AreScriptReplies, IsAnswered, IsBegun, IsGenAnswered, IsOutput, IsScriptAnswered}
 use Rattle.tb_top.specs.Summaries.{summary_line}
@@ -261,7 +269,7 @@ undone call e s free same told still =
 
 -- how a script was answered, and the status
 abbrev pub IsScriptAnsweredBy : Call → AskedValue → Status → Type 0
-IsScriptAnsweredBy call asked s = IsScriptAnswered asked s call.write_faults call.write_faults_after call.taken call.taken_after
+IsScriptAnsweredBy call asked s = IsScriptAnswered (AreAnswers asked) s call.write_faults call.write_faults_after call.taken call.taken_after
     call.steps call.steps_after
 
 -- a run that comes to its script keeps all, where its output is the text of its replies
@@ -296,69 +304,81 @@ IsGenAnsweredBy call population census script s = IsGenAnswered population censu
     call.taken call.taken_after call.steps call.steps_after
 
 -- a run that sums up replies keeps all, whatever of its line was taken
-module _ (call : Call) (command : Command) (population : Population) (census : CensusValue) (script : ScriptValue) (s : Status)
-    (named : command_of call.words ≡ Some command) (told : IfSome call.content (λ at. asked_of at call.words ≡ Ok (Gen population census script)))
+module _ (call : Call) (command : Command) (population : Population) (census : CensusValue) (by : Owner) (script : ScriptValue) (s : Status)
+    (named : command_of call.words ≡ Some command)
+    (told : IfSome call.content (λ at. asked_of at call.words ≡ Ok (asked_with census by (lines.Sums population script))))
     (fresh : All IsFresh call.ports) (same : call.ports_after ≡ call.ports) (still : IsStill call.disk) where
+  abbrev summed : AskedValue
+  summed = asked_with census by (lines.Sums population script)
+
   -- the counter rose by no more than the replies' price
   priced_by : (replies : List ReplyValue) → AreScriptReplies census script replies → call.steps_after ≤ call.steps + price_of replies
-      → IsBegun (Gen population census script) s replies call.taken call.taken_after
+      → IsBegun summed s replies call.taken call.taken_after
       → IfSome call.content (λ at. (call.steps_after ≡ call.steps) ⊎ IsPriced call at s)
   priced_by replies answers cost begun =
-      where_told _ _ call.content (λ at h. inr (Gen population census script, h, (replies, answers, begun, cost))) told
+      where_told _ _ call.content (λ at h. inr (summed, h, (replies, answers, begun, cost))) told
 
   -- a line was written, or a beginning of it
   begun_line : (replies : List ReplyValue) → IsLineWritten status.Done (summary_line population (text_of replies)) s call.write_faults
-      call.write_faults_after call.taken call.taken_after → IsBegun (Gen population census script) s replies call.taken call.taken_after
+      call.write_faults_after call.taken call.taken_after → IsBegun summed s replies call.taken call.taken_after
   begun_line replies (inl (is, took)) = inl (λ m. cc, TookPart-all call.taken call.taken_after (summary_line population (text_of replies)) took)
   begun_line replies (inr (is, failed, part)) = inl (λ m. cc, part)
 
   -- the text of the replies has more bytes than are counted
   begun_long : (replies : List ReplyValue) → most_counted < length (text_of replies) → IsToldBy call end.Memory s
-      → IsBegun (Gen population census script) s replies call.taken call.taken_after
+      → IsBegun summed s replies call.taken call.taken_after
   begun_long replies long (inl (is, took)) = inr (long, TookPart-all call.taken call.taken_after (last_line end.Memory) took)
   begun_long replies long (inr (is, failed, part)) = inr (long, part)
 
   -- a run that comes to a generated population keeps all
   keeps_by_gen : IsGenAnsweredBy call population census script s → Keeps call s
   keeps_by_gen (inl (replies, answers, cost, inl written)) =
-      keeps_by_written call command (Gen population census script) s (summary_line population (text_of replies)) named told (refl, (replies, answers, refl))
+      keeps_by_written call command summed s (summary_line population (text_of replies)) named told (refl, (replies, answers, refl))
       (priced_by replies answers cost (begun_line replies written)) fresh same
-      (left-alone call (Gen population census script) s refl told still) written
+      (left-alone call summed s (inr (refl, refl)) told still) written
   keeps_by_gen (inl (replies, answers, cost, inr (long, ended))) =
       keeps_by_end call end.Memory s (λ h. cc) (λ h. cc) (λ file h. cc) (always_told _ call.content (λ at ne. absurd (ne refl)))
       (λ h. refl) (priced_by replies answers cost (begun_long replies long ended)) fresh same
-      (left-alone call (Gen population census script) s refl told still) (λ ne. absurd (ne refl)) ended
+      (left-alone call summed s (inr (refl, refl)) told still) (λ ne. absurd (ne refl)) ended
   keeps_by_gen (inr (free, ended)) =
       keeps_by_end call end.Memory s (λ h. cc) (λ h. cc) (λ file h. cc) (always_told _ call.content (λ at ne. absurd (ne refl)))
       (λ h. refl) (unpriced call s free) fresh same (undone call end.Memory s free same ended still) (λ ne. absurd (ne refl)) ended
 
 -- how what is asked for was answered, and the status
 abbrev pub IsAnsweredBy : Call → AskedValue → Status → Type 0
-IsAnsweredBy call asked s = IsAnswered asked call.ports call.ports_after call.disk s call.write_faults call.write_faults_after
-    call.taken call.taken_after call.steps call.steps_after
+IsAnsweredBy call asked s = IsAnswered asked call.ports call.ports_after call.disk s (output_of call) call.steps call.steps_after
 
--- a run that comes to its task keeps all
+-- a run that comes to its task keeps all, by the lines and who owns the chain
+keeps_by_lines : (call : Call) (command : Command) (census : CensusValue) (by : Owner) (asked : AskedLines) (s : Status)
+    → command_of call.words ≡ Some command
+    → is_service (asked_with census by asked) ≡ asks_to_serve (Some command) → is_keep (asked_with census by asked) ≡ asks_to_keep (Some command)
+    → IfSome call.content (λ at. asked_of at call.words ≡ Ok (asked_with census by asked)) → All IsFresh call.ports
+    → IsAnsweredBy call (asked_with census by asked) s → Keeps call s
+keeps_by_lines call command census owner.Custodian (lines.Script script) s named serves keeps told fresh (same, (still, answered)) =
+    let asked = asked_with census owner.Custodian (lines.Script script) in
+    keeps_by_script call command asked s named told fresh same (left-alone call asked s (inl refl) told still)
+    (λ replies are. (refl, (replies, are, refl))) (λ replies some part. (some, part)) answered
+keeps_by_lines call command census (owner.Journal journal) (lines.Script script) s named serves keeps told fresh (same, answered) =
+    keeps_by_keep call command census journal script s named (sym keeps) told fresh same answered
+keeps_by_lines call command census owner.Leader (lines.Script script) s named serves keeps told fresh (same, (still, answered)) =
+    let asked = asked_with census owner.Leader (lines.Script script) in
+    keeps_by_script call command asked s named told fresh same (left-alone call asked s (inl refl) told still)
+    (λ replies are. (refl, (replies, are, refl))) (λ replies some part. (some, part)) answered
+keeps_by_lines call command census by (lines.Lanes script) s named serves keeps told fresh (same, still, free, answered) =
+    keeps_by_lanes call command census by script s named told free fresh same still answered
+keeps_by_lines call command census owner.Custodian (lines.Ports service) s named serves keeps told fresh (free, (still, answered)) =
+    keeps_by_service call command census service s named (sym serves) told free fresh still answered
+keeps_by_lines call command census (owner.Journal journal) (lines.Ports service) s named serves keeps told fresh (free, answered) =
+    keeps_by_host call command census journal service s named (sym serves) (sym keeps) told free fresh answered
+keeps_by_lines call command census owner.Leader (lines.Ports service) s named serves keeps told fresh (free, (still, answered)) =
+    keeps_by_mirror call command census service s named (sym serves) told free fresh still answered
+keeps_by_lines call command census by (lines.Sums population script) s named serves keeps told fresh (same, still, answered) =
+    keeps_by_gen call command population census by script s named told fresh same still answered
+
 keeps_by_answer : (call : Call) (command : Command) (asked : AskedValue) (s : Status) → command_of call.words ≡ Some command
     → is_service asked ≡ asks_to_serve (Some command) → is_keep asked ≡ asks_to_keep (Some command)
     → IfSome call.content (λ at. asked_of at call.words ≡ Ok asked) → All IsFresh call.ports → IsAnsweredBy call asked s → Keeps call s
-keeps_by_answer call command (Script census script) s named serves keeps told fresh (same, still, answered) =
-    keeps_by_script call command (Script census script) s named told fresh same (left-alone call (Script census script) s refl told still)
-    (λ replies are. (refl, (replies, are, refl))) (λ replies some part. (some, part)) answered
-keeps_by_answer call command (Lanes census script) s named serves keeps told fresh (same, still, free, answered) =
-    keeps_by_lanes call command census script s named told free fresh same still answered
-keeps_by_answer call command (Keep census journal script) s named serves keeps told fresh (same, answered) =
-    keeps_by_keep call command census journal script s named (sym keeps) told fresh same answered
-keeps_by_answer call command (Follow census script) s named serves keeps told fresh (same, still, answered) =
-    keeps_by_script call command (Follow census script) s named told fresh same (left-alone call (Follow census script) s refl told still)
-    (λ replies are. (refl, (replies, are, refl))) (λ replies some part. (some, part)) answered
-keeps_by_answer call command (Host census journal service) s named serves keeps told fresh (free, answered) =
-    keeps_by_host call command census journal service s named (sym serves) (sym keeps) told free fresh answered
-keeps_by_answer call command (Mirror census service) s named serves keeps told fresh (still, free, answered) =
-    keeps_by_mirror call command census service s named (sym serves) told free fresh still answered
-keeps_by_answer call command (Serve census service) s named serves keeps told fresh (still, free, answered) =
-    keeps_by_service call command census service s named (sym serves) told free fresh still answered
-keeps_by_answer call command (Gen population census script) s named serves keeps told fresh (same, still, answered) =
-    keeps_by_gen call command population census script s named told fresh same still answered
+keeps_by_answer call command asked = keeps_by_lines call command asked.census asked.owner asked.lines
 
 -- what a call saw of its files
 abbrev pub reading_of : Call → Option (List ℕ → Option (List ℕ)) → Reading
@@ -389,34 +409,33 @@ caused call command (end.Refused file name at) named rose last = tt
 caused call command (end.BadLine at) named rose last = tt
 caused call command end.Memory named rose last = tt
 
--- a command's contents hold its files
-holds-files : (at : List ℕ → Option (List ℕ)) (recodes : Option (List ℕ)) (classes ptable people script : List ℕ) (threshold : ℕ)
-    → let inputs : Inputs = record { classes = classes; recodes = recodes; ptable = ptable; people = people; threshold = threshold } in
-    Hold at (command_files (command.Script inputs script)) (contents_at at (command_files (command.Script inputs script)))
-holds-files at None classes ptable people script threshold = (refl, (refl, (refl, (refl, tt))))
-holds-files at (Some name) classes ptable people script threshold = (refl, (refl, (refl, (refl, (refl, tt)))))
+-- a command's contents hold its files: each is the first at its place of reading
+module _ (at : List ℕ → Option (List ℕ)) (classes ptable people : List ℕ) (threshold : ℕ) where
+  abbrev inputs_of : Option (List ℕ) → Inputs
+  inputs_of recodes = record { classes = classes; recodes = recodes; ptable = ptable; people = people; threshold = threshold }
 
-holds-inputs : (at : List ℕ → Option (List ℕ)) (recodes : Option (List ℕ)) (classes ptable people : List ℕ) (threshold : ℕ)
-    → let inputs : Inputs = record { classes = classes; recodes = recodes; ptable = ptable; people = people; threshold = threshold } in
-    Hold at (input_files inputs) (contents_at at (input_files inputs))
-holds-inputs at None classes ptable people threshold = (refl, (refl, (refl, tt)))
-holds-inputs at (Some name) classes ptable people threshold = (refl, (refl, (refl, (refl, tt))))
+  abbrev Holds : Inputs → Option UnitFiles → Lines → Type 0
+  Holds inputs units lines =
+      Hold at (counted_files inputs units ++ lines_files lines) (contents_at at (counted_files inputs units ++ lines_files lines))
 
-holds-counted : (at : List ℕ → Option (List ℕ)) (recodes : Option (List ℕ)) (classes ptable people dwellings links script : List ℕ) (threshold : ℕ)
-    → let inputs : Inputs = record { classes = classes; recodes = recodes; ptable = ptable; people = people; threshold = threshold } in
-    Hold at (command_files (command.Units inputs dwellings links script)) (contents_at at (command_files (command.Units inputs dwellings links script)))
-holds-counted at None classes ptable people dwellings links script threshold = (refl, (refl, (refl, (refl, (refl, (refl, tt))))))
-holds-counted at (Some name) classes ptable people dwellings links script threshold = (refl, (refl, (refl, (refl, (refl, (refl, (refl, tt)))))))
+  holds-task : (recodes : Option (List ℕ)) (units : Option UnitFiles) (lines : Lines) → Holds (inputs_of recodes) units lines
+  holds-task None None (named_lines.Script name) = (refl, (refl, (refl, (refl, tt))))
+  holds-task None None (named_lines.Lanes name) = (refl, (refl, (refl, (refl, tt))))
+  holds-task None None (named_lines.Ports service) = (refl, (refl, (refl, tt)))
+  holds-task (Some r) None (named_lines.Script name) = (refl, (refl, (refl, (refl, (refl, tt)))))
+  holds-task (Some r) None (named_lines.Lanes name) = (refl, (refl, (refl, (refl, (refl, tt)))))
+  holds-task (Some r) None (named_lines.Ports service) = (refl, (refl, (refl, (refl, tt))))
+  holds-task None (Some u) (named_lines.Script name) = (refl, (refl, (refl, (refl, (refl, (refl, tt))))))
+  holds-task None (Some u) (named_lines.Lanes name) = (refl, (refl, (refl, (refl, (refl, (refl, tt))))))
+  holds-task None (Some u) (named_lines.Ports service) = (refl, (refl, (refl, (refl, (refl, tt)))))
+  holds-task (Some r) (Some u) (named_lines.Script name) = (refl, (refl, (refl, (refl, (refl, (refl, (refl, tt)))))))
+  holds-task (Some r) (Some u) (named_lines.Lanes name) = (refl, (refl, (refl, (refl, (refl, (refl, (refl, tt)))))))
+  holds-task (Some r) (Some u) (named_lines.Ports service) = (refl, (refl, (refl, (refl, (refl, (refl, tt))))))
 
 holds : (at : List ℕ → Option (List ℕ)) (c : Command) → Hold at (command_files c) (contents_at at (command_files c))
-holds at (command.Script inputs script) = holds-files at inputs.recodes inputs.classes inputs.ptable inputs.people script inputs.threshold
-holds at (command.Lanes inputs script) = holds-files at inputs.recodes inputs.classes inputs.ptable inputs.people script inputs.threshold
-holds at (command.Keep inputs journal script) = holds-files at inputs.recodes inputs.classes inputs.ptable inputs.people script inputs.threshold
-holds at (command.Follow inputs script) = holds-files at inputs.recodes inputs.classes inputs.ptable inputs.people script inputs.threshold
-holds at (command.Units inputs dwellings links script) = holds-counted at inputs.recodes inputs.classes inputs.ptable inputs.people dwellings links script inputs.threshold
-holds at (command.Host inputs journal service) = holds-inputs at inputs.recodes inputs.classes inputs.ptable inputs.people inputs.threshold
-holds at (command.Mirror inputs service) = holds-inputs at inputs.recodes inputs.classes inputs.ptable inputs.people inputs.threshold
-holds at (command.Serve inputs service) = holds-inputs at inputs.recodes inputs.classes inputs.ptable inputs.people inputs.threshold
+holds at (command.Over task) =
+    let inputs = task.inputs in
+    holds-task at inputs.classes inputs.ptable inputs.people inputs.threshold inputs.recodes task.units task.lines
 holds at (command.Gen population) = tt
 
 -- how loading ended the run

@@ -14,20 +14,21 @@ use Rattle.tb_gen_laws.specs.Perturbations.{generated_table}
 use Rattle.tb_gen.specs.Generated.{generated_classes, generated_people, generated_ptable, generated_recodes, generated_script}
 use Rattle.tb_io.specs.Faults.{HasRisen}
 use Rattle.tb_io.specs.HeldFiles.{HasHeld, HeldFiles, bytes_of, bytes_or_none}
-use Rattle.tb_top.specs.declared.command.Inputs.{Inputs}
-use Rattle.tb_top.specs.declared.load.Asked.{Asked}
-use Rattle.tb_top.specs.declared.load.Asked.TheVariants as asked
-use Rattle.tb_top.specs.declared.load.Scripted.{Scripted}
+use Rattle.tb_command.specs.declared.command.Inputs.{Inputs}
+use Rattle.tb_top.specs.declared.asked.Asked.{Asked}
+use Rattle.tb_top.specs.declared.asked.AskedLines.TheVariants as lines
+use Rattle.tb_top.specs.declared.asked.Scripted.{Scripted}
+use Rattle.tb_command.specs.declared.command.Owner.TheVariants as owner
 use Rattle.tb_endings.specs.declared.endings.Input.{Input}
 use Rattle.tb_endings.specs.declared.endings.Input.TheVariants as input
 use Rattle.tb_endings.specs.declared.endings.End.{End}
 use Rattle.tb_endings.specs.declared.endings.End.TheVariants as end
-use Rattle.tb_top.specs.Asking.{AskedValue, CensusValue, Contents, Gen, bytes_in, generated_asked, most_bytes, people_in, perturbation_in, schema_in, script_in, script_over, scripted_in}
-use Rattle.tb_top.specs.Commands.{NamedFile, scripted_files}
+use Rattle.tb_top.specs.Asking.{AskedValue, CensusValue, Contents, asked_with, bytes_in, generated_asked, most_bytes, people_in, perturbation_in, schema_in, script_in, scripted_in, sums_over}
+use Rattle.tb_top.specs.InputFiles.{NamedFile, scripted_files}
 use Rattle.tb_endings.specs.Endings.{input_name}
 use Rattle.tb_top.specs.GeneratedFiles.{HoldGenerated, generated_contents, generated_inputs}
 use Rattle.tb_top.specs.Loading.{Hold, Loads, Makes, Reading, asked_value, census_value, scripted_value}
-use Rattle.tb_top.specs.Populations.{HasPersons, Population}
+use Rattle.tb_command.specs.Populations.{HasPersons, Population}
 use Rattle.tb_top.proofs.LoadSteps.{Loads-ends, Loads-fails, contents_same}
 use Rattle.tb_top.proofs.Telling.{always_told}
 
@@ -95,10 +96,10 @@ makes-of view defined contents at files place (Err e) {saw} content sure held h 
     )
 
 -- a step that reads no file
-pub loads-none : {A B : Type 0} (view : A → B) (defined : Result B End) (result : Result A End) (saw : Reading)
+pub loads-none : {A B : Type 0} (view : A → B) (defined : Result B End) (result : Result A End) (saw : Reading) {place : ℕ}
     → saw.content_after ≡ saw.content → saw.faults_after ≡ saw.faults → saw.readings_after ≡ saw.readings → Makes view defined result
-    → Loads saw 0 [] view (λ _. defined) result
-loads-none view defined (Ok x) saw content faults readings makes = record {
+    → Loads saw place [] view (λ _. defined) result
+loads-none view defined (Ok x) saw {place} content faults readings makes = record {
   usage = λ k. cc;
   count = omega (arith, faults);
   same = content;
@@ -108,7 +109,7 @@ loads-none view defined (Ok x) saw content faults readings makes = record {
   last = λ file k. cc;
   all = λ y k. readings;
 }
-loads-none view defined (Err e) saw content faults readings (usage, unread, gives) = record {
+loads-none view defined (Err e) saw {place} content faults readings (usage, unread, gives) = record {
   usage = λ k. usage cc;
   count = omega (arith, faults);
   same = content;
@@ -120,29 +121,35 @@ loads-none view defined (Err e) saw content faults readings (usage, unread, give
 }
 
 -- what a census and a script are asked for, as those of a population
+abbrev pub summed_over : Population → Scripted → Asked
+summed_over p read = record { census = read.census; owner = owner.Custodian; lines = lines.Sums p read.script }
+
 abbrev pub gen_of : Population → Result Scripted End → Result Asked End
-gen_of p (Ok read) = Ok (asked.Gen p read.census read.script)
+gen_of p (Ok read) = Ok (summed_over p read)
 gen_of p (Err e) = Err e
+
+abbrev pub sum_of : Population → CensusValue → ScriptValue → AskedValue
+sum_of p census script = asked_with census owner.Custodian (lines.Sums p script)
 
 -- where they are read from files
 gen_read : (p q : Population) (inputs : Inputs) (read : Result Scripted End) {saw : Reading} {files : List NamedFile} → q ≡ p
     → Loads saw 0 files scripted_value (scripted_in inputs) read
-    → Loads saw 0 files asked_value (script_over (Gen p) inputs) (gen_of q read)
+    → Loads saw 0 files asked_value (sums_over p inputs) (gen_of q read)
 gen_read p q inputs (Ok read) {saw} {files} is h =
-    Loads-ends scripted_value asked_value (scripted_in inputs) (λ contents (r : CensusValue × ScriptValue). Ok (Gen p r.0 r.1)) read
-    (asked.Gen q read.census read.script) (λ contents. ap (λ (k : Population). Ok (Gen k (census_value read.census) read.script)) (sym is)) h
+    Loads-ends scripted_value asked_value (scripted_in inputs) (λ contents (r : CensusValue × ScriptValue). Ok (sum_of p r.0 r.1)) read
+    (summed_over q read) (λ contents. ap (λ (k : Population). Ok (sum_of k (census_value read.census) read.script)) (sym is)) h
 gen_read p q inputs (Err e) {saw} {files} is h =
-    Loads-fails scripted_value asked_value (scripted_in inputs) (λ contents (r : CensusValue × ScriptValue). Ok (Gen p r.0 r.1)) h
+    Loads-fails scripted_value asked_value (scripted_in inputs) (λ contents (r : CensusValue × ScriptValue). Ok (sum_of p r.0 r.1)) h
 
 -- under the names that the generated files have
 pub loads-gen : (p q : Population) (inputs inputs' : Inputs) (name name' : List ℕ) (read : Result Scripted End) {saw : Reading}
     → q ≡ p → inputs ≡ inputs' → name ≡ name'
     → Loads saw 0 (scripted_files inputs name) scripted_value (scripted_in inputs) read
-    → Loads saw 0 (scripted_files inputs' name') asked_value (script_over (Gen p) inputs') (gen_of q read)
+    → Loads saw 0 (scripted_files inputs' name') asked_value (sums_over p inputs') (gen_of q read)
 loads-gen p q inputs inputs' name name' read {saw} is one two h =
     let result : Result Asked End = gen_of q read in
-    let P : Inputs → Type 0 = λ i. Loads saw 0 (scripted_files i name) asked_value (script_over (Gen p) i) result in
-    let Q : List ℕ → Type 0 = λ n. Loads saw 0 (scripted_files inputs' n) asked_value (script_over (Gen p) inputs') result in
+    let P : Inputs → Type 0 = λ i. Loads saw 0 (scripted_files i name) asked_value (sums_over p i) result in
+    let Q : List ℕ → Type 0 = λ n. Loads saw 0 (scripted_files inputs' n) asked_value (sums_over p inputs') result in
     subst Q two (subst P one (gen_read p q inputs read is h))
 
 -- ---- the files are accepted
@@ -200,7 +207,7 @@ module _ (p : Population) (has : HasPersons p) where
     records = generated_records p.persons p.start;
   }
 
-  asked-there : generated_asked p ≡ Ok (Gen p census script)
+  asked-there : generated_asked p ≡ Ok (sum_of p census script)
   asked-there = rw (schema-there, table-there, people-there, script-there) refl
 
   -- so a run over them ends before its task only where memory runs out
@@ -208,4 +215,4 @@ module _ (p : Population) (has : HasPersons p) where
       → IfErr result (λ e. e ≡ end.Memory)
   accepted-made view (Ok x) made = tt
   accepted-made view (Err e) made = memory-alone e (λ other.
-      let bad : Ok (Gen p census script) ≡ Err e = sym asked-there ∙ made.2 other in cc)
+      let bad : Ok (sum_of p census script) ≡ Err e = sym asked-there ∙ made.2 other in cc)

@@ -18,7 +18,6 @@ use Rattle.tb_lines.specs.Outputs.{Lead, ReplyValue, text_of}
 use Rattle.tb_model.specs.Releases.{ReleaseValue}
 use Rattle.tb_model.specs.Setups.{SetupValue}
 use Rattle.tb_model.specs.Units.{UnitsValue}
-use Rattle.tb_model.proofs.CellKeys.{worlds_show_the_same}
 use Rattle.tb_release.specs.Batches.{BatchValue, batch_of}
 use Rattle.tb_release.specs.Chains.{IsChain, after_batch, release_after}
 use Rattle.tb_release.specs.declared.edits.Edit.{Edit}
@@ -35,14 +34,16 @@ use Rattle.tb_session.specs.declared.asks.Asks.TheVariants as asks
 use Rattle.tb_session.specs.declared.party.Role.{Role}
 use Rattle.tb_session.specs.declared.party.Role.TheVariants as role
 use Rattle.tb_tables.specs.Answers.{IsAnswerBy}
-use Rattle.tb_text.specs.PrintedWorlds.{TableShowsWorlds}
-use Rattle.tb_top.specs.Asking.{AskedValue, CensusValue, Keep, Script, asked_of, base_of}
+use Rattle.tb_top.specs.Asking.{AskedValue, CensusValue, asked_of, asked_with, base_of}
+use Rattle.tb_top.specs.declared.asked.AskedLines.TheVariants as lines
+use Rattle.tb_command.specs.declared.command.Owner.{Owner}
+use Rattle.tb_command.specs.declared.command.Owner.TheVariants as owner
 use Rattle.tb_top.specs.Calls.{Call}
-use Rattle.tb_top.specs.Headline.{AsksScript, EachTableIsCounted, HasPrinted, IsAlong, IsCounted, IsScriptAlong}
+use Rattle.tb_top.specs.Counted.{IsAlong, IsCounted}
+use Rattle.tb_top.specs.Talks.{HasPrinted, IsScriptAlong}
 use Rattle.tb_top.specs.KeepOutputs.{AreKeepReplies}
 use Rattle.tb_top.specs.Outputs.{AreScriptReplies, IsOutput, IsOutputToMemory}
-use Rattle.tb_top.specs.Promises.{IsAskedOutput, IsJournalText, IsLastLine, IsMemoryText, IsSomeLastLine, IsWhole, Keeps, Tells}
-use Rattle.tb_top.proofs.Telling.{where_told}
+use Rattle.tb_top.specs.Promises.{IsAskedOutput, IsJournalText, IsLastLine, IsMemoryText, IsSomeLastLine, IsWhole, Tells}
 
 -- ---- one line
 -- an answer over the release is its table, a refusal or `memory`
@@ -251,84 +252,72 @@ keep_along never_fall census script replies text (batches, moment, faults, follo
 abbrev pub IsLast : Status → List ℕ → Type 0
 IsLast s text = (s ≢ status.Done) × (final : Status) × IsSomeLastLine final text
 
-pub write_fault : (s : Status) → s ≡ status.WriteFault → s ≢ status.Done
+write_fault : (s : Status) → s ≡ status.WriteFault → s ≢ status.Done
 write_fault s failed done = let both : status.WriteFault ≡ status.Done = sym failed ∙ done in cc
 
 module _ (call : Call) (at : List ℕ → Option (List ℕ)) where
-  pub by_end : (s : Status) (text : List ℕ) → s ≢ status.Done → IsLastLine call at s text → IsLast s text
+  by_end : (s : Status) (text : List ℕ) → s ≢ status.Done → IsLastLine call at s text → IsLast s text
   by_end s text not (e, ends, has, line) = (not, s, inl (e, sym has, line))
 
-  pub by_journal : (s : Status) (text : List ℕ) → s ≢ status.Done → IsJournalText call at s text → IsLast s text
+  by_journal : (s : Status) (text : List ℕ) → s ≢ status.Done → IsJournalText call at s text → IsLast s text
   by_journal s text not (other, journal, h, inl (fault, told, left, has, line)) = (not, s, inr (inl (fault, has, line)))
   by_journal s text not (other, journal, h, inr (risen, stood, has, line)) = (not, s, inr (inr (has, line)))
 
-module _ (never_fall : NumbersNeverFall) (call : Call) (at : List ℕ → Option (List ℕ)) (census : CensusValue) (script : ScriptValue) where
-  output_along : (other : AskedValue) (s : Status) (text : List ℕ) → AsksScript call at census script → asked_of at call.words ≡ Ok other
-      → IsOutput other call.ports call.ports_after s text → (s ≡ status.Done) × IsScriptAlong census script text
-  output_along other s text (inl asked) h out =
-      let same : other ≡ Script census script = cc (h, asked) in
-      let (done, (replies, are, is)) : IsOutput (Script census script) call.ports call.ports_after s text =
-      subst (λ (a : AskedValue). IsOutput a call.ports call.ports_after s text) same out in
-      (done, script_along never_fall census script replies text are is)
-  output_along other s text (inr (journal, asked)) h out =
-      let same : other ≡ Keep census journal script = cc (h, asked) in
-      let (done, (replies, are, is)) : IsOutput (Keep census journal script) call.ports call.ports_after s text =
-      subst (λ (a : AskedValue). IsOutput a call.ports call.ports_after s text) same out in
-      (done, keep_along never_fall census script replies text are is)
+-- of whatever is printed: an output of what is asked for, or what stands where memory ran out
+module _ (call : Call) (at : List ℕ → Option (List ℕ)) (IsAnswer : List ℕ → Type 0)
+    (asked : (s : Status) (text : List ℕ) → IsAskedOutput call at s text → IsAnswer text)
+    (memory : (text : List ℕ) → IsMemoryText call at text → IsLast status.Memory text ⊎ IsAnswer text) where
+  whole_printed : (cause : Status) (text : List ℕ) → IsWhole call at cause text → IsLast cause text ⊎ IsAnswer text
+  whole_printed status.Done text h = inr (asked status.Done text h)
+  whole_printed status.Usage text h = inl (by_end call at status.Usage text (λ e. cc) h)
+  whole_printed status.Schema text h = inl (by_end call at status.Schema text (λ e. cc) h)
+  whole_printed status.Perturbation text h = inl (by_end call at status.Perturbation text (λ e. cc) h)
+  whole_printed status.Microdata text h = inl (by_end call at status.Microdata text (λ e. cc) h)
+  whole_printed status.Script text h = inl (by_end call at status.Script text (λ e. cc) h)
+  whole_printed status.ReadFault text h = inl (by_end call at status.ReadFault text (λ e. cc) h)
+  whole_printed status.WriteFault text h = absurd h
+  whole_printed status.Memory text (h, idle) = memory text h
+  whole_printed status.NetFault text h = inr (asked status.NetFault text h)
+  whole_printed status.Journal text h = inl (by_journal call at status.Journal text (λ e. cc) h)
+  whole_printed status.DiskFault text (inl h) = inl (by_journal call at status.DiskFault text (λ e. cc) h)
+  whole_printed status.DiskFault text (inr h) = inr (asked status.DiskFault text h)
+  whole_printed status.Units text h = inl (by_end call at status.Units text (λ e. cc) h)
+
+  -- all of it was taken, or, where a write failed, a beginning
+  pub printed : (s : Status) → Tells call at s → HasPrinted call s IsAnswer
+  printed s (bytes, inl whole, took) =
+      (bytes, [], took, inl refl, whole_printed s (bytes ++ []) (subst (λ (t : List ℕ). IsWhole call at s t) (sym (append-nil bytes)) whole))
+  printed s (bytes, inr (failed, (cause, rest, whole)), took) = (
+    bytes,
+    rest,
+    took,
+    inr failed,
+    elim (whole_printed cause (bytes ++ rest) whole) [
+      | inl last ↦ inl (write_fault s failed, last.1, last.2)
+      | inr answer ↦ inr answer
+    ],
+  )
+
+module _ (never_fall : NumbersNeverFall) (call : Call) (at : List ℕ → Option (List ℕ)) (census : CensusValue) (script : ScriptValue)
+    (who : Owner) (own : who ≢ owner.Leader) (asks : asked_of at call.words ≡ Ok (asked_with census who (lines.Script script))) where
+  -- a custodian's, with a journal or without one
+  output_along : (it : Owner) (s : Status) (text : List ℕ) → it ≢ owner.Leader
+      → IsOutput (asked_with census it (lines.Script script)) call.ports call.ports_after s text → IsScriptAlong census script text
+  output_along owner.Custodian s text other (done, (replies, are, is)) = script_along never_fall census script replies text are is
+  output_along (owner.Journal journal) s text other (done, (replies, are, is)) = keep_along never_fall census script replies text are is
+  output_along owner.Leader s text other out = absurd (other refl)
+
+  asked_along : (s : Status) (text : List ℕ) → IsAskedOutput call at s text → IsScriptAlong census script text
+  asked_along s text (other, h, out) =
+      let same : other ≡ asked_with census who (lines.Script script) = cc (h, asks) in
+      output_along who s text own (subst (λ (a : AskedValue). IsOutput a call.ports call.ports_after s text) same out)
 
   -- nothing stands before the line that tells that memory ran out
-  no_phases : (other : AskedValue) (text : List ℕ) → AsksScript call at census script → asked_of at call.words ≡ Ok other → IsOutputToMemory other text → ⊥
-  no_phases other text (inl asked) h out =
-      let same : other ≡ Script census script = cc (h, asked) in
-      subst (λ (a : AskedValue). IsOutputToMemory a text) same out
-  no_phases other text (inr (journal, asked)) h out =
-      let same : other ≡ Keep census journal script = cc (h, asked) in
-      subst (λ (a : AskedValue). IsOutputToMemory a text) same out
+  by_memory : (text : List ℕ) → IsMemoryText call at text → IsLast status.Memory text
+  by_memory text (inl line) = (λ e. cc, status.Memory, inl (end.Memory, refl, line))
+  by_memory text (inr (other, h, out)) =
+      let same : other ≡ asked_with census who (lines.Script script) = cc (h, asks) in
+      absurd (subst (λ (a : AskedValue). IsOutputToMemory a text) same out)
 
-  module _ (asks : AsksScript call at census script) where
-    asked_along : (s : Status) (text : List ℕ) → IsAskedOutput call at s text → IsScriptAlong census script text
-    asked_along s text (other, h, out) = (output_along other s text asks h out).1
-
-    by_memory : (text : List ℕ) → IsMemoryText call at text → IsLast status.Memory text
-    by_memory text (inl line) = (λ e. cc, status.Memory, inl (end.Memory, refl, line))
-    by_memory text (inr (other, h, out)) = absurd (no_phases other text asks h out)
-
-    whole_along : (cause : Status) (text : List ℕ) → IsWhole call at cause text → IsLast cause text ⊎ IsScriptAlong census script text
-    whole_along status.Done text h = inr (asked_along status.Done text h)
-    whole_along status.Usage text h = inl (by_end call at status.Usage text (λ e. cc) h)
-    whole_along status.Schema text h = inl (by_end call at status.Schema text (λ e. cc) h)
-    whole_along status.Perturbation text h = inl (by_end call at status.Perturbation text (λ e. cc) h)
-    whole_along status.Microdata text h = inl (by_end call at status.Microdata text (λ e. cc) h)
-    whole_along status.Script text h = inl (by_end call at status.Script text (λ e. cc) h)
-    whole_along status.ReadFault text h = inl (by_end call at status.ReadFault text (λ e. cc) h)
-    whole_along status.WriteFault text h = absurd h
-    whole_along status.Memory text (h, idle) = inl (by_memory text h)
-    whole_along status.NetFault text h = inr (asked_along status.NetFault text h)
-    whole_along status.Journal text h = inl (by_journal call at status.Journal text (λ e. cc) h)
-    whole_along status.DiskFault text (inl h) = inl (by_journal call at status.DiskFault text (λ e. cc) h)
-    whole_along status.DiskFault text (inr h) = inr (asked_along status.DiskFault text h)
-    whole_along status.Units text h = inl (by_end call at status.Units text (λ e. cc) h)
-
-    -- all of it was taken, or, where a write failed, a beginning
-    printed : (s : Status) → Tells call at s → HasPrinted call s (IsScriptAlong census script)
-    printed s (bytes, inl whole, took) =
-        (bytes, [], took, inl refl, whole_along s (bytes ++ []) (subst (λ (t : List ℕ). IsWhole call at s t) (sym (append-nil bytes)) whole))
-    printed s (bytes, inr (failed, (cause, rest, whole)), took) = (
-      bytes,
-      rest,
-      took,
-      inr failed,
-      elim (whole_along cause (bytes ++ rest) whole) [
-        | inl last ↦ inl (write_fault s failed, last.1, last.2)
-        | inr along ↦ inr along
-      ],
-    )
-
-pub headline_holds : NumbersNeverFall → TableShowsWorlds → (call : Call) (s : Status) → Keeps call s → EachTableIsCounted call s
-headline_holds never_fall shows call s keeps = (
-  where_told (λ at. Tells call at s)
-      (λ at. (census : CensusValue) (script : ScriptValue) → AsksScript call at census script → HasPrinted call s (IsScriptAlong census script))
-      call.content (λ at tells census script asks. printed never_fall call at census script asks s tells) keeps.text,
-  shows,
-  worlds_show_the_same,
-)
+  pub script_printed : (s : Status) → Tells call at s → HasPrinted call s (IsScriptAlong census script)
+  script_printed = printed call at (IsScriptAlong census script) asked_along (λ text h. inl (by_memory text h))

@@ -1,7 +1,6 @@
 -- What a call keeps says that each table that a lane prints is counted over one release of the one chain.
 use Rattle.std.proofs.Common.{◌≡◌, sym, subst, refl, ℕ, zero, suc, ◌<◌, List, [], ◌++◌, length, arith, below_more, inl, inr}
 use Rattle.std.specs.Prelude.{◌⊎◌, Option, Ok}
-use Rattle.std.proofs.lemmas.List.{append-nil}
 use mathlib.Core.List.{IsPrefix}
 use Rattle.tb_ahead.specs.Publishing.{after_seeing}
 use Rattle.tb_base.specs.declared.status.Status.{Status}
@@ -18,16 +17,17 @@ use Rattle.tb_session.specs.Laws.{NumbersNeverFall}
 use Rattle.tb_session.specs.Transcripts.{IsLegal, IsStep}
 use Rattle.tb_session.specs.declared.party.Role.{Role}
 use Rattle.tb_session.specs.declared.party.Role.TheVariants as role
-use Rattle.tb_top.specs.Asking.{AskedValue, CensusValue, Lanes, asked_of, base_of}
+use Rattle.tb_top.specs.Asking.{AskedValue, CensusValue, asked_of, asked_with, base_of}
+use Rattle.tb_top.specs.declared.asked.AskedLines.TheVariants as lines
+use Rattle.tb_command.specs.declared.command.Owner.{Owner}
 use Rattle.tb_top.specs.Calls.{Call}
-use Rattle.tb_top.specs.Headline.{HasPrinted, IsAlong}
-use Rattle.tb_top.specs.HeadlineLanes.{ArePhasesAlong, EachLaneIsCounted, PhasesAlong}
+use Rattle.tb_top.specs.Counted.{IsAlong}
+use Rattle.tb_top.specs.Talks.{ArePhasesAlong, HasPrinted, PhasesAlong}
 use Rattle.tb_top.specs.LaneOutputs.{IsTextOfPhases}
 use Rattle.tb_top.specs.Outputs.{IsOutput, IsOutputToMemory}
-use Rattle.tb_top.specs.Promises.{IsAskedOutput, IsMemoryText, IsWhole, Keeps, Tells}
-use Rattle.tb_top.proofs.Headline.{IsLast, by_end, by_journal, lines_along, lines_grow, step_counts, write_fault}
+use Rattle.tb_top.specs.Promises.{IsAskedOutput, IsMemoryText, Tells}
+use Rattle.tb_top.proofs.Headline.{IsLast, lines_along, lines_grow, printed, step_counts}
 use Rattle.tb_top.proofs.HeadlineSessions.{chain_of, own_grows}
-use Rattle.tb_top.proofs.Telling.{where_told}
 
 -- what a lane has seen between two phases
 abbrev seen_by : Role → Standing → ℕ → List BatchValue
@@ -145,52 +145,19 @@ module _ (never_fall : NumbersNeverFall) (census : CensusValue) (script : Script
   )
 
 -- ---- a whole run
-module _ (never_fall : NumbersNeverFall) (call : Call) (at : List ℕ → Option (List ℕ)) (census : CensusValue) (script : ScriptValue)
-    (asks : asked_of at call.words ≡ Ok (Lanes census script)) where
+module _ (never_fall : NumbersNeverFall) (call : Call) (at : List ℕ → Option (List ℕ)) (census : CensusValue) (who : Owner)
+    (script : ScriptValue) (asks : asked_of at call.words ≡ Ok (asked_with census who (lines.Lanes script))) where
   asked_lanes : (s : Status) (text : List ℕ) → IsAskedOutput call at s text → ArePhasesAlong census script text
   asked_lanes s text (other, h, out) =
-      let same : other ≡ Lanes census script = cc (h, asks) in
+      let same : other ≡ asked_with census who (lines.Lanes script) = cc (h, asks) in
       all_along never_fall census script text (subst (λ (a : AskedValue). IsOutput a call.ports call.ports_after s text) same out).1
 
   memory_lanes : (text : List ℕ) → IsMemoryText call at text → IsLast status.Memory text ⊎ ArePhasesAlong census script text
   memory_lanes text (inl line) = inl (λ e. cc, status.Memory, inl (end.Memory, refl, line))
   memory_lanes text (inr (other, h, out)) =
-      let same : other ≡ Lanes census script = cc (h, asks) in
-      let (n, before, low, phases, line) : IsOutputToMemory (Lanes census script) text = subst (λ (a : AskedValue). IsOutputToMemory a text) same out in
+      let same : other ≡ asked_with census who (lines.Lanes script) = cc (h, asks) in
+      let (n, before, low, phases, line) : IsOutputToMemory (asked_with census who (lines.Lanes script)) text = subst (λ (a : AskedValue). IsOutputToMemory a text) same out in
       inr (some_along never_fall census script n before text phases line)
 
-  whole_lanes : (cause : Status) (text : List ℕ) → IsWhole call at cause text → IsLast cause text ⊎ ArePhasesAlong census script text
-  whole_lanes status.Done text h = inr (asked_lanes status.Done text h)
-  whole_lanes status.Usage text h = inl (by_end call at status.Usage text (λ e. cc) h)
-  whole_lanes status.Schema text h = inl (by_end call at status.Schema text (λ e. cc) h)
-  whole_lanes status.Perturbation text h = inl (by_end call at status.Perturbation text (λ e. cc) h)
-  whole_lanes status.Microdata text h = inl (by_end call at status.Microdata text (λ e. cc) h)
-  whole_lanes status.Script text h = inl (by_end call at status.Script text (λ e. cc) h)
-  whole_lanes status.ReadFault text h = inl (by_end call at status.ReadFault text (λ e. cc) h)
-  whole_lanes status.WriteFault text h = absurd h
-  whole_lanes status.Memory text (h, unserved) = memory_lanes text h
-  whole_lanes status.NetFault text h = inr (asked_lanes status.NetFault text h)
-  whole_lanes status.Journal text h = inl (by_journal call at status.Journal text (λ e. cc) h)
-  whole_lanes status.DiskFault text (inl h) = inl (by_journal call at status.DiskFault text (λ e. cc) h)
-  whole_lanes status.DiskFault text (inr h) = inr (asked_lanes status.DiskFault text h)
-  whole_lanes status.Units text h = inl (by_end call at status.Units text (λ e. cc) h)
-
-  lanes_printed : (s : Status) → Tells call at s → HasPrinted call s (ArePhasesAlong census script)
-  lanes_printed s (bytes, inl whole, took) =
-      (bytes, [], took, inl refl, whole_lanes s (bytes ++ []) (subst (λ (t : List ℕ). IsWhole call at s t) (sym (append-nil bytes)) whole))
-  lanes_printed s (bytes, inr (failed, (cause, rest, whole)), took) = (
-    bytes,
-    rest,
-    took,
-    inr failed,
-    elim (whole_lanes cause (bytes ++ rest) whole) [
-      | inl last ↦ inl (write_fault s failed, last.1, last.2)
-      | inr along ↦ inr along
-    ],
-  )
-
-pub lanes_hold : NumbersNeverFall → (call : Call) (s : Status) → Keeps call s → EachLaneIsCounted call s
-lanes_hold never_fall call s keeps =
-    where_told (λ at. Tells call at s)
-    (λ at. (census : CensusValue) (script : ScriptValue) → asked_of at call.words ≡ Ok (Lanes census script) → HasPrinted call s (ArePhasesAlong census script))
-    call.content (λ at tells census script asks. lanes_printed never_fall call at census script asks s tells) keeps.text
+  pub lanes_printed : (s : Status) → Tells call at s → HasPrinted call s (ArePhasesAlong census script)
+  lanes_printed = printed call at (ArePhasesAlong census script) asked_lanes memory_lanes

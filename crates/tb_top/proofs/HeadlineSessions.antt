@@ -1,6 +1,6 @@
 -- What a call keeps says that each table that a session prints is counted over one release of the one chain.
-use Rattle.std.proofs.Common.{◌≡◌, sym, ap, subst, refl, ℕ, zero, suc, ◌+◌, ◌<◌, List, [], ◌∷◌, ◌++◌, length, take, get_or, arith, inl, inr}
-use Rattle.std.specs.Prelude.{Option, None, Some, Ok, IfSome}
+use Rattle.std.proofs.Common.{◌≡◌, ◌∙◌, sym, true≢false, false, ap, subst, refl, ℕ, zero, suc, ◌+◌, ◌<◌, List, [], ◌∷◌, ◌++◌, length, take, get_or, arith, inl, inr}
+use Rattle.std.specs.Prelude.{◌≢◌, ◌⊎◌, Option, Ok}
 use Rattle.std.proofs.lemmas.List.{get_or-take}
 use mathlib.Core.List.{IsPrefix}
 use Rattle.tb_ahead.specs.Keeping.{KeptState}
@@ -32,15 +32,18 @@ use Rattle.tb_session.specs.declared.party.Role.{Role}
 use Rattle.tb_session.specs.declared.party.Role.TheVariants as role
 use Rattle.tb_worker.specs.Visits.{AreVisits, Visit}
 use Rattle.tb_worker.proofs.Visiting.{replied}
-use Rattle.tb_top.specs.Asking.{AskedValue, CensusValue, Host, Mirror, Serve, asked_of, base_of}
+use Rattle.tb_top.specs.Asking.{AskedValue, CensusValue, asked_of, asked_with, base_of, is_keep}
+use Rattle.tb_top.specs.declared.asked.AskedLines.TheVariants as lines
+use Rattle.tb_command.specs.declared.command.Owner.{Owner}
+use Rattle.tb_command.specs.declared.command.Owner.TheVariants as owner
 use Rattle.tb_top.specs.Calls.{Call, output_of}
-use Rattle.tb_top.specs.Headline.{IsAlong}
-use Rattle.tb_top.specs.HeadlineSessions.{AreMirrorSessionsAlong, AreSessionsAlong, AsksSessions, EachSessionIsCounted, IsMirrorPortAlong, IsPortAlong}
+use Rattle.tb_top.specs.Counted.{IsAlong}
+use Rattle.tb_top.specs.Talks.{ArePortsAlong, IsPortAlong}
 use Rattle.tb_top.specs.HostOutputs.{IsHostAnswered}
 use Rattle.tb_top.specs.MirrorOutputs.{IsMirrorOutput}
 use Rattle.tb_top.specs.Outputs.{IsOutput}
-use Rattle.tb_top.specs.Promises.{IsAskedOutput, IsHostKept, IsJournalText, IsLastLine, IsWhole, Keeps, Tells}
-use Rattle.tb_top.specs.ServicePorts.{Service}
+use Rattle.tb_top.specs.Promises.{IsAskedOutput, IsHostKept, IsJournalText, IsLastLine, IsWhole, Tells}
+use Rattle.tb_command.specs.ServicePorts.{Service}
 use Rattle.tb_top.specs.Services.{IsServiceOutput, IsUnserved, ports_of}
 use Rattle.tb_top.proofs.Headline.{IsOne, all_follow, custodian_counts, custodian_grows, lines_along, lines_begin, lines_grow, reply_grows, same_grows, step_counts}
 use Rattle.tb_top.proofs.PortLemmas.{all-unserved, each-unserved}
@@ -142,15 +145,24 @@ module _ (never_fall : NumbersNeverFall) (census : CensusValue) (most : ℕ) whe
       (visits_grow (base_of census) chain_of let_go (IsStep role.Custodian census.setup (base_of census)) (λ s. refl) (own_grows census.setup (base_of census))
       (after_seeing []) h.last h.visited.visits h.visited.lead tt)
 
+  -- what a port tells, by who owns the chain
+  abbrev By : Owner → (chain : List BatchValue) → ℕ → (before after : PortValue) → Type 0
+  By who chain i before after = (who ≢ owner.Leader) ⊎ (i ≢ 0) → IsPortAlong census most chain i before after
+
+  -- those of all ports, along one chain
+  abbrev pub Along : Owner → (before after : List PortValue) → Type 0
+  Along who before after =
+      (c : List BatchValue) × (who ≢ owner.Leader → IsChain (base_of census) c) × Each (By who c) before after
+
   serve_along : (port : ℕ) (chain : List BatchValue) (before after : List PortValue) → Each (IsPortServed census.setup (base_of census) port most chain) before after
-      → (c : List BatchValue) × IsChain (base_of census) c × Each (IsPortAlong census most c) before after
-  serve_along port chain [] after each = ([], tt, record { same_length = each.same_length; at = λ i d below. absurd (omega arith) })
+      → Along owner.Custodian before after
+  serve_along port chain [] after each = ([], λ own. tt, record { same_length = each.same_length; at = λ i d below. absurd (omega arith) })
   serve_along port chain (p ∷ ps) after each = (
     chain,
-    custodian_chain chain p (get_or after zero p) (each.at zero p (omega arith)).sessions,
+    λ own. custodian_chain chain p (get_or after zero p) (each.at zero p (omega arith)).sessions,
     record {
       same_length = each.same_length;
-      at = λ i d below. served_along [] chain i (get_or (p ∷ ps) i d) (get_or after i d) (each.at i d below).sessions;
+      at = λ i d below other. served_along [] chain i (get_or (p ∷ ps) i d) (get_or after i d) (each.at i d below).sessions;
     },
   )
 
@@ -167,36 +179,41 @@ module _ (never_fall : NumbersNeverFall) (census : CensusValue) (most : ℕ) whe
   )
   hosted_along batches moment faults last (suc i) before after h = served_along (batches_of (base_of census) batches) last.state.chain (suc i) before after h
 
-  host_along : (batches : List (List Edit)) (moment faults : ℕ) (last : KeptState) (before after : List PortValue)
+  host_along : (journal : List ℕ) (batches : List (List Edit)) (moment faults : ℕ) (last : KeptState) (before after : List PortValue)
       → IsChain (base_of census) (batches_of (base_of census) batches)
       → Each (IsHosted census.setup (base_of census) most (after_playing (base_of census) batches moment faults) last) before after
-      → (c : List BatchValue) × IsChain (base_of census) c × Each (IsPortAlong census most c) before after
-  host_along batches moment faults last [] after follow each = ([], tt, record { same_length = each.same_length; at = λ i d below. absurd (omega arith) })
-  host_along batches moment faults last (p ∷ ps) after follow each =
+      → Along (owner.Journal journal) before after
+  host_along journal batches moment faults last [] after follow each = ([], λ own. tt, record { same_length = each.same_length; at = λ i d below. absurd (omega arith) })
+  host_along journal batches moment faults last (p ∷ ps) after follow each =
       let own : IsVisited (Lead (IsOwnKeptStep census.setup (base_of census))) at_session most (after_playing (base_of census) batches moment faults) last p (get_or after zero p) =
       each.at zero p (omega arith) in (
         last.state.chain,
-        visits_grow (base_of census) kept_chain at_session (IsOwnKeptStep census.setup (base_of census)) (λ s. refl) (kept_own_grows census.setup (base_of census))
+        λ own_chain. visits_grow (base_of census) kept_chain at_session (IsOwnKeptStep census.setup (base_of census)) (λ s. refl) (kept_own_grows census.setup (base_of census))
             (after_playing (base_of census) batches moment faults) last own.visits own.lead follow,
         record {
           same_length = each.same_length;
-          at = λ i d below. hosted_along batches moment faults last i (get_or (p ∷ ps) i d) (get_or after i d) (each.at i d below);
+          at = λ i d below other. hosted_along batches moment faults last i (get_or (p ∷ ps) i d) (get_or after i d) (each.at i d below);
         },
       )
 
   -- a mirror's port
   mirror_port : (port : ℕ) (last : LaneValue) (i : ℕ) (before after : PortValue) → IsPortMirrored census.setup (base_of census) port most last i before after
-      → IsMirrorPortAlong census most last.follower.chain.batches i before after
-  mirror_port port last zero before after h = tt
-  mirror_port port last (suc i) before after h = served_along [] last.follower.chain.batches (suc i) before after h.sessions
+      → By owner.Leader last.follower.chain.batches i before after
+  mirror_port port last zero before after h (inl other) = absurd (other refl)
+  mirror_port port last zero before after h (inr other) = absurd (other refl)
+  mirror_port port last (suc i) before after h other = served_along [] last.follower.chain.batches (suc i) before after h.sessions
 
   -- and all of them
   mirrored_along : (port : ℕ) (last : LaneValue) (before after : List PortValue) → Each (IsPortMirrored census.setup (base_of census) port most last) before after
-      → Each (IsMirrorPortAlong census most last.follower.chain.batches) before after
-  mirrored_along port last before after each = record {
-    same_length = each.same_length;
-    at = λ i d below. mirror_port port last i (get_or before i d) (get_or after i d) (each.at i d below);
-  }
+      → Along owner.Leader before after
+  mirrored_along port last before after each = (
+    last.follower.chain.batches,
+    λ own. absurd (own refl),
+    record {
+      same_length = each.same_length;
+      at = λ i d below other. mirror_port port last i (get_or before i d) (get_or after i d) (each.at i d below) other;
+    },
+  )
 
 -- ---- ports at which no session came or went
 take_lengths : (n : ℕ) (xs ys : List PortValue) → length ys ≡ length xs → length (take n ys) ≡ length (take n xs)
@@ -224,6 +241,13 @@ take_unserved n ports ports' each = record {
 }
 
 -- ---- a whole run
+-- where no journal is asked for none is told of
+no_journal : (call : Call) (at : List ℕ → Option (List ℕ)) (task : AskedValue) → asked_of at call.words ≡ Ok task → is_keep task ≡ false
+    → (s : Status) (text : List ℕ) → IsJournalText call at s text → ⊥
+no_journal call at task asks none s text (census, journal, (ls, h), line) =
+    let same : asked_with census (owner.Journal journal) ls ≡ task = cc (h, asks) in
+    true≢false (ap is_keep same ∙ none)
+
 -- of sessions without a journal: where a run of them came to its end, none came or went or its output tells of them
 module _ (call : Call) (at : List ℕ → Option (List ℕ)) (task : AskedValue) (asks : asked_of at call.words ≡ Ok task) (Told : Type 0)
     (none : call.ports_after ≡ call.ports → Told) (unserved : Each (λ _. IsUnserved) call.ports call.ports_after → Told)
@@ -270,70 +294,53 @@ module _ (never_fall : NumbersNeverFall) (call : Call) (at : List ℕ → Option
   none_served : Each (λ _. IsUnserved) call.ports call.ports_after → Each (λ _. IsUnserved) before after
   none_served each = take_unserved (service.workers + 1) call.ports call.ports_after each
 
-  service_along : (s : Status) (text : List ℕ) → IsServiceOutput census service call.ports call.ports_after s text → AreSessionsAlong census service before after
+  service_along : (s : Status) (text : List ℕ) → IsServiceOutput census service call.ports call.ports_after s text → ArePortsAlong owner.Custodian census service before after
   service_along s text (inl (chain, served, is, report)) = inl (serve_along never_fall census service.sessions service.port chain before after served.0)
   service_along s text (inr (untouched, rose, is, line)) = inr (each-unserved service.port before after untouched.0)
 
-  serve_unkept : asked_of at call.words ≡ Ok (Serve census service) → (s : Status) (text : List ℕ) → IsJournalText call at s text → AreSessionsAlong census service before after
-  serve_unkept asks s text (other, journal, inl (script, h), line) = absurd (cc (h, asks))
-  serve_unkept asks s text (other, journal, inr (service', h), line) = absurd (cc (h, asks))
+  abbrev serves : AskedValue
+  serves = asked_with census owner.Custodian (lines.Ports service)
 
-  serve_sessions : (s : Status) → asked_of at call.words ≡ Ok (Serve census service) → Tells call at s → AreSessionsAlong census service before after
+  serve_sessions : (s : Status) → asked_of at call.words ≡ Ok serves → Tells call at s → ArePortsAlong owner.Custodian census service before after
   serve_sessions s asks tells =
-      run_told call at (Serve census service) asks (AreSessionsAlong census service before after) (λ same. inr (none_came same)) (λ each. inr (none_served each))
-      service_along (serve_unkept asks) s tells
+      run_told call at serves asks (ArePortsAlong owner.Custodian census service before after) (λ same. inr (none_came same)) (λ each. inr (none_served each))
+      service_along (λ s text h. absurd (no_journal call at serves asks refl s text h)) s tells
 
-  mirror_along : (s : Status) (text : List ℕ) → IsMirrorOutput census service call.ports call.ports_after s text → AreMirrorSessionsAlong census service before after
+  mirror_along : (s : Status) (text : List ℕ) → IsMirrorOutput census service call.ports call.ports_after s text → ArePortsAlong owner.Leader census service before after
   mirror_along s text (inl (last, served, is, report)) =
-      inl (last.follower.chain.batches, mirrored_along never_fall census service.sessions service.port last before after served.0)
+      inl (mirrored_along never_fall census service.sessions service.port last before after served.0)
   mirror_along s text (inr (untouched, rose, is, line)) = inr (each-unserved service.port before after untouched.0)
 
-  mirror_unkept : asked_of at call.words ≡ Ok (Mirror census service) → (s : Status) (text : List ℕ) → IsJournalText call at s text → AreMirrorSessionsAlong census service before after
-  mirror_unkept asks s text (other, journal, inl (script, h), line) = absurd (cc (h, asks))
-  mirror_unkept asks s text (other, journal, inr (service', h), line) = absurd (cc (h, asks))
+  abbrev mirrors : AskedValue
+  mirrors = asked_with census owner.Leader (lines.Ports service)
 
-  mirror_sessions : (s : Status) → asked_of at call.words ≡ Ok (Mirror census service) → Tells call at s → AreMirrorSessionsAlong census service before after
+  mirror_sessions : (s : Status) → asked_of at call.words ≡ Ok mirrors → Tells call at s → ArePortsAlong owner.Leader census service before after
   mirror_sessions s asks tells =
-      run_told call at (Mirror census service) asks (AreMirrorSessionsAlong census service before after) (λ same. inr (none_came same)) (λ each. inr (none_served each))
-      mirror_along (mirror_unkept asks) s tells
+      run_told call at mirrors asks (ArePortsAlong owner.Leader census service before after) (λ same. inr (none_came same)) (λ each. inr (none_served each))
+      mirror_along (λ s text h. absurd (no_journal call at mirrors asks refl s text h)) s tells
 
   -- with a journal
   hosts_along : (journal : List ℕ) (s : Status) → IsHostAnswered census service journal call.ports call.ports_after s (output_of call) call.disk
-      → AreSessionsAlong census service before after
+      → ArePortsAlong (owner.Journal journal) census service before after
   hosts_along journal s (long, others, inl (same, still, ended)) = inr (all-unserved before after same)
   hosts_along journal s (long, others, inr (inl (fault, same, left, refused, ended))) = inr (all-unserved before after same)
   hosts_along journal s (long, others, inr (inr (inl (none, left)))) = inr (each-unserved service.port before after none.0)
   hosts_along journal s (long, others, inr (inr (inr (inl (same, rose, stood, ended))))) = inr (all-unserved before after same)
   hosts_along journal s (long, others, inr (inr (inr (inr (inl (unbound, recovered)))))) = inr (each-unserved service.port before after unbound.0)
   hosts_along journal s (long, others, inr (inr (inr (inr (inr all))))) =
-      inl (host_along never_fall census service.sessions all.batches all.first_moment all.first_faults all.hosted.last before after
+      inl (host_along never_fall census service.sessions journal all.batches all.first_moment all.first_faults all.hosted.last before after
       (all_follow census.setup (base_of census) all.batches all.recovered.follow) all.hosted.sessions)
 
-  host_sessions : (s : Status) (journal : List ℕ) → asked_of at call.words ≡ Ok (Host census journal service) → IsHostKept call at s
-      → AreSessionsAlong census service before after
+  host_sessions : (s : Status) (journal : List ℕ) → asked_of at call.words ≡ Ok (asked_with census (owner.Journal journal) (lines.Ports service)) → IsHostKept call at s
+      → ArePortsAlong (owner.Journal journal) census service before after
   host_sessions s journal asks kept = elim (kept census journal service asks) [
     | inl answered ↦ hosts_along journal s answered
     | inr ended ↦ inr (none_came ended.0)
   ]
 
-  either : (s : Status) → AsksSessions call at census service → Tells call at s → IsHostKept call at s → AreSessionsAlong census service before after
-  either s (inl asks) tells kept = serve_sessions s asks tells
-  either s (inr (journal, asks)) tells kept = host_sessions s journal asks kept
-
--- what is told of two things is told of both
-both_told : {A : Type 0} (P Q R : A → Type 0) (o : Option A) → ((x : A) → P x → Q x → R x) → IfSome o P → IfSome o Q → IfSome o R
-both_told P Q R None f p q = tt
-both_told P Q R (Some x) f p q = f x p q
-
-pub sessions_hold : NumbersNeverFall → (call : Call) (s : Status) → Keeps call s → EachSessionIsCounted call
-sessions_hold never_fall call s keeps =
-    both_told (λ at. Tells call at s) (λ at. IsHostKept call at s)
-    (λ at. (census : CensusValue) (service : Service)
-    → (AsksSessions call at census service
-    → AreSessionsAlong census service (ports_of service call.ports) (ports_of service call.ports_after))
-    × (asked_of at call.words ≡ Ok (Mirror census service)
-    → AreMirrorSessionsAlong census service (ports_of service call.ports) (ports_of service call.ports_after)))
-    call.content
-    (λ at tells kept census service.
-    (λ asks. either never_fall call at census service s asks tells kept, λ asks. mirror_sessions never_fall call at census service s asks tells))
-    keeps.text keeps.hosted
+  -- whoever owns the chain
+  pub sessions_along : (s : Status) (who : Owner) → asked_of at call.words ≡ Ok (asked_with census who (lines.Ports service)) → Tells call at s
+      → IsHostKept call at s → ArePortsAlong who census service before after
+  sessions_along s owner.Custodian asks tells kept = serve_sessions s asks tells
+  sessions_along s (owner.Journal journal) asks tells kept = host_sessions s journal asks kept
+  sessions_along s owner.Leader asks tells kept = mirror_sessions s asks tells

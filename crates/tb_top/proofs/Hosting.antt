@@ -20,16 +20,19 @@ use Rattle.tb_serve.specs.Reports.{memory_line, net_line, some_failed}
 use Rattle.tb_serve.specs.Serves.{IsEnded, Output, final_status, output}
 use Rattle.tb_serve.specs.Stages.{HasRisenSome, IsFresh, IsUntouched}
 use Rattle.tb_worker.specs.Work.{IsEnough}
-use Rattle.tb_top.specs.Asking.{AskedValue, CensusValue, Host, asked_of, base_of}
+use Rattle.tb_top.specs.Asking.{AskedValue, CensusValue, asked_of, asked_with, base_of}
+use Rattle.tb_top.specs.declared.asked.AskedLines.TheVariants as lines
+use Rattle.tb_command.specs.declared.command.Owner.TheVariants as owner
 use Rattle.tb_top.specs.Calls.{Call, NetFailed, output_of}
-use Rattle.tb_top.specs.Commands.{asks_to_generate, asks_to_keep, asks_to_serve, command_of}
+use Rattle.tb_command.specs.Commands.{asks_to_generate, asks_to_keep, asks_to_serve, command_of}
 use Rattle.tb_top.specs.HostOutputs.{IsFileRefused, IsHostAnswered, IsHostOutput, IsHostRun, file_seen, host_report, host_status}
 use Rattle.tb_top.specs.KeepOutputs.{HasFailed, IsStill, disk_line, journal_line}
-use Rattle.tb_top.specs.Loading.{IsBase, census_over}
+use Rattle.tb_top.specs.Asking.{census_over}
+use Rattle.tb_top.specs.Loading.{IsBase}
 use Rattle.tb_top.specs.Promises.{IsWhole, Keeps}
-use Rattle.tb_top.specs.ServicePorts.{Service}
+use Rattle.tb_command.specs.ServicePorts.{Service}
 use Rattle.tb_top.specs.Services.{IsIdle, ports_of}
-use Rattle.tb_top.specs.declared.command.Command.{Command}
+use Rattle.tb_command.specs.declared.command.Command.{Command}
 use Rattle.tb_top.proofs.Boards.{same-base}
 use Rattle.tb_top.proofs.DiskKept.{KeepsDisk, served-on-disk}
 use Rattle.tb_top.proofs.Earlier.{earlier, stands-earlier, stays-earlier, until-earlier}
@@ -125,13 +128,13 @@ left-idle port ports ports' each = λ i d below.
 
 module _ (call : Call) (command : Command) (census : CensusValue) (journal : List ℕ) (service : Service) (s : Status)
     (named : command_of call.words ≡ Some command) (serves : asks_to_serve (Some command) ≡ true) (keeps : asks_to_keep (Some command) ≡ true)
-    (told : IfSome call.content (λ at. asked_of at call.words ≡ Ok (Host census journal service))) (free : call.steps_after ≡ call.steps)
+    (told : IfSome call.content (λ at. asked_of at call.words ≡ Ok (asked_with census (owner.Journal journal) (lines.Ports service)))) (free : call.steps_after ≡ call.steps)
     (fresh : All IsFresh call.ports) (answered : IsHostAnswered census service journal call.ports call.ports_after s (output_of call) call.disk) where
   abbrev n : ℕ
   n = service.workers + 1
 
   abbrev task : AskedValue
-  task = Host census journal service
+  task = asked_with census (owner.Journal journal) (lines.Ports service)
 
   abbrev saw : JournalSeen
   saw = file_seen call.disk journal
@@ -152,7 +155,11 @@ module _ (call : Call) (command : Command) (census : CensusValue) (journal : Lis
   not_generated final h = absurd (serves-alone command serves h)
 
   on_disk : KeepsDisk call s
-  on_disk = served-on-disk call task s told refl (ap asks_to_keep named ∙ keeps) answered
+  on_disk = served-on-disk call task s told refl (ap asks_to_keep named ∙ keeps)
+      (λ name other its_owner its_lines.
+      let one : journal ≡ name = cc in
+      let two : service ≡ other = cc in
+      rw (← one, ← two) answered)
 
   -- one of its last lines was written
   by_line : (text : List ℕ) (final : Status) → IsFinal final → (final ≡ status.NetFault → NetFailed call)
@@ -178,7 +185,7 @@ module _ (call : Call) (command : Command) (census : CensusValue) (journal : Lis
   by_refused : IsFileRefused census (ports_of service call.ports) (ports_of service call.ports_after) saw (output_of call) s → Keeps call s
   by_refused (fault, same, left, refused, ended) =
       by_same (journal_line fault) status.Journal tt (λ h. cc) (λ h. cc) (all-same n call.ports call.ports_after same rest)
-      (λ at h. (census, journal, inr (service, h), inl (fault, refused, left, refl, refl))) ended
+      (λ at h. (census, journal, (lines.Ports service, h), inl (fault, refused, left, refl, refl))) ended
 
   -- nothing was accepted
   by_untouched : (text : List ℕ) (final : Status) → IsFinal final → Each (IsUntouched service.port) (take n call.ports) (take n call.ports_after)
@@ -263,7 +270,7 @@ module _ (call : Call) (command : Command) (census : CensusValue) (journal : Lis
   by_run (inr (inl ((each, ended), left))) = by_no_memory each ended
   by_run (inr (inr (inl (same, rose, stands, ended)))) =
       by_same disk_line status.DiskFault tt (λ h. cc) (λ h. rose) (all-same n call.ports call.ports_after same rest)
-      (λ at h. inl (census, journal, inr (service, h), inr (rose, stands, refl, refl))) ended
+      (λ at h. inl (census, journal, (lines.Ports service, h), inr (rose, stands, refl, refl))) ended
   by_run (inr (inr (inr (inl ((each, rose, ended), recovered))))) = by_unbound each rose ended
   by_run (inr (inr (inr (inr all)))) = by_all all
 

@@ -11,17 +11,19 @@ use Rattle.tb_lines.specs.Outputs.{ReplyValue, price_of, text_of}
 use Rattle.tb_script.specs.Scripts.{ScriptValue}
 use Rattle.tb_serve.specs.Serves.{IsEnded}
 use Rattle.tb_serve.specs.Stages.{IsFresh}
-use Rattle.tb_top.specs.declared.command.Command.{Command}
-use Rattle.tb_top.specs.declared.command.Command.TheVariants as command
+use Rattle.tb_command.specs.declared.command.Command.{Command}
+use Rattle.tb_command.specs.declared.command.Command.TheVariants as command
 use Rattle.tb_endings.specs.declared.endings.End.TheVariants as end
-use Rattle.tb_top.specs.Asking.{AskedValue, CensusValue, Keep, asked_of, base_of}
+use Rattle.tb_top.specs.Asking.{AskedValue, CensusValue, asked_of, asked_with, base_of}
+use Rattle.tb_top.specs.declared.asked.AskedLines.TheVariants as lines
+use Rattle.tb_command.specs.declared.command.Owner.TheVariants as owner
 use Rattle.tb_top.specs.Calls.{Call, journal_seen, output_of}
-use Rattle.tb_top.specs.Commands.{asks_to_generate, asks_to_keep, command_of}
+use Rattle.tb_command.specs.Commands.{asks_to_generate, asks_to_keep, command_of}
 use Rattle.tb_endings.specs.Endings.{last_line}
 use Rattle.tb_top.specs.KeepOutputs.{AreKeepLinesAnswered, AreKeepReplies, HasFailed, IsKeepAnswered, IsKeepLine, IsStill}
 use Rattle.tb_top.specs.Outputs.{IsBegun}
 use Rattle.tb_top.specs.Promises.{IsPriced, IsSomeLastLine, IsWhole, Keeps}
-use Rattle.tb_top.proofs.DiskKept.{answered-on-disk, ended-in-script}
+use Rattle.tb_top.proofs.DiskKept.{AreAnsweredFor, IsUnspoiledFor, answered-on-disk, ended-in-script}
 use Rattle.tb_top.proofs.PortLemmas.{all-unserved, same-idle}
 use Rattle.tb_top.proofs.Serving.{IsFinal, keeps_by_final}
 use Rattle.tb_top.proofs.Telling.{where_told}
@@ -29,28 +31,33 @@ use Rattle.tb_top.proofs.Writing.{keeps_by_written}
 
 -- a command that asks for a journal asks for no generated population
 keeps-alone : (c : Command) → asks_to_keep (Some c) ≡ true → asks_to_generate (Some c) ≡ true → ⊥
-keeps-alone (command.Script inputs script) keeps generates = cc
-keeps-alone (command.Lanes inputs script) keeps generates = cc
-keeps-alone (command.Keep inputs journal script) keeps generates = cc
-keeps-alone (command.Follow inputs script) keeps generates = cc
-keeps-alone (command.Units inputs dwellings links script) keeps generates = cc
-keeps-alone (command.Host inputs journal service) keeps generates = cc
-keeps-alone (command.Mirror inputs service) keeps generates = cc
-keeps-alone (command.Serve inputs service) keeps generates = cc
+keeps-alone (command.Over task) keeps generates = cc
 keeps-alone (command.Gen population) keeps generates = cc
 
 module _ (call : Call) (command : Command) (census : CensusValue) (journal : List ℕ) (script : ScriptValue) (s : Status)
     (named : command_of call.words ≡ Some command) (keeps : asks_to_keep (Some command) ≡ true)
-    (told : IfSome call.content (λ at. asked_of at call.words ≡ Ok (Keep census journal script)))
+    (told : IfSome call.content (λ at. asked_of at call.words ≡ Ok (asked_with census (owner.Journal journal) (lines.Script script))))
     (fresh : All IsFresh call.ports) (same : call.ports_after ≡ call.ports) where
   abbrev asked : AskedValue
-  asked = Keep census journal script
+  asked = asked_with census (owner.Journal journal) (lines.Script script)
 
   abbrev saw : JournalRun
   saw = journal_seen call journal
 
   asks : asks_to_keep (command_of call.words) ≡ true
   asks = ap asks_to_keep named ∙ keeps
+
+  -- of whatever name and script that are asked for, which are these
+  answered_as : AreKeepLinesAnswered census script s (output_of call) saw → AreAnsweredFor call s asked
+  answered_as answered name other its_owner its_lines =
+      let one : journal ≡ name = cc in
+      let two : script ≡ other = cc in
+      rw (← one, ← two) answered
+
+  unspoiled_as : IsStill call.disk ⊎ StandsAsBefore (seen_of saw) → IsUnspoiledFor call asked
+  unspoiled_as unspoiled name its_owner =
+      let one : journal ≡ name = cc in
+      rw (← one) unspoiled
 
   -- the counter rose by no more than the replies' price
   priced_by : (replies : List ReplyValue) → AreKeepReplies census script replies → call.steps_after ≤ call.steps + price_of replies
@@ -65,13 +72,13 @@ module _ (call : Call) (command : Command) (census : CensusValue) (journal : Lis
       let answers : AreKeepReplies census script replies = (lines.batches, lines.first_moment, lines.first_faults, lines.recovered.follow, are) in
       keeps_by_written call command asked s (text_of replies) named told (refl, (replies, answers, refl))
       (priced_by replies answers cost (λ m. cc, TookPart-all call.taken call.taken_after (text_of replies) took)) fresh same
-      (answered-on-disk call asked s told refl asks (inl (is, lines))) (inl (is, took))
+      (answered-on-disk call asked s told refl asks (answered_as (inl (is, lines)))) (inl (is, took))
   by_lines (inr (is, rose, lines)) =
       let (replies, are, part, cost) = kept-part census.setup (base_of census) script.lines _ _ _ _ lines.kept.run in
       let answers : AreKeepReplies census script replies = (lines.batches, lines.first_moment, lines.first_faults, lines.recovered.follow, are) in
       keeps_by_written call command asked s (text_of replies) named told (refl, (replies, answers, refl))
       (priced_by replies answers cost (λ m. cc, part)) fresh same
-      (answered-on-disk call asked s told refl asks (inr (is, rose, lines))) (inr (is, rose, part))
+      (answered-on-disk call asked s told refl asks (answered_as (inr (is, rose, lines)))) (inr (is, rose, part))
 
   -- none was, and a last line was written
   by_last_line : (final : Status) (text : List ℕ) → IsFinal final → final ≢ status.NetFault → (final ≡ status.DiskFault → HasFailed call.disk)
@@ -80,7 +87,7 @@ module _ (call : Call) (command : Command) (census : CensusValue) (journal : Lis
   by_last_line final text is net failed whole line free unspoiled ended =
       keeps_by_final call command asked s final text named told free is (λ h. absurd (net h)) (λ h. inl (failed h))
       (same-idle call.ports call.ports_after same fresh) (λ h. same) (λ h. absurd (keeps-alone command keeps h)) whole
-      (ended-in-script call asked s final text told refl asks free unspoiled line ended) ended
+      (ended-in-script call asked s final text told refl asks free (unspoiled_as unspoiled) line ended) ended
 
   -- that of a journal's file that is refused, or of a disk that failed
   by_journal_line : (final : Status) (text : List ℕ) → IsKeepLine census saw final text → call.steps_after ≡ call.steps
@@ -88,11 +95,11 @@ module _ (call : Call) (command : Command) (census : CensusValue) (journal : Lis
   by_journal_line final text (inl (fault, refused, left, is, line)) free ended =
       by_last_line final text (subst IsFinal (sym is) tt) (λ h. cc) (λ h. cc)
       (λ at h. subst (λ x. IsWhole call at x text) (sym is)
-      (census, journal, inl (script, h), inl (fault, refused, left, refl, line)))
+      (census, journal, (lines.Script script, h), inl (fault, refused, left, refl, line)))
       (inr (inl (fault, is, line))) free (inr left.ever) ended
   by_journal_line final text (inr (failed, stood, is, line)) free ended =
       by_last_line final text (subst IsFinal (sym is) tt) (λ h. cc) (λ h. failed)
-      (λ at h. subst (λ x. IsWhole call at x text) (sym is) (inl (census, journal, inl (script, h), inr (failed, stood, refl, line))))
+      (λ at h. subst (λ x. IsWhole call at x text) (sym is) (inl (census, journal, (lines.Script script, h), inr (failed, stood, refl, line))))
       (inr (inr (is, line))) free (inr stood) ended
 
   -- memory ran out

@@ -19,15 +19,18 @@ use Rattle.tb_session.specs.Parties.{state_at}
 use Rattle.tb_serve.specs.Serves.{output}
 use Rattle.tb_serve.specs.Serves as serves
 use Rattle.tb_serve.specs.Stages.{IsFresh}
-use Rattle.tb_top.specs.Asking.{CensusValue, Lanes, asked_of}
+use Rattle.tb_top.specs.Asking.{CensusValue, asked_of, asked_with}
+use Rattle.tb_top.specs.declared.asked.AskedLines.TheVariants as lines
+use Rattle.tb_command.specs.declared.command.Owner.{Owner}
 use Rattle.tb_top.specs.Calls.{Call}
-use Rattle.tb_top.specs.Commands.{command_of}
+use Rattle.tb_command.specs.Commands.{command_of}
 use Rattle.tb_endings.specs.Endings.{IsEnded, IsRunEnded, last_line}
 use Rattle.tb_top.specs.KeepOutputs.{IsStill}
 use Rattle.tb_top.specs.LaneOutputs.{AreLanesAnswered, IsLanesText, IsTextOfPhases}
-use Rattle.tb_top.specs.Loading.{IsBase, census_over}
+use Rattle.tb_top.specs.Asking.{census_over}
+use Rattle.tb_top.specs.Loading.{IsBase}
 use Rattle.tb_top.specs.Promises.{IsWhole, Keeps}
-use Rattle.tb_top.specs.declared.command.Command.{Command}
+use Rattle.tb_command.specs.declared.command.Command.{Command}
 use Rattle.tb_endings.specs.declared.endings.End.TheVariants as end
 use Rattle.tb_top.proofs.DiskKept.{left-alone}
 use Rattle.tb_top.proofs.PortLemmas.{all-unserved, same-idle}
@@ -48,25 +51,25 @@ no_fault s (inl done) = (λ h. cc, λ h. cc)
 no_fault s (inr memory) = (λ h. cc, λ h. cc)
 
 -- and is what a run with it writes
-lanes_whole : (call : Call) (at : List ℕ → Option (List ℕ)) (census : CensusValue) (script : ScriptValue) (s : Status) (text : List ℕ)
-    → asked_of at call.words ≡ Ok (Lanes census script) → call.ports_after ≡ call.ports → IsLanesText census script s text
+lanes_whole : (call : Call) (at : List ℕ → Option (List ℕ)) (census : CensusValue) (by : Owner) (script : ScriptValue) (s : Status) (text : List ℕ)
+    → asked_of at call.words ≡ Ok (asked_with census by (lines.Lanes script)) → call.ports_after ≡ call.ports → IsLanesText census script s text
     → IsWhole call at s text
-lanes_whole call at census script s text asked same (inl (done, phases)) = rw done (Lanes census script, asked, (refl, phases))
-lanes_whole call at census script s text asked same (inr (memory, cut)) =
-    rw memory (inr (Lanes census script, asked, cut), all-unserved call.ports call.ports_after same)
+lanes_whole call at census by script s text asked same (inl (done, phases)) = rw done (asked_with census by (lines.Lanes script), asked, (refl, phases))
+lanes_whole call at census by script s text asked same (inr (memory, cut)) =
+    rw memory (inr (asked_with census by (lines.Lanes script), asked, cut), all-unserved call.ports call.ports_after same)
 
 -- a run that came to its lanes keeps all
-pub keeps_by_lanes : (call : Call) (command : Command) (census : CensusValue) (script : ScriptValue) (s : Status)
-    → command_of call.words ≡ Some command → IfSome call.content (λ at. asked_of at call.words ≡ Ok (Lanes census script))
+pub keeps_by_lanes : (call : Call) (command : Command) (census : CensusValue) (by : Owner) (script : ScriptValue) (s : Status)
+    → command_of call.words ≡ Some command → IfSome call.content (λ at. asked_of at call.words ≡ Ok (asked_with census by (lines.Lanes script)))
     → call.steps_after ≡ call.steps → All IsFresh call.ports → call.ports_after ≡ call.ports → IsStill call.disk
     → AreLanesAnswered census script s call.write_faults call.write_faults_after call.taken call.taken_after → Keeps call s
-keeps_by_lanes call command census script s named told free fresh same still (final, text, is, ended) =
+keeps_by_lanes call command census by script s named told free fresh same still (final, text, is, ended) =
     let one = lanes_status census script final text is in
     let none = no_fault final one in
-    keeps_by_final call command (Lanes census script) s final text named told free (lanes_final census script final text is)
+    keeps_by_final call command (asked_with census by (lines.Lanes script)) s final text named told free (lanes_final census script final text is)
     (λ net. absurd (none.0 net)) (λ disk. absurd (none.1 disk)) (same-idle call.ports call.ports_after same fresh) (λ h. same)
-    (λ h. one) (λ at asked. lanes_whole call at census script final text asked same is)
-    (left-alone call (Lanes census script) s refl told still) ended
+    (λ h. one) (λ at asked. lanes_whole call at census by script final text asked same is)
+    (left-alone call (asked_with census by (lines.Lanes script)) s (inr (refl, refl)) told still) ended
 
 -- ---- over a new board
 

@@ -1,7 +1,7 @@
 pub mod AskingSteps
 pub mod Boards
-pub mod CommandWords
 pub mod DiskKept
+pub mod EachCounted
 pub mod Earlier
 pub mod Finishing
 pub mod Following
@@ -19,5 +19,4 @@ pub mod Serving
 pub mod SummaryTexts
 pub mod SummedUp
 pub mod Telling
-pub mod Tested
 pub mod Writing

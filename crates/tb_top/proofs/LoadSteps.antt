@@ -1,7 +1,7 @@
 -- Steps over a run's files, one after another.
 use Rattle.std.proofs.Common.{◌≡◌, ◌≢◌, ◌∙◌, ap, sym, refl, ℕ, suc, zero, ◌<◌, ◌≤◌, List, [], ◌∷◌, ◌++◌, length, map, Option, option_map, Some, None, Result, Ok, Err, true, arith, Global}
 use Rattle.std.proofs.lemmas.Bool.{ne_eqb}
-use Rattle.std.proofs.lemmas.List.{append_assoc, length-map, map-append}
+use Rattle.std.proofs.lemmas.List.{append-nil, append_assoc, length-map, map-append}
 use Rattle.std.specs.Prelude.{IfSome, flat_map, ◌==◌}
 use Rattle.std.specs.declared.vec.Vec.{Vec}
 use Rattle.tb_io.specs.Faults.{HasRisen, one_more}
@@ -9,7 +9,9 @@ use Rattle.tb_io.proofs.FaultLemmas.{HasRisen-earlier}
 use Rattle.tb_base.specs.declared.records.Record.{Record}
 use Rattle.tb_base.specs.declared.keys.Keys.{Keys}
 use Rattle.tb_ptable.specs.Table.{TableValue}
+use Rattle.tb_model.specs.Releases.{first_release}
 use Rattle.tb_model.specs.Schemas.{SchemaValue}
+use Rattle.tb_model.specs.Setups.{SetupValue}
 use Rattle.tb_ptable.specs.FaultNames.{fault_name as ptable_name}
 use Rattle.tb_ptable.specs.Lines.{perturbation_of}
 use Rattle.tb_records.specs.FaultNames.{fault_name as people_name}
@@ -24,16 +26,17 @@ use Rattle.tb_model.specs.Units.{UnitsValue}
 use Rattle.tb_units.specs.Units.{units_of}
 use Rattle.tb_units.specs.declared.fault.UnitsFault.{UnitsFault}
 use Rattle.tb_units.specs.declared.fault.UnitsFault.TheVariants as units_fault
-use Rattle.tb_top.specs.declared.command.Inputs.{Inputs}
+use Rattle.tb_command.specs.declared.command.Inputs.{Inputs}
+use Rattle.tb_command.specs.declared.command.UnitFiles.{UnitFiles}
 use Rattle.tb_endings.specs.declared.endings.Input.{Input}
 use Rattle.tb_endings.specs.declared.endings.Input.TheVariants as input
 use Rattle.tb_endings.specs.declared.endings.End.{End}
 use Rattle.tb_endings.specs.declared.endings.End.TheVariants as end
-use Rattle.tb_top.specs.Asking.{◌>>=◌, CensusValue, Contents, bytes_in, census_in, contents_for, counted_in, input_place, or_end, people_in, perturbation_in, recodes_in, schema_in, units_in, with_units}
+use Rattle.tb_top.specs.Asking.{◌>>=◌, CensusValue, Contents, base_in, bytes_in, census_in, census_of, census_over, contents_for, counted_in, input_place, or_end, people_added, people_in, perturbation_in, recodes_in, schema_in, setup_in, setup_over, units_in, with_units}
 use Rattle.tb_endings.specs.Refusals.{file_end, schema_end, units_end}
 use Rattle.tb_top.specs.Calls.{IsReadTo, readings_more}
-use Rattle.tb_top.specs.Commands.{NamedFile, class_files, input_files, named}
-use Rattle.tb_top.specs.Loading.{Gives, Hold, Loads, Reading}
+use Rattle.tb_top.specs.InputFiles.{NamedFile, counted_files, input_files, named, unit_files}
+use Rattle.tb_top.specs.Loading.{Gives, Hold, Loads, Reading, census_value}
 
 -- the records of lists, one list after another
 abbrev pub all_of : Vec (Vec Record Global) Global → List Record
@@ -363,26 +366,33 @@ skips-people schema place below =
     (λ contents bytes. or_end (file_end input.People people_name) (people_of schema bytes)) place
     (skips-bytes input.People place below) (λ bytes contents e h. refl)
 
--- a census of what its files say
-abbrev pub census_with : Inputs → SchemaValue → TableValue → List Record → CensusValue
-census_with inputs schema table records = record {
-  setup = record { schema = schema; lines = table.lines; units = None };
-  threshold = inputs.threshold;
-  records = records;
-}
+-- what comes after a classification, a setup, microdata and release 0
+abbrev pub setup_with : SchemaValue → TableValue → SetupValue
+setup_with schema table = record { schema = schema; lines = table.lines; units = None }
 
-abbrev pub after_ptable : Inputs → SchemaValue → Contents → TableValue → Result CensusValue End
-after_ptable inputs schema contents table = people_in schema contents >>= (λ records. Ok (census_with inputs schema table records))
+abbrev pub after_setup : Inputs → Contents → SetupValue → Result CensusValue End
+after_setup inputs contents setup = people_added inputs setup contents
 
-abbrev pub after_schema : Inputs → Contents → SchemaValue → Result CensusValue End
-after_schema inputs contents schema = perturbation_in schema.keys contents >>= after_ptable inputs schema contents
+skips-setup-over : (schema : SchemaValue) (place : ℕ) → 2 < place → Skips (setup_over schema) place
+skips-setup-over schema place below =
+    Skips-then (perturbation_in schema.keys) (λ contents table. Ok (setup_with schema table)) place
+    (skips-perturbation schema.keys place below) (λ table contents e h. refl)
+
+pub skips-setup : (inputs : Inputs) (place : ℕ) → 2 < place → Skips (setup_in inputs) place
+skips-setup inputs place below =
+    Skips-then (schema_in inputs.recodes) (λ contents schema. setup_over schema contents) place
+    (skips-schema inputs.recodes place (omega (arith, below))) (λ schema. skips-setup-over schema place below)
+
+skips-base : (inputs : Inputs) (schema : SchemaValue) (place : ℕ) → 3 < place → Skips (base_in inputs schema) place
+skips-base inputs schema place below =
+    Skips-then (people_in schema) (λ contents records. Ok (first_release inputs.threshold records)) place
+    (skips-people schema place below) (λ records contents e h. refl)
 
 pub skips-census : (inputs : Inputs) (place : ℕ) → 3 < place → Skips (census_in inputs) place
 skips-census inputs place below =
-    Skips-then (schema_in inputs.recodes) (after_schema inputs) place (skips-schema inputs.recodes place (omega (arith, below)))
-    (λ schema. Skips-then (perturbation_in schema.keys) (after_ptable inputs schema) place (skips-perturbation schema.keys place (omega (arith, below)))
-    (λ table. Skips-then (people_in schema) (λ contents records. Ok (census_with inputs schema table records)) place
-    (skips-people schema place below) (λ records contents e h. refl)))
+    Skips-then (setup_in inputs) (after_setup inputs) place (skips-setup inputs place (omega (arith, below)))
+    (λ setup. Skips-then (base_in inputs setup.schema) (λ contents base. Ok (census_over setup base)) place
+    (skips-base inputs setup.schema place below) (λ base contents e h. refl))
 
 pub skips-units : (keys : Keys) (place : ℕ) → 5 < place → Skips (units_in keys) place
 skips-units keys place below =
@@ -402,37 +412,20 @@ skips-counted inputs place below =
     (λ census. Skips-then (units_in census.setup.schema.keys) (λ contents units. Ok (with_units census units)) place
     (skips-units census.setup.schema.keys place below) (λ units contents e h. refl))
 
--- how a census ends at its first and its second step
-pub census-no-schema : {A : Type 0} (view : A → CensusValue) (inputs : Inputs) {e : End} {saw : Reading}
-    → Loads saw 0 (class_files inputs) (λ (s : SchemaValue). s) (schema_in inputs.recodes) (Err e) → Loads saw 0 (input_files inputs) view
-    (census_in inputs) (Err e)
-census-no-schema view inputs h =
-    Loads-before view (census_in inputs) (named input.Ptable inputs.ptable ∷ named input.People inputs.people ∷ [])
-    (Loads-fails (λ s. s) view (schema_in inputs.recodes) (after_schema inputs) h)
+-- a census that is read, with dwellings or without
+pub skips-census-of : (inputs : Inputs) (units : Option UnitFiles) (place : ℕ) → 5 < place → Skips (census_of inputs units) place
+skips-census-of inputs None place below = skips-census inputs place (omega (arith, below))
+skips-census-of inputs (Some files) place below = skips-counted inputs place below
 
-pub census-no-ptable : {A : Type 0} (view : A → CensusValue) (inputs : Inputs) (schema : SchemaValue) {e : End} {one two : Reading}
-    → two.content ≡ one.content_after → two.faults ≡ one.faults_after → two.readings ≡ one.readings_after
-    → Loads one 0 (class_files inputs) (λ s. s) (schema_in inputs.recodes) (Ok schema)
-    → Loads two 2 (named input.Ptable inputs.ptable ∷ []) (λ (t : TableValue). t) (perturbation_in schema.keys) (Err e)
-    → Loads (both one two) 0 (input_files inputs) view (census_in inputs) (Err e)
-census-no-ptable view inputs schema {e} c f r h k =
-    Loads-then (λ s. s) view (schema_in inputs.recodes) (after_schema inputs) schema (Err e) (skips-schema inputs.recodes 2 (omega arith))
-    (omega arith) c f r h
-    (Loads-before view (λ contents. after_schema inputs contents schema) (named input.People inputs.people ∷ [])
-    (Loads-fails (λ t. t) view (perturbation_in schema.keys) (after_ptable inputs schema) k))
+-- no files more
+pub Loads-none-more : {A B : Type 0} (view : A → B) (defined : Contents → Result B End) (files : List NamedFile) (result : Result A End)
+    {saw : Reading} {place : ℕ} → Loads saw place files view defined result → Loads saw place (files ++ []) view defined result
+Loads-none-more view defined files result {saw} {place} h = rw (append-nil files) h
 
--- the two steps before the microdata lead to a census, whatever they lead to
-pub census-steps : {A : Type 0} (view : A → CensusValue) (inputs : Inputs) (schema : SchemaValue) (table : TableValue)
-    (result : Result A End) {one two three : Reading}
-    → two.content ≡ one.content_after → two.faults ≡ one.faults_after → two.readings ≡ one.readings_after
-    → three.content ≡ two.content_after → three.faults ≡ two.faults_after → three.readings ≡ two.readings_after
-    → Loads one 0 (class_files inputs) (λ s. s) (schema_in inputs.recodes) (Ok schema)
-    → Loads two 2 (named input.Ptable inputs.ptable ∷ []) (λ t. t) (perturbation_in schema.keys) (Ok table)
-    → Loads three 3 (named input.People inputs.people ∷ []) view
-    (λ contents. people_in schema contents >>= (λ records. Ok (census_with inputs schema table records))) result
-    → Loads (both one (both two three)) 0 (input_files inputs) view (census_in inputs) result
-census-steps view inputs schema table result c f r c' f' r' h k l =
-    Loads-then (λ s. s) view (schema_in inputs.recodes) (after_schema inputs) schema result (skips-schema inputs.recodes 2 (omega arith))
-    (omega arith) c f r h
-    (Loads-then (λ t. t) view (perturbation_in schema.keys) (after_ptable inputs schema) table result (skips-perturbation schema.keys 3 (omega arith))
-    (omega arith) c' f' r' k l)
+-- how it ends before its dwellings
+pub census-of-fails : (inputs : Inputs) (units : Option UnitFiles) {e : End} {saw : Reading}
+    → Loads saw 0 (input_files inputs) census_value (census_in inputs) (Err e)
+    → Loads saw 0 (counted_files inputs units) census_value (census_of inputs units) (Err e)
+census-of-fails inputs None h = Loads-none-more census_value (census_in inputs) (input_files inputs) (Err _) h
+census-of-fails inputs (Some files) h =
+    Loads-before census_value (counted_in inputs) (unit_files (Some files)) (Loads-fails census_value census_value (census_in inputs) after_census h)

@@ -11,15 +11,17 @@ use Rattle.tb_serve.specs.Ports.{PortValue}
 use Rattle.tb_serve.specs.Reports.{some_failed}
 use Rattle.tb_serve.specs.Stages.{HasRisenSome, IsFresh}
 use Rattle.tb_worker.specs.Work.{IsEnough}
-use Rattle.tb_top.specs.Asking.{CensusValue, Mirror, asked_of, base_of}
+use Rattle.tb_top.specs.Asking.{AskedValue, CensusValue, asked_of, asked_with, base_of}
+use Rattle.tb_top.specs.declared.asked.AskedLines.TheVariants as lines
+use Rattle.tb_command.specs.declared.command.Owner.TheVariants as owner
 use Rattle.tb_top.specs.Calls.{Call, output_of}
-use Rattle.tb_top.specs.Commands.{asks_to_serve, command_of}
+use Rattle.tb_command.specs.Commands.{asks_to_serve, command_of}
 use Rattle.tb_top.specs.KeepOutputs.{IsStill}
 use Rattle.tb_top.specs.MirrorOutputs.{IsMirrorAnswered}
 use Rattle.tb_top.specs.Promises.{Keeps}
-use Rattle.tb_top.specs.ServicePorts.{Service}
+use Rattle.tb_command.specs.ServicePorts.{Service}
 use Rattle.tb_top.specs.Services.{IsIdle}
-use Rattle.tb_top.specs.declared.command.Command.{Command}
+use Rattle.tb_command.specs.declared.command.Command.{Command}
 use Rattle.tb_top.proofs.Serving.{by_memory, by_sessions, by_unbound, idle-by, risen-by}
 
 -- enough sessions of each port were served
@@ -40,18 +42,21 @@ module _ (census : CensusValue) (service : Service) (last : LaneValue) (ports po
       risen-by ports ports' each.same_length
       (λ i d inside. (mirrored-enough census.setup (base_of census) service.sessions last i _ _ (each.at i d inside).sessions).risen) some
 
+abbrev mirrored : CensusValue → Service → AskedValue
+mirrored census service = asked_with census owner.Leader (lines.Ports service)
+
 -- a run that served sessions as a mirror keeps all
 pub keeps_by_mirror : (call : Call) (command : Command) (census : CensusValue) (service : Service) (s : Status)
     → command_of call.words ≡ Some command → asks_to_serve (Some command) ≡ true
-    → IfSome call.content (λ at. asked_of at call.words ≡ Ok (Mirror census service)) → call.steps_after ≡ call.steps
+    → IfSome call.content (λ at. asked_of at call.words ≡ Ok (mirrored census service)) → call.steps_after ≡ call.steps
     → All IsFresh call.ports → IsStill call.disk
     → IsMirrorAnswered census service call.ports call.ports_after s (output_of call) → Keeps call s
 keeps_by_mirror call command census service s named serves told free fresh still (long, rest, inl (each, ended)) =
-    by_memory call command (Mirror census service) service s named serves refl told free fresh long rest still each ended
+    by_memory call command (mirrored census service) service s named serves refl told free fresh long rest still each ended
 keeps_by_mirror call command census service s named serves told free fresh still (long, rest, inr (inl (each, rose, ended))) =
-    by_unbound call command (Mirror census service) service s named serves refl told free fresh long rest still each rose
+    by_unbound call command (mirrored census service) service s named serves refl told free fresh long rest still each rose
     (inr ((each, rest), rose, refl, refl)) ended
 keeps_by_mirror call command census service s named serves told free fresh still (long, rest, inr (inr (last, each, ended))) =
-    by_sessions call command (Mirror census service) service s named serves refl told free fresh long rest still
+    by_sessions call command (mirrored census service) service s named serves refl told free fresh long rest still
     (length last.follower.chain.batches) each.same_length (mirrored-idle census service last _ _ each)
     (mirrored-risen census service last _ _ each) (inl (last, (each, rest), refl, refl)) ended

@@ -12,16 +12,18 @@ use Rattle.tb_serve.specs.Ports.{PortValue}
 use Rattle.tb_serve.specs.Reports.{memory_line, net_line, report, some_failed}
 use Rattle.tb_serve.specs.Serves.{IsEnded, IsPortServed, final_status}
 use Rattle.tb_serve.specs.Stages.{HasRisenSome, IsFresh, IsUntouched}
-use Rattle.tb_top.specs.Asking.{AskedValue, CensusValue, Serve, asked_of, base_of, is_keep}
+use Rattle.tb_top.specs.Asking.{AskedValue, CensusValue, asked_of, asked_with, base_of, is_keep}
+use Rattle.tb_top.specs.declared.asked.AskedLines.TheVariants as lines
+use Rattle.tb_command.specs.declared.command.Owner.TheVariants as owner
 use Rattle.tb_top.specs.Calls.{Call, HasTaken, NetFailed, output_of}
-use Rattle.tb_top.specs.Commands.{asks_to_generate, asks_to_keep, asks_to_serve, command_of}
+use Rattle.tb_command.specs.Commands.{asks_to_generate, asks_to_keep, asks_to_serve, command_of}
 use Rattle.tb_top.specs.KeepOutputs.{HasFailed, IsStill}
 use Rattle.tb_top.specs.Outputs.{IsOutput}
-use Rattle.tb_top.specs.ServicePorts.{Service}
+use Rattle.tb_command.specs.ServicePorts.{Service}
 use Rattle.tb_top.specs.Promises.{IsAskedOutput, IsByInput, IsDefined, IsJournalText, IsTextOf, IsWhole, Keeps, defined_status}
 use Rattle.tb_top.specs.Services.{IsIdle, IsServiceAnswered}
-use Rattle.tb_top.specs.declared.command.Command.{Command}
-use Rattle.tb_top.specs.declared.command.Command.TheVariants as command
+use Rattle.tb_command.specs.declared.command.Command.{Command}
+use Rattle.tb_command.specs.declared.command.Command.TheVariants as command
 use Rattle.tb_top.proofs.DiskKept.{KeepsDisk, left-alone}
 use Rattle.tb_top.proofs.PortLemmas.{each-idle, each-unserved, each-whole, idle-whole, risen-whole, take-fresh, unserved}
 use Rattle.tb_top.proofs.Telling.{always_told, where_told}
@@ -220,14 +222,7 @@ failed-risen census service chain ports ports' each some =
 
 -- a command that asks for sessions asks for no generated population
 pub serves-alone : (c : Command) → asks_to_serve (Some c) ≡ true → asks_to_generate (Some c) ≡ true → ⊥
-serves-alone (command.Script inputs script) serves generates = cc
-serves-alone (command.Lanes inputs script) serves generates = cc
-serves-alone (command.Keep inputs journal script) serves generates = cc
-serves-alone (command.Follow inputs script) serves generates = cc
-serves-alone (command.Units inputs dwellings links script) serves generates = cc
-serves-alone (command.Host inputs journal service) serves generates = cc
-serves-alone (command.Mirror inputs service) serves generates = cc
-serves-alone (command.Serve inputs service) serves generates = cc
+serves-alone (command.Over task) serves generates = cc
 serves-alone (command.Gen population) serves generates = cc
 
 -- the ports of a service without a journal that was answered, and the others
@@ -251,7 +246,7 @@ module _ (call : Call) (command : Command) (task : AskedValue) (service : Servic
   not_generated final h = absurd (serves-alone command serves h)
 
   on_disk : KeepsDisk call s
-  on_disk = left-alone call task s other told still
+  on_disk = left-alone call task s (inl other) told still
 
   -- nothing was accepted
   by_untouched : (text : List ℕ) (final : Status) → IsFinal final → Each (IsUntouched service.port) (take n call.ports) (take n call.ports_after)
@@ -294,18 +289,21 @@ module _ (call : Call) (command : Command) (task : AskedValue) (service : Servic
       (λ (at : List ℕ → Option (List ℕ)) (asked : asked_of at call.words ≡ Ok task).
       whole_by_output call at (final_status ports) text (done_or_net ports ending) (task, asked, out)) on_disk ended
 
+abbrev served : CensusValue → Service → AskedValue
+served census service = asked_with census owner.Custodian (lines.Ports service)
+
 -- a run that served sessions keeps all
 pub keeps_by_service : (call : Call) (command : Command) (census : CensusValue) (service : Service) (s : Status)
     → command_of call.words ≡ Some command → asks_to_serve (Some command) ≡ true
-    → IfSome call.content (λ at. asked_of at call.words ≡ Ok (Serve census service)) → call.steps_after ≡ call.steps
+    → IfSome call.content (λ at. asked_of at call.words ≡ Ok (served census service)) → call.steps_after ≡ call.steps
     → All IsFresh call.ports → IsStill call.disk
     → IsServiceAnswered census service call.ports call.ports_after s call.write_faults call.write_faults_after call.taken call.taken_after
     → Keeps call s
 keeps_by_service call command census service s named serves told free fresh still (long, rest, inl (each, ended)) =
-    by_memory call command (Serve census service) service s named serves refl told free fresh long rest still each ended
+    by_memory call command (served census service) service s named serves refl told free fresh long rest still each ended
 keeps_by_service call command census service s named serves told free fresh still (long, rest, inr (inl (each, rose, ended))) =
-    by_unbound call command (Serve census service) service s named serves refl told free fresh long rest still each rose
+    by_unbound call command (served census service) service s named serves refl told free fresh long rest still each rose
     (inr ((each, rest), rose, refl, refl)) ended
 keeps_by_service call command census service s named serves told free fresh still (long, rest, inr (inr (chain, each, ended))) =
-    by_sessions call command (Serve census service) service s named serves refl told free fresh long rest still (length chain) each.same_length
+    by_sessions call command (served census service) service s named serves refl told free fresh long rest still (length chain) each.same_length
     (served-idle census service chain _ _ each) (failed-risen census service chain _ _ each) (inl (chain, (each, rest), refl, refl)) ended

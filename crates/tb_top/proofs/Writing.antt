@@ -5,10 +5,10 @@ use Rattle.std.proofs.lemmas.List.{take-append-drop}
 use Rattle.tb_base.specs.declared.status.Status.{Status}
 use Rattle.tb_base.specs.declared.status.Status.TheVariants as status
 use Rattle.tb_serve.specs.Stages.{IsFresh}
-use Rattle.tb_top.specs.declared.command.Command.{Command}
+use Rattle.tb_command.specs.declared.command.Command.{Command}
 use Rattle.tb_top.specs.Asking.{AskedValue, asked_of}
 use Rattle.tb_top.specs.Calls.{Call}
-use Rattle.tb_top.specs.Commands.{command_of}
+use Rattle.tb_command.specs.Commands.{command_of}
 use Rattle.tb_endings.specs.Endings.{IsLineWritten}
 use Rattle.tb_top.specs.Outputs.{IsOutput}
 use Rattle.tb_top.specs.Promises.{IsByInput, IsPriced, IsWhole, Keeps, defined_status}

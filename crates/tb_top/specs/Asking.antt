@@ -1,6 +1,6 @@
 -- What the arguments and the files ask for: a task over a census; or why the run ends before it
 -- begins.
-use Rattle.std.specs.Prelude.{◌==◌, ℕ, Bool, true, false, List, [], ◌∷◌, length, Option, Some, None, Result, Ok, Err, ok_or, nat_lt, if◌then◌else◌}
+use Rattle.std.specs.Prelude.{◌==◌, ℕ, Bool, true, false, List, [], ◌∷◌, length, Option, Some, None, Result, Ok, Err, is_some, ok_or, nat_lt, if◌then◌else◌}
 use Rattle.tb_base.specs.declared.records.Record.{Record}
 use Rattle.tb_base.specs.declared.keys.Keys.{Keys}
 use Rattle.tb_model.specs.Releases.{ReleaseValue, first_release}
@@ -20,15 +20,23 @@ use Rattle.tb_endings.specs.declared.endings.Input.{Input}
 use Rattle.tb_endings.specs.declared.endings.Input.TheVariants as input
 use Rattle.tb_endings.specs.declared.endings.End.{End}
 use Rattle.tb_endings.specs.declared.endings.End.TheVariants as end
+use Rattle.tb_top.specs.declared.asked.AskedLines.{AskedLines}
+use Rattle.tb_top.specs.declared.asked.AskedLines.TheVariants as lines
 use Rattle.tb_top.specs.declared.load.TheConstants.{MOST_BYTES}
 use Rattle.tb_script.specs.declared.limits.TheConstants.{MOST_SCRIPT_BYTES}
-use Rattle.tb_top.specs.declared.command.Command.{Command}
-use Rattle.tb_top.specs.declared.command.Command.TheVariants as command
-use Rattle.tb_top.specs.declared.command.Inputs.{Inputs}
-use Rattle.tb_top.specs.Commands.{NamedFile, command_of, command_files}
+use Rattle.tb_command.specs.declared.command.Command.{Command}
+use Rattle.tb_command.specs.declared.command.Command.TheVariants as command
+use Rattle.tb_command.specs.declared.command.Inputs.{Inputs}
+use Rattle.tb_command.specs.declared.command.Lines.{Lines}
+use Rattle.tb_command.specs.declared.command.Lines.TheVariants as named_lines
+use Rattle.tb_command.specs.declared.command.Owner.{Owner}
+use Rattle.tb_command.specs.declared.command.Owner.TheVariants as owner
+use Rattle.tb_command.specs.declared.command.Task.{Task}
+use Rattle.tb_command.specs.declared.command.UnitFiles.{UnitFiles}
+use Rattle.tb_command.specs.Commands.{command_of, owner_journal}
+use Rattle.tb_top.specs.InputFiles.{NamedFile, command_files}
 use Rattle.tb_top.specs.GeneratedFiles.{generated_contents, generated_inputs}
-use Rattle.tb_top.specs.Populations.{Population}
-use Rattle.tb_top.specs.ServicePorts.{Service}
+use Rattle.tb_command.specs.Populations.{Population}
 
 -- what the files hold: the bytes of each, where it is there
 abbrev pub Contents : Type 0
@@ -100,17 +108,36 @@ pub record CensusValue : Type 0 where
 abbrev pub base_of : CensusValue → ReleaseValue
 base_of census = first_release census.threshold census.records
 
+-- the census of a setup and its release 0
+abbrev pub census_over : SetupValue → ReleaseValue → CensusValue
+census_over setup base =
+    record { setup = setup; threshold = base.rules.threshold; records = base.records }
+
+-- the setup of a classification, without dwellings
+abbrev pub setup_over : SchemaValue → Contents → Result SetupValue End
+setup_over schema contents =
+    perturbation_in schema.keys contents >>= (λ table.
+    Ok (record { schema = schema; lines = table.lines; units = None }))
+
+-- the setup that the files hold, without dwellings
+abbrev pub setup_in : Inputs → Contents → Result SetupValue End
+setup_in inputs contents =
+    schema_in inputs.recodes contents >>= (λ schema. setup_over schema contents)
+
+-- release 0 of the microdata that the files hold
+abbrev pub base_in : Inputs → SchemaValue → Contents → Result ReleaseValue End
+base_in inputs schema contents =
+    people_in schema contents >>= (λ records. Ok (first_release inputs.threshold records))
+
+-- the census of a setup
+abbrev pub people_added : Inputs → SetupValue → Contents → Result CensusValue End
+people_added inputs setup contents =
+    base_in inputs setup.schema contents >>= (λ base. Ok (census_over setup base))
+
 -- what the files of inputs hold
 abbrev pub census_in : Inputs → Contents → Result CensusValue End
 census_in inputs contents =
-    schema_in inputs.recodes contents >>= (λ schema.
-    perturbation_in schema.keys contents >>= (λ table.
-    people_in schema contents >>= (λ records.
-    Ok (record {
-      setup = record { schema = schema; lines = table.lines; units = None };
-      threshold = inputs.threshold;
-      records = records;
-    }))))
+    setup_in inputs contents >>= (λ setup. people_added inputs setup contents)
 
 -- the dwellings and the links are both read before either is checked
 abbrev pub units_in : Keys → Contents → Result UnitsValue End
@@ -124,47 +151,64 @@ abbrev pub with_units : CensusValue → UnitsValue → CensusValue
 with_units census units =
     record census { setup = record census.setup { units = Some units } }
 
+-- a census with the dwellings that the files hold
+abbrev pub units_added : CensusValue → Contents → Result CensusValue End
+units_added census contents =
+    units_in census.setup.schema.keys contents >>= (λ units. Ok (with_units census units))
+
 -- what the files of inputs hold, with dwellings
 abbrev pub counted_in : Inputs → Contents → Result CensusValue End
 counted_in inputs contents =
-    census_in inputs contents >>= (λ census.
-    units_in census.setup.schema.keys contents >>= (λ units. Ok (with_units census units)))
+    census_in inputs contents >>= (λ census. units_added census contents)
 
--- what is asked for over a census: replies to the lines of a script, one after another, of its
--- lanes at the same time, with a journal under a name, or by a follower; sessions, with a journal,
--- as a mirror of a leader, or with neither; or, over that of a generated population, a summary of
--- such replies
-pub data AskedValue : Type 0 where
-  Script : CensusValue → ScriptValue → AskedValue
-  Lanes : CensusValue → ScriptValue → AskedValue
-  Keep : CensusValue → (journal : List ℕ) → ScriptValue → AskedValue
-  Follow : CensusValue → ScriptValue → AskedValue
-  Host : CensusValue → (journal : List ℕ) → Service → AskedValue
-  Mirror : CensusValue → Service → AskedValue
-  Serve : CensusValue → Service → AskedValue
-  Gen : Population → CensusValue → ScriptValue → AskedValue
+-- the census that the files hold, with the dwellings that are named, if any are
+abbrev pub census_of : Inputs → Option UnitFiles → Contents → Result CensusValue End
+census_of inputs None contents = census_in inputs contents
+census_of inputs (Some files) contents = counted_in inputs contents
+
+-- what is asked for over a census: who owns the chain, and which lines are answered: those of a
+-- script, one after another or its lanes at the same time, those that come at ports, or, over a
+-- generated population, those of its script, whose replies are summed up
+pub record AskedValue : Type 0 where
+  pub census : CensusValue
+  pub owner : Owner
+  pub lines : AskedLines
+
+abbrev pub asked_with : CensusValue → Owner → AskedLines → AskedValue
+asked_with census owner lines = record { census = census; owner = owner; lines = lines }
+
+-- whether lines come at ports
+abbrev pub come_at_ports : AskedLines → Bool
+come_at_ports (lines.Script script) = false
+come_at_ports (lines.Lanes script) = false
+come_at_ports (lines.Ports service) = true
+come_at_ports (lines.Sums population script) = false
 
 -- whether it is sessions
 abbrev pub is_service : AskedValue → Bool
-is_service (Script census script) = false
-is_service (Lanes census script) = false
-is_service (Keep census journal script) = false
-is_service (Follow census script) = false
-is_service (Host census journal service) = true
-is_service (Mirror census service) = true
-is_service (Serve census service) = true
-is_service (Gen population census script) = false
+is_service asked = come_at_ports asked.lines
 
 -- whether it is replies, or sessions, with a journal
 abbrev pub is_keep : AskedValue → Bool
-is_keep (Script census script) = false
-is_keep (Lanes census script) = false
-is_keep (Keep census journal script) = true
-is_keep (Follow census script) = false
-is_keep (Host census journal service) = true
-is_keep (Mirror census service) = false
-is_keep (Serve census service) = false
-is_keep (Gen population census script) = false
+is_keep asked = is_some (owner_journal asked.owner)
+
+-- the lines of a task, where they come from a script that the files hold
+abbrev pub lines_over : Lines → Contents → Result AskedLines End
+lines_over (named_lines.Script name) contents =
+    script_in contents >>= (λ script. Ok (lines.Script script))
+lines_over (named_lines.Lanes name) contents =
+    script_in contents >>= (λ script. Ok (lines.Lanes script))
+lines_over (named_lines.Ports service) contents = Ok (lines.Ports service)
+
+-- what a task asks for over a census
+abbrev pub asked_after : Task → CensusValue → Contents → Result AskedValue End
+asked_after task census contents =
+    lines_over task.lines contents >>= (λ lines. Ok (asked_with census task.owner lines))
+
+-- what a task asks for over what its files hold
+abbrev pub task_over : Task → Contents → Result AskedValue End
+task_over task contents =
+    census_of task.inputs task.units contents >>= (λ census. asked_after task census contents)
 
 -- the census and the script that the files hold
 abbrev pub scripted_in : Inputs → Contents → Result (CensusValue × ScriptValue) End
@@ -172,42 +216,20 @@ scripted_in inputs contents =
     census_in inputs contents >>= (λ census.
     script_in contents >>= (λ script. Ok (census, script)))
 
--- the census with dwellings, and the script, that the files hold
-abbrev pub counted_script_in : Inputs → Contents → Result (CensusValue × ScriptValue) End
-counted_script_in inputs contents =
-    counted_in inputs contents >>= (λ census.
-    script_in contents >>= (λ script. Ok (census, script)))
-
--- what is asked for over them
-abbrev pub script_over : (CensusValue → ScriptValue → AskedValue) → Inputs → Contents
-    → Result AskedValue End
-script_over task inputs contents =
-    scripted_in inputs contents >>= (λ read. Ok (task read.0 read.1))
-
--- what is asked for by sessions with a journal of this name over them
-abbrev pub host_in : Inputs → (journal : List ℕ) → Service → Contents → Result AskedValue End
-host_in inputs journal service contents =
-    census_in inputs contents >>= (λ census. Ok (Host census journal service))
+-- a custodian's replies to it, to be summed up
+abbrev pub sums_over : Population → Inputs → Contents → Result AskedValue End
+sums_over population inputs contents =
+    scripted_in inputs contents >>= (λ read.
+    Ok (asked_with read.0 owner.Custodian (lines.Sums population read.1)))
 
 -- what a generated population asks for: what a script would over the generated files
 abbrev pub generated_asked : Population → Result AskedValue End
 generated_asked population =
-    script_over (Gen population) generated_inputs (generated_contents population)
+    sums_over population generated_inputs (generated_contents population)
 
 -- what a command asks for over what its files hold
 abbrev pub asked_over : Command → Contents → Result AskedValue End
-asked_over (command.Script inputs name) contents = script_over Script inputs contents
-asked_over (command.Lanes inputs name) contents = script_over Lanes inputs contents
-asked_over (command.Keep inputs journal script) contents =
-    script_over (λ census script. Keep census journal script) inputs contents
-asked_over (command.Follow inputs name) contents = script_over Follow inputs contents
-asked_over (command.Units inputs dwellings links script) contents =
-    counted_script_in inputs contents >>= (λ read. Ok (Script read.0 read.1))
-asked_over (command.Host inputs journal service) contents = host_in inputs journal service contents
-asked_over (command.Mirror inputs service) contents =
-    census_in inputs contents >>= (λ census. Ok (Mirror census service))
-asked_over (command.Serve inputs service) contents =
-    census_in inputs contents >>= (λ census. Ok (Serve census service))
+asked_over (command.Over task) contents = task_over task contents
 asked_over (command.Gen population) contents = generated_asked population
 
 -- the place of a file in the order of reading

@@ -7,7 +7,7 @@ use Rattle.tb_serve.specs.Ports.{PortValue}
 use Rattle.tb_serve.specs.Serves.{Output, output}
 use Rattle.tb_serve.specs.Stages.{HasRisenSome}
 use Rattle.tb_endings.specs.declared.endings.Input.{Input}
-use Rattle.tb_top.specs.Commands.{NamedFile}
+use Rattle.tb_top.specs.InputFiles.{NamedFile}
 use Rattle.tb_top.specs.KeepOutputs.{DiskSeen, kept_seen}
 
 -- The arguments; what stands under each name, where the files tell it; the counts of faults of the

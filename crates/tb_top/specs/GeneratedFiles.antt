@@ -2,12 +2,12 @@
 use Rattle.std.specs.Prelude.{◌≡◌, ℕ, List, IfSome, Option, None, Some}
 use Rattle.tb_gen.specs.Generated.{generated_classes, generated_people, generated_ptable, generated_recodes, generated_script}
 use Rattle.tb_io.specs.HeldFiles.{HeldFiles, bytes_of}
-use Rattle.tb_top.specs.declared.command.Inputs.{Inputs}
-use Rattle.tb_top.specs.declared.command.TheConstants.{GENERATED_THRESHOLD}
+use Rattle.tb_command.specs.declared.command.Inputs.{Inputs}
+use Rattle.tb_top.specs.declared.generated.TheConstants.{GENERATED_THRESHOLD}
 use Rattle.tb_endings.specs.declared.endings.Input.{Input}
 use Rattle.tb_endings.specs.declared.endings.Input.TheVariants as input
 use Rattle.tb_endings.specs.Endings.{input_name}
-use Rattle.tb_top.specs.Populations.{Population}
+use Rattle.tb_command.specs.Populations.{Population}
 
 -- what each file holds
 abbrev pub generated_contents : Population → Input → Option (List ℕ)

@@ -18,7 +18,7 @@ use Rattle.tb_serve.specs.Serves.{IsEnded, Output, final_status}
 use Rattle.tb_serve.specs.Stages.{HasRisenSome, IsUntouched}
 use Rattle.tb_top.specs.Asking.{CensusValue, base_of}
 use Rattle.tb_top.specs.KeepOutputs.{DiskSeen, IsStill, journal_line}
-use Rattle.tb_top.specs.ServicePorts.{Service}
+use Rattle.tb_command.specs.ServicePorts.{Service}
 use Rattle.tb_top.specs.Services.{EachPort, ports_of}
 
 -- the status where all was served and written, by whether the journal is live then

@@ -7,9 +7,10 @@ use Rattle.tb_serve.specs.Ports.{PortValue}
 use Rattle.tb_serve.specs.Serves.{output}
 use Rattle.tb_endings.specs.declared.endings.Input.{Input}
 use Rattle.tb_endings.specs.declared.endings.End.TheVariants as end
-use Rattle.tb_top.specs.declared.command.Command.{Command}
+use Rattle.tb_command.specs.declared.command.Command.{Command}
 use Rattle.tb_top.specs.Calls.{Call, IsReadTo}
-use Rattle.tb_top.specs.Commands.{command_of, command_files}
+use Rattle.tb_command.specs.Commands.{command_of}
+use Rattle.tb_top.specs.InputFiles.{command_files}
 use Rattle.tb_endings.specs.Endings.{last_line}
 use Rattle.tb_top.specs.KeepOutputs.{DiskSeen}
 use Rattle.tb_top.specs.Promises.{IsTextOf}

@@ -1,9 +1,6 @@
-pub mod Numbers
-pub mod ServicePorts
-pub mod Populations
 pub mod Summaries
 pub mod Summing
-pub mod Commands
+pub mod InputFiles
 pub mod GeneratedFiles
 pub mod Asking
 pub mod Services
@@ -14,9 +11,9 @@ pub mod MirrorOutputs
 pub mod Outputs
 pub mod Calls
 pub mod Promises
+pub mod Counted
+pub mod Talks
 pub mod Headline
-pub mod HeadlineSessions
-pub mod HeadlineLanes
 pub mod InMemory
 pub mod Loading
 pub mod Seen

@@ -1,21 +1,19 @@
 -- How a step that reads some of a run's files may go.
-use Rattle.std.specs.Prelude.{◌≡◌, ◌≢◌, ◌≤◌, ℕ, List, [], ◌∷◌, IfSome, Option, Result, Ok, Err, length, string_bytes}
+use Rattle.std.specs.Prelude.{◌≡◌, ◌≢◌, ◌≤◌, ℕ, List, [], ◌∷◌, IfSome, Option, Result, Ok, Err, length}
 use Rattle.tb_base.specs.Records.{AllFit}
 use Rattle.tb_io.specs.Faults.{HasRisen}
 use Rattle.tb_model.specs.Releases.{ReleaseValue, first_release}
 use Rattle.tb_model.specs.Schemas.{shape_of}
-use Rattle.tb_model.specs.Setups.{SetupValue}
 use Rattle.tb_endings.specs.declared.endings.Input.{Input}
 use Rattle.tb_endings.specs.declared.endings.End.{End}
 use Rattle.tb_endings.specs.declared.endings.End.TheVariants as end
-use Rattle.tb_top.specs.declared.load.Asked.{Asked}
-use Rattle.tb_top.specs.declared.load.Asked.TheVariants as asked
-use Rattle.tb_top.specs.declared.load.Census.{Census}
-use Rattle.tb_top.specs.declared.load.Scripted.{Scripted}
+use Rattle.tb_top.specs.declared.asked.Asked.{Asked}
+use Rattle.tb_top.specs.declared.asked.Census.{Census}
+use Rattle.tb_top.specs.declared.asked.Scripted.{Scripted}
 use Rattle.tb_script.specs.Scripts.{ScriptValue}
-use Rattle.tb_top.specs.Asking.{AskedValue, CensusValue, Contents, Follow, Gen, Host, Keep, Lanes, Mirror, Script, Serve, contents_for, input_place}
+use Rattle.tb_top.specs.Asking.{AskedValue, CensusValue, Contents, asked_with, census_over, contents_for, input_place}
 use Rattle.tb_top.specs.Calls.{IsReadTo, readings_more}
-use Rattle.tb_top.specs.Commands.{NamedFile}
+use Rattle.tb_top.specs.InputFiles.{NamedFile}
 
 -- what a step saw of the files: what stands under each name, the count of faults, and how many
 -- readings there were, before and after
@@ -76,11 +74,6 @@ Makes view defined (Ok x) = defined ≡ Ok (view x)
 Makes view defined (Err e) =
     (e ≢ end.Usage) × ((file : Input) → e ≢ end.Unread file) × (e ≢ end.Memory → defined ≡ Err e)
 
--- the census of a setup and its release 0
-abbrev pub census_over : SetupValue → ReleaseValue → CensusValue
-census_over setup base =
-    record { setup = setup; threshold = base.rules.threshold; records = base.records }
-
 -- a census, a script over it, and what is asked for, as the definitions see them
 abbrev pub census_value : Census → CensusValue
 census_value c = census_over c.setup c.release
@@ -89,16 +82,7 @@ abbrev pub scripted_value : Scripted → CensusValue × ScriptValue
 scripted_value read = (census_value read.census, read.script)
 
 abbrev pub asked_value : Asked → AskedValue
-asked_value (asked.Script census script) = Script (census_value census) script
-asked_value (asked.Lanes census script) = Lanes (census_value census) script
-asked_value (asked.Keep census journal script) =
-    Keep (census_value census) (string_bytes journal) script
-asked_value (asked.Follow census script) = Follow (census_value census) script
-asked_value (asked.Host census journal service) =
-    Host (census_value census) (string_bytes journal) service
-asked_value (asked.Mirror census service) = Mirror (census_value census) service
-asked_value (asked.Serve census service) = Serve (census_value census) service
-asked_value (asked.Gen population census script) = Gen population (census_value census) script
+asked_value asked = asked_with (census_value asked.census) asked.owner asked.lines
 
 -- a release is release 0 of its records, with its threshold and no other rules
 abbrev pub IsBase : ReleaseValue → Type 0
@@ -111,11 +95,4 @@ IsFirst c =
 
 -- so does what is asked for
 abbrev pub AskedIsFirst : Asked → Type 0
-AskedIsFirst (asked.Script census script) = IsFirst census
-AskedIsFirst (asked.Lanes census script) = IsFirst census
-AskedIsFirst (asked.Keep census journal script) = IsFirst census
-AskedIsFirst (asked.Follow census script) = IsFirst census
-AskedIsFirst (asked.Host census journal service) = IsFirst census
-AskedIsFirst (asked.Mirror census service) = IsFirst census
-AskedIsFirst (asked.Serve census service) = IsFirst census
-AskedIsFirst (asked.Gen population census script) = IsFirst census
+AskedIsFirst asked = IsFirst asked.census

@@ -9,7 +9,7 @@ use Rattle.tb_serve.specs.Reports.{net_line, report}
 use Rattle.tb_serve.specs.Serves.{Output, final_status}
 use Rattle.tb_serve.specs.Stages.{HasRisenSome, IsUntouched}
 use Rattle.tb_top.specs.Asking.{CensusValue, base_of}
-use Rattle.tb_top.specs.ServicePorts.{Service}
+use Rattle.tb_command.specs.ServicePorts.{Service}
 use Rattle.tb_top.specs.Services.{EachPort, ports_of}
 
 -- the sessions of each port were served, those of the first to where the mirror stands then

@@ -6,17 +6,21 @@ use Rattle.tb_lines.specs.Outputs.{ReplyValue, price_of}
 use Rattle.tb_endings.specs.declared.endings.Input.{Input}
 use Rattle.tb_endings.specs.declared.endings.End.{End}
 use Rattle.tb_endings.specs.declared.endings.End.TheVariants as end
-use Rattle.tb_top.specs.Asking.{AskedValue, CensusValue, Host, Keep, asked_by, asked_of, contents_at, contents_for}
+use Rattle.tb_top.specs.Asking.{AskedValue, CensusValue, asked_by, asked_of, asked_with, contents_at, contents_for}
+use Rattle.tb_top.specs.declared.asked.AskedLines.{AskedLines}
+use Rattle.tb_top.specs.declared.asked.AskedLines.TheVariants as lines
+use Rattle.tb_command.specs.declared.command.Owner.TheVariants as owner
 use Rattle.tb_top.specs.Calls.{Call, HasTaken, IsReadTo, NetFailed, ReadFailed, WriteFailed}
 use Rattle.tb_top.specs.Calls.{journal_seen, output_of}
-use Rattle.tb_top.specs.Commands.{asks_to_generate, asks_to_keep, asks_to_serve, command_of, command_files}
-use Rattle.tb_top.specs.declared.command.Command.{Command}
+use Rattle.tb_command.specs.Commands.{asks_to_generate, asks_to_keep, asks_to_serve, command_of}
+use Rattle.tb_top.specs.InputFiles.{command_files}
+use Rattle.tb_command.specs.declared.command.Command.{Command}
 use Rattle.tb_endings.specs.Endings.{last_line, status_of}
 use Rattle.tb_top.specs.HostOutputs.{IsHostAnswered}
 use Rattle.tb_top.specs.KeepOutputs.{AreKeepLinesAnswered, HasFailed, IsKeepLine, IsStill}
 use Rattle.tb_top.specs.KeepOutputs.{disk_line, journal_line}
 use Rattle.tb_top.specs.Outputs.{AreAnswers, IsBegun, IsOutput, IsOutputToMemory}
-use Rattle.tb_top.specs.ServicePorts.{Service}
+use Rattle.tb_command.specs.ServicePorts.{Service}
 use Rattle.tb_top.specs.Services.{IsIdle, IsUnserved}
 use Rattle.tb_keep.specs.JournalRuns.{seen_of}
 use Rattle.tb_keep.specs.Seen.{StandsAsBefore}
@@ -64,12 +68,12 @@ IsMemoryText call at text =
     (text ≡ last_line end.Memory)
     ⊎ ((asked : AskedValue) × (asked_of at call.words ≡ Ok asked) × IsOutputToMemory asked text)
 
--- a script's replies or sessions are asked for over this census, with a journal of this name
+-- lines are to be answered over this census, with a journal of this name
 abbrev pub AsksWithJournal : Call → (List ℕ → Option (List ℕ)) → CensusValue → (journal : List ℕ)
     → Type 0
 AsksWithJournal call at census journal =
-    ((script : ScriptValue) × (asked_of at call.words ≡ Ok (Keep census journal script)))
-    ⊎ ((service : Service) × (asked_of at call.words ≡ Ok (Host census journal service)))
+    (lines : AskedLines)
+    × (asked_of at call.words ≡ Ok (asked_with census (owner.Journal journal) lines))
 
 -- a text is the last line, with this status, of a run whose journal was refused or couldn't be read
 abbrev pub IsJournalText : Call → (List ℕ → Option (List ℕ)) → Status → List ℕ → Type 0
@@ -148,7 +152,8 @@ IsSomeLastLine s text =
 abbrev pub IsJournalKept : Call → (List ℕ → Option (List ℕ)) → Status → Type 0
 IsJournalKept call at s =
     (census : CensusValue) → (journal : List ℕ) → (script : ScriptValue)
-    → asked_of at call.words ≡ Ok (Keep census journal script)
+    → asked_of at call.words
+    ≡ Ok (asked_with census (owner.Journal journal) (lines.Script script))
     → AreKeepLinesAnswered census script s (output_of call) (journal_seen call journal)
     ⊎ ((call.steps_after ≡ call.steps)
     × (IsStill call.disk ⊎ StandsAsBefore (seen_of (journal_seen call journal)))
@@ -160,7 +165,8 @@ IsJournalKept call at s =
 abbrev pub IsHostKept : Call → (List ℕ → Option (List ℕ)) → Status → Type 0
 IsHostKept call at s =
     (census : CensusValue) → (journal : List ℕ) → (service : Service)
-    → asked_of at call.words ≡ Ok (Host census journal service)
+    → asked_of at call.words
+    ≡ Ok (asked_with census (owner.Journal journal) (lines.Ports service))
     → IsHostAnswered census service journal call.ports call.ports_after s (output_of call) call.disk
     ⊎ ((call.ports_after ≡ call.ports) × IsStill call.disk
     × ((final : Status) × (text : List ℕ) × IsSomeLastLine final text
@@ -218,7 +224,7 @@ pub record Keeps (call : Call) (s : Status) : Type 0 where
   pub hosted : IfSome call.content (λ at. IsHostKept call at s)
   pub still : asks_to_keep (command_of call.words) ≡ false → IsStill call.disk
   -- And so it was where the arguments, a file or a reading ended the call, whatever was asked for;
-  -- where the files tell what they hold, also if its last line couldn't be written.
+  -- where what the files hold decides the end, also if its last line couldn't be written.
   pub alone : IsByInput s → IsStill call.disk
   pub unbegun : IfSome call.content (λ at.
       (e : End) → asked_of at call.words ≡ Err e → IsStill call.disk)

@@ -9,7 +9,7 @@ use Rattle.tb_serve.specs.Reports.{net_line, report}
 use Rattle.tb_serve.specs.Serves.{IsPortServed, Serves, final_status, output}
 use Rattle.tb_serve.specs.Stages.{HasRisenSome, IsUntouched}
 use Rattle.tb_top.specs.Asking.{CensusValue, base_of}
-use Rattle.tb_top.specs.ServicePorts.{Service}
+use Rattle.tb_command.specs.ServicePorts.{Service}
 
 -- the ports of a service: the custodian's, and one for each worker
 abbrev pub ports_of : Service → List PortValue → List PortValue

@@ -1,6 +1,6 @@
 -- What the text of some replies comes to.
 use Rattle.std.specs.Prelude.{ℕ, ◌==◌, ◌%◌, ◌^◌, List, ◌++◌, length, sum, count_by, codes, decimal}
-use Rattle.tb_top.specs.Populations.{Population}
+use Rattle.tb_command.specs.Populations.{Population}
 
 -- how many line feeds a text has
 abbrev pub line_feeds : List ℕ → ℕ

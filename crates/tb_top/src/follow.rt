@@ -3,11 +3,11 @@
 ghost use Rattle.std.specs.Prelude.{◌≡◌};
 ghost use Rattle.tb_base.specs.Records.{AllFit};
 ghost use Rattle.tb_model.specs.Schemas.{shape_of};
-ghost use Rattle.tb_top.specs.Asking.{Follow as AskedFollow};
-ghost use Rattle.tb_top.specs.Loading.{IsBase, IsFirst, census_over, census_value};
-ghost use Rattle.tb_top.specs.Outputs.{IsScriptAnswered};
+ghost use Rattle.tb_top.specs.Asking.{census_over};
+ghost use Rattle.tb_top.specs.Loading.{IsBase, IsFirst, census_value};
+ghost use Rattle.tb_top.specs.Outputs.{AreFollowReplies, IsScriptAnswered};
 
-use crate::load::Census;
+use crate::asked::Census;
 use std::alloc::Global;
 use std::sync::ledger::Ledger;
 use std::thread::Threads;
@@ -33,7 +33,7 @@ fn follow_from<R: Threads + Sync, O: Sink, L: Ledger>(
 ) -> Status
     requires base { IsBase base }
     requires fit { AllFit (shape_of setup.now.schema) base.records }
-    ensures { IsScriptAnswered (AskedFollow (census_over setup.now base) script.now) result
+    ensures { IsScriptAnswered (AreFollowReplies (census_over setup.now base) script.now) result
         (O.faults out.old) (O.faults out.new) (O.taken out.old) (O.taken out.new)
         steps.old steps.new }
 {
@@ -59,7 +59,7 @@ pub(crate) fn answer_follow<R: Threads + Sync, O: Sink, L: Ledger>(
     steps: &mut Steps<L>,
 ) -> Status
     requires { IsFirst census }
-    ensures { IsScriptAnswered (AskedFollow (census_value census) script.now) result
+    ensures { IsScriptAnswered (AreFollowReplies (census_value census) script.now) result
         (O.faults out.old) (O.faults out.new) (O.taken out.old) (O.taken out.new)
         steps.old steps.new }
 {

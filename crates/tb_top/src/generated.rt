@@ -5,18 +5,35 @@ ghost use Rattle.std.specs.Prelude.{◌≡◌, IfErr, IfOk, false};
 ghost use Rattle.tb_endings.specs.declared.endings.End.TheVariants as end;
 ghost use Rattle.tb_top.specs.Asking.{generated_asked, is_keep, is_service};
 ghost use Rattle.tb_top.specs.GeneratedFiles.{HoldGenerated};
+ghost use Rattle.tb_top.specs.GeneratedFiles.{generated_inputs as inputs_of_generated};
 ghost use Rattle.tb_top.specs.Loading.{AskedIsFirst, Makes, asked_value};
-ghost use Rattle.tb_top.specs.Populations.{HasPersons};
+ghost use Rattle.tb_command.specs.Populations.{HasPersons};
 
-use crate::command::{FileName, generated_inputs};
-use crate::load::{Asked, Scripted, load_scripted};
-use crate::population::Population;
+use crate::asked::{Asked, AskedLines, Scripted};
+use crate::load::load_scripted;
 use std::alloc::Global;
 use std::thread::Threads;
 use tb_base::Memory;
+use tb_command::{FileName, Inputs, Owner, Population};
 use tb_endings::{End, Input};
 use tb_gen::files_of;
 use tb_io::SureFiles;
+
+/// The threshold over generated files.
+pub const GENERATED_THRESHOLD: u32 = 10;
+
+// The inputs of generated files, each under the name that it has in a last line.
+fn generated_inputs<'a>() -> Inputs<'a>
+    ensures { result ≡ inputs_of_generated }
+{
+    Inputs {
+        classes: FileName::of(Input::Classes.name()),
+        recodes: Some(FileName::of(Input::Recodes.name())),
+        ptable: FileName::of(Input::Ptable.name()),
+        people: FileName::of(Input::People.name()),
+        threshold: GENERATED_THRESHOLD,
+    }
+}
 
 // The generated files in memory, each under the name that it has in a last line.
 fn hold_generated(alloc: Global, population: &Population) -> Result<SureFiles, Memory>
@@ -35,11 +52,11 @@ fn hold_generated(alloc: Global, population: &Population) -> Result<SureFiles, M
 
 /// What is asked for over the generated files of a population, which are accepted. It takes memory
 /// for the files, for each while it is read, and for what it says.
-pub fn load_generated<R: Threads + Sync>(
+pub fn load_generated<'a, R: Threads + Sync>(
     rt: &R,
     alloc: Global,
     population: &Population,
-) -> Result<Asked, End>
+) -> Result<Asked<'a>, End>
     ensures first { IfOk result AskedIsFirst }
     ensures kind { IfOk result (λ asked. is_service (asked_value asked) ≡ false) }
     ensures keeps { IfOk result (λ asked. is_keep (asked_value asked) ≡ false) }
@@ -52,9 +69,9 @@ pub fn load_generated<R: Threads + Sync>(
     let read = load_scripted(rt, alloc, &mut files, &inputs, &script)?;
     let population = population.copy();
     let Scripted { census, script } = read;
-    Ok(Asked::Gen {
-        population,
+    Ok(Asked {
         census,
-        script,
+        owner: Owner::Custodian,
+        lines: AskedLines::Sums { population, script },
     })
 }

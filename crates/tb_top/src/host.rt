@@ -1,27 +1,29 @@
 // Sessions with a journal, served over a census.
 
-ghost use Rattle.std.specs.Prelude.{◌≡◌, ◌≤◌, ◌<◌, ◌+◌, All, drop, false, length, string_bytes};
+ghost use Rattle.std.specs.Prelude.{◌≡◌, ◌≤◌, ◌<◌, ◌+◌, All, drop, false, length};
 ghost use Rattle.std.specs.Prelude.{true, vec_len};
 ghost use Rattle.tb_base.specs.Records.{AllFit};
 ghost use Rattle.tb_disk.specs.Moments.{KeepsPast};
 ghost use Rattle.tb_model.specs.Schemas.{shape_of};
 ghost use Rattle.tb_serve.specs.Serves.{output};
 ghost use Rattle.tb_serve.specs.Stages.{IsFresh};
-ghost use Rattle.tb_top.specs.declared.service.TheConstants.{MOST_WORKERS};
+ghost use Rattle.tb_command.specs.declared.service.TheConstants.{MOST_WORKERS};
 ghost use Rattle.tb_top.specs.HostOutputs.{IsHostAnswered, IsHostRun};
 ghost use Rattle.tb_top.specs.KeepOutputs.{disk_seen};
-ghost use Rattle.tb_top.specs.Loading.{IsBase, IsFirst, census_over, census_value};
+ghost use Rattle.tb_top.specs.Asking.{census_over};
+ghost use Rattle.tb_top.specs.Loading.{IsBase, IsFirst, census_value};
 ghost use Rattle.tb_top.specs.Services.{ports_of};
 
+use crate::asked::Census;
 use crate::keep::{end_by_disk, end_refused};
-use crate::load::Census;
-use crate::service::Service;
+use crate::over::Over;
 use std::alloc::Global;
 use std::marker::Brand;
 use std::sync::Wait;
 use std::thread::Threads;
 use tb_base::{Memory, Status};
 use tb_board::{Board, Named, Opening};
+use tb_command::Service;
 use tb_disk::{Disk, Done};
 use tb_endings::{End, end_by};
 use tb_host::serve_with_journal;
@@ -29,7 +31,13 @@ use tb_io::{Listen, Sink};
 use tb_release::Release;
 use tb_serve::Port;
 use tb_session::{FIRST_CAPACITY, Setting};
-use tb_text::Setup;
+
+/// A service, and the name of the journal that is kept with it.
+#[derive(Drop)]
+pub(crate) struct Hosted<'a> {
+    pub(crate) journal: &'a str,
+    pub(crate) service: &'a Service,
+}
 
 // Serves sessions over a board, with the journal in the file of a disk.
 fn host_on_board<
@@ -39,9 +47,7 @@ fn host_on_board<
     N: Listen + Send,
     D: Disk + Send,
 >(
-    rt: &R,
-    alloc: Global,
-    setup: &Setup,
+    over: &Over<'_, R>,
     opening: Opening,
     service: &Service,
     out: &mut O,
@@ -49,14 +55,14 @@ fn host_on_board<
     disk: &mut D,
 ) -> Status
     requires name { opening.name ≡ B.name }
-    requires shape { opening.start.shape ≡ shape_of setup.now.schema }
+    requires shape { opening.start.shape ≡ shape_of over.now.setup.now.schema }
     requires first { IsBase opening.start.base }
     requires attached { D.attached disk.old ≡ true }
     requires there { service.now.workers < length net.old }
     requires fresh { All IsFresh net.old }
     ensures disk_count { D.faults disk.old ≤ D.faults disk.new }
     ensures past { KeepsPast D.moment D.left_since disk.old disk.new }
-    ensures run { IsHostRun (census_over setup.now opening.start.base) service.now
+    ensures run { IsHostRun (census_over over.now.setup.now opening.start.base) service.now
         (ports_of service.now net.old) (ports_of service.now net.new) (record {
           content = D.content disk.old;
           content_after = D.content disk.new;
@@ -70,12 +76,13 @@ fn host_on_board<
         result }
     ensures rest { drop (service.now.workers + 1) net.new ≡ drop (service.now.workers + 1) net.old }
 {
+    let setup = over.setup;
     let (board, custodian) = Board::<B>::new(opening);
     let setting = Setting {
         setup,
         board: &board,
-        rt,
-        alloc,
+        rt: over.rt,
+        alloc: over.alloc,
     };
     let (port, workers, sessions) = (service.port(), service.workers(), service.sessions());
     match serve_with_journal(&setting, custodian, disk, port, workers, sessions, out, net) {
@@ -86,30 +93,27 @@ fn host_on_board<
 
 // The same from the opening of a board, with the journal in the file of this name.
 fn host_opened<R: Threads + Wait + Sync, O: Sink, N: Listen + Send, D: Disk + Send>(
-    rt: &R,
-    alloc: Global,
-    setup: &Setup,
+    over: &Over<'_, R>,
     opening: Opening,
-    journal: &str,
-    service: &Service,
+    hosted: &Hosted<'_>,
     out: &mut O,
     net: &mut [Port<N>],
     disk: &mut D,
 ) -> Status
-    requires shape { opening.start.shape ≡ shape_of setup.now.schema }
+    requires shape { opening.start.shape ≡ shape_of over.now.setup.now.schema }
     requires first { IsBase opening.start.base }
     requires attached { D.attached disk.old ≡ false }
-    requires there { service.now.workers < length net.old }
+    requires there { hosted.now.service.now.workers < length net.old }
     requires fresh { All IsFresh net.old }
-    ensures { IsHostAnswered (census_over setup.now opening.start.base) service.now journal.now
-        net.old net.new result
+    ensures { IsHostAnswered (census_over over.now.setup.now opening.start.base)
+        hosted.now.service.now hosted.now.journal.now net.old net.new result
         (output (O.taken out.old) (O.taken out.new) (O.faults out.old) (O.faults out.new))
         (disk_seen D.named D.could_leave D.attached D.content
         D.may_leave D.moment D.left_since D.faults disk.old disk.new) }
 {
-    match disk.attach(journal) {
+    match disk.attach(hosted.journal) {
         Done::All => {
-            host_on_board::<Brand, R, O, N, D>(rt, alloc, setup, opening, service, out, net, disk)
+            host_on_board::<Brand, R, O, N, D>(over, opening, hosted.service, out, net, disk)
         }
         Done::Failed => end_by_disk(out),
     }
@@ -117,29 +121,27 @@ fn host_opened<R: Threads + Wait + Sync, O: Sink, N: Listen + Send, D: Disk + Se
 
 // The same from release 0.
 fn host_from<R: Threads + Wait + Sync, O: Sink, N: Listen + Send, D: Disk + Send>(
-    rt: &R,
-    alloc: Global,
-    setup: &Setup,
+    over: &Over<'_, R>,
     base: Release,
-    journal: &str,
-    service: &Service,
+    hosted: &Hosted<'_>,
     out: &mut O,
     net: &mut [Port<N>],
     disk: &mut D,
 ) -> Status
     requires base { IsBase base }
-    requires fit { AllFit (shape_of setup.now.schema) base.records }
+    requires fit { AllFit (shape_of over.now.setup.now.schema) base.records }
     requires attached { D.attached disk.old ≡ false }
-    requires there { service.now.workers < length net.old }
+    requires there { hosted.now.service.now.workers < length net.old }
     requires fresh { All IsFresh net.old }
-    ensures { IsHostAnswered (census_over setup.now base) service.now journal.now net.old net.new
-        result
+    ensures { IsHostAnswered (census_over over.now.setup.now base) hosted.now.service.now
+        hosted.now.journal.now net.old net.new result
         (output (O.taken out.old) (O.taken out.new) (O.faults out.old) (O.faults out.new))
         (disk_seen D.named D.could_leave D.attached D.content
         D.may_leave D.moment D.left_since D.faults disk.old disk.new) }
 {
-    match Opening::new(alloc, setup.schema.shape(), base, FIRST_CAPACITY) {
-        Ok(opening) => { host_opened(rt, alloc, setup, opening, journal, service, out, net, disk) }
+    let setup = over.setup;
+    match Opening::new(over.alloc, setup.schema.shape(), base, FIRST_CAPACITY) {
+        Ok(opening) => host_opened(over, opening, hosted, out, net, disk),
         Err(Memory) => end_by(&End::Memory, out),
     }
 }
@@ -149,23 +151,28 @@ fn host_census<R: Threads + Wait + Sync, O: Sink, N: Listen + Send, D: Disk + Se
     rt: &R,
     alloc: Global,
     census: Census,
-    journal: &str,
-    service: &Service,
+    hosted: &Hosted<'_>,
     out: &mut O,
     net: &mut [Port<N>],
     disk: &mut D,
 ) -> Status
     requires first { IsFirst census }
     requires attached { D.attached disk.old ≡ false }
-    requires there { service.now.workers < length net.old }
+    requires there { hosted.now.service.now.workers < length net.old }
     requires fresh { All IsFresh net.old }
-    ensures { IsHostAnswered (census_value census) service.now journal.now net.old net.new result
+    ensures { IsHostAnswered (census_value census) hosted.now.service.now hosted.now.journal.now
+        net.old net.new result
         (output (O.taken out.old) (O.taken out.new) (O.faults out.old) (O.faults out.new))
         (disk_seen D.named D.could_leave D.attached D.content
         D.may_leave D.moment D.left_since D.faults disk.old disk.new) }
 {
     let Census { setup, release } = census;
-    host_from(rt, alloc, &setup, release, journal, service, out, net, disk)
+    let over = Over {
+        setup: &setup,
+        rt,
+        alloc,
+    };
+    host_from(&over, release, hosted, out, net, disk)
 }
 
 /// Serves sessions over a census, with the journal in the file of this name: attaches it, opens it,
@@ -175,8 +182,7 @@ pub(crate) fn answer_host<R: Threads + Wait + Sync, O: Sink, N: Listen + Send, D
     rt: &R,
     alloc: Global,
     census: Census,
-    journal: String,
-    service: &Service,
+    hosted: &Hosted<'_>,
     out: &mut O,
     net: &mut Vec<Port<N>>,
     disk: &mut D,
@@ -185,23 +191,13 @@ pub(crate) fn answer_host<R: Threads + Wait + Sync, O: Sink, N: Listen + Send, D
     requires attached { D.attached disk.old ≡ false }
     requires ports { vec_len net.old ≡ MOST_WORKERS + 1 }
     requires fresh { All IsFresh net.old.items }
-    ensures { IsHostAnswered (census_value census) service.now (string_bytes journal)
+    ensures { IsHostAnswered (census_value census) hosted.now.service.now hosted.now.journal.now
         net.old.items net.new.items result
         (output (O.taken out.old) (O.taken out.new) (O.faults out.old) (O.faults out.new))
         (disk_seen D.named D.could_leave D.attached D.content
         D.may_leave D.moment D.left_since D.faults disk.old disk.new) }
 {
     // Its clause tells that there is a port for each worker.
-    let _ = service.port();
-    let name = journal.as_str();
-    host_census(
-        rt,
-        alloc,
-        census,
-        name,
-        service,
-        out,
-        net.as_mut_slice(),
-        disk,
-    )
+    let _ = hosted.service.port();
+    host_census(rt, alloc, census, hosted, out, net.as_mut_slice(), disk)
 }

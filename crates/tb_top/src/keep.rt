@@ -1,6 +1,6 @@
 // A script with a journal, answered over a census.
 
-ghost use Rattle.std.specs.Prelude.{◌≡◌, ◌≤◌, false, string_bytes, true};
+ghost use Rattle.std.specs.Prelude.{◌≡◌, ◌≤◌, false, true};
 ghost use Rattle.tb_base.specs.Records.{AllFit};
 ghost use Rattle.tb_base.specs.declared.status.Status.TheVariants as status;
 ghost use Rattle.tb_disk.specs.Moments.{KeepsPast};
@@ -9,9 +9,11 @@ ghost use Rattle.tb_serve.specs.Serves.{IsEnded, output};
 ghost use Rattle.tb_top.specs.KeepOutputs.{IsKeepAnswered, IsKeepRun, disk_line, disk_seen};
 ghost use Rattle.tb_top.specs.KeepOutputs.{journal_fault_at, journal_fault_name, journal_line};
 ghost use Rattle.tb_top.specs.KeepOutputs.{kept_seen};
-ghost use Rattle.tb_top.specs.Loading.{IsBase, IsFirst, census_over, census_value};
+ghost use Rattle.tb_top.specs.Asking.{census_over};
+ghost use Rattle.tb_top.specs.Loading.{IsBase, IsFirst, census_value};
 
-use crate::load::Census;
+use crate::asked::Census;
+use crate::over::Over;
 use std::alloc::Global;
 use std::marker::Brand;
 use std::sync::Wait;
@@ -27,7 +29,6 @@ use tb_release::Release;
 use tb_rows::FaultName;
 use tb_script::Script;
 use tb_session::{FIRST_CAPACITY, Setting};
-use tb_text::Setup;
 
 // The number and the word of a journal's fault.
 fn name_of(fault: &JournalFault) -> FaultName
@@ -75,11 +76,16 @@ pub(crate) fn end_by_disk<O: Sink>(out: &mut O) -> Status
     }
 }
 
+/// A script, and the name of the journal that is kept with it.
+#[derive(Drop)]
+pub(crate) struct Kept<'a> {
+    pub(crate) journal: &'a str,
+    pub(crate) script: &'a Script,
+}
+
 // Answers the lines of a script over a board, with the journal in the file of a disk.
 fn answer_on_board<B: Named, R: Threads + Wait + Sync, O: Sink, D: Disk, L: Ledger>(
-    rt: &R,
-    alloc: Global,
-    setup: &Setup,
+    over: &Over<'_, R>,
     opening: Opening,
     script: &Script,
     out: &mut O,
@@ -87,12 +93,13 @@ fn answer_on_board<B: Named, R: Threads + Wait + Sync, O: Sink, D: Disk, L: Ledg
     steps: &mut Steps<L>,
 ) -> Status
     requires name { opening.name ≡ B.name }
-    requires shape { opening.start.shape ≡ shape_of setup.now.schema }
+    requires shape { opening.start.shape ≡ shape_of over.now.setup.now.schema }
     requires first { IsBase opening.start.base }
     requires attached { D.attached disk.old ≡ true }
     ensures disk_count { D.faults disk.old ≤ D.faults disk.new }
     ensures past { KeepsPast D.moment D.left_since disk.old disk.new }
-    ensures answered { IsKeepRun (census_over setup.now opening.start.base) script.now result
+    ensures answered { IsKeepRun (census_over over.now.setup.now opening.start.base) script.now
+        result
         (output (O.taken out.old) (O.taken out.new) (O.faults out.old) (O.faults out.new))
         (record {
           content = D.content disk.old;
@@ -109,12 +116,13 @@ fn answer_on_board<B: Named, R: Threads + Wait + Sync, O: Sink, D: Disk, L: Ledg
           taken_after = O.taken out.new;
         }) }
 {
+    let setup = over.setup;
     let (board, custodian) = Board::<B>::new(opening);
     let setting = Setting {
         setup,
         board: &board,
-        rt,
-        alloc,
+        rt: over.rt,
+        alloc: over.alloc,
     };
     match run_with_journal(&setting, script, custodian, disk, out, steps) {
         KeepEnd::Ran(end) => end_run(end, out),
@@ -125,31 +133,27 @@ fn answer_on_board<B: Named, R: Threads + Wait + Sync, O: Sink, D: Disk, L: Ledg
 
 // The same from the opening of a board, with the journal in the file of this name.
 fn keep_opened<R: Threads + Wait + Sync, O: Sink, D: Disk, L: Ledger>(
-    rt: &R,
-    alloc: Global,
-    setup: &Setup,
+    over: &Over<'_, R>,
     opening: Opening,
-    journal: &str,
-    script: &Script,
+    kept: &Kept<'_>,
     out: &mut O,
     disk: &mut D,
     steps: &mut Steps<L>,
 ) -> Status
-    requires shape { opening.start.shape ≡ shape_of setup.now.schema }
+    requires shape { opening.start.shape ≡ shape_of over.now.setup.now.schema }
     requires first { IsBase opening.start.base }
     requires attached { D.attached disk.old ≡ false }
     ensures { let seen = output (O.taken out.old) (O.taken out.new)
         (O.faults out.old) (O.faults out.new) in
-        IsKeepRun (census_over setup.now opening.start.base) script.now result seen
+        IsKeepRun (census_over over.now.setup.now opening.start.base) kept.now.script.now result
+        seen
         (kept_seen (disk_seen D.named D.could_leave D.attached D.content
         D.may_leave D.moment D.left_since D.faults disk.old disk.new)
-        journal.now steps.old steps.new seen) }
+        kept.now.journal.now steps.old steps.new seen) }
 {
-    match disk.attach(journal) {
+    match disk.attach(kept.journal) {
         Done::All => {
-            answer_on_board::<Brand, R, O, D, L>(
-                rt, alloc, setup, opening, script, out, disk, steps,
-            )
+            answer_on_board::<Brand, R, O, D, L>(over, opening, kept.script, out, disk, steps)
         }
         Done::Failed => end_by_disk(out),
     }
@@ -157,56 +161,29 @@ fn keep_opened<R: Threads + Wait + Sync, O: Sink, D: Disk, L: Ledger>(
 
 // The same from release 0.
 fn keep_from<R: Threads + Wait + Sync, O: Sink, D: Disk, L: Ledger>(
-    rt: &R,
-    alloc: Global,
-    setup: &Setup,
+    over: &Over<'_, R>,
     base: Release,
-    journal: &str,
-    script: &Script,
+    kept: &Kept<'_>,
     out: &mut O,
     disk: &mut D,
     steps: &mut Steps<L>,
 ) -> Status
     requires base { IsBase base }
-    requires fit { AllFit (shape_of setup.now.schema) base.records }
+    requires fit { AllFit (shape_of over.now.setup.now.schema) base.records }
     requires attached { D.attached disk.old ≡ false }
     ensures { let seen = output (O.taken out.old) (O.taken out.new)
         (O.faults out.old) (O.faults out.new) in
-        IsKeepAnswered (census_over setup.now base) script.now journal.now result seen
+        IsKeepAnswered (census_over over.now.setup.now base) kept.now.script.now
+        kept.now.journal.now result seen
         (disk_seen D.named D.could_leave D.attached D.content
         D.may_leave D.moment D.left_since D.faults disk.old disk.new)
         steps.old steps.new }
 {
-    match Opening::new(alloc, setup.schema.shape(), base, FIRST_CAPACITY) {
-        Ok(opening) => keep_opened(rt, alloc, setup, opening, journal, script, out, disk, steps),
+    let setup = over.setup;
+    match Opening::new(over.alloc, setup.schema.shape(), base, FIRST_CAPACITY) {
+        Ok(opening) => keep_opened(over, opening, kept, out, disk, steps),
         Err(Memory) => end_by(&End::Memory, out),
     }
-}
-
-// The same over a census.
-fn keep_census<R: Threads + Wait + Sync, O: Sink, D: Disk, L: Ledger>(
-    rt: &R,
-    alloc: Global,
-    census: Census,
-    journal: &str,
-    script: &Script,
-    out: &mut O,
-    disk: &mut D,
-    steps: &mut Steps<L>,
-) -> Status
-    requires first { IsFirst census }
-    requires attached { D.attached disk.old ≡ false }
-    ensures { let seen = output (O.taken out.old) (O.taken out.new)
-        (O.faults out.old) (O.faults out.new) in
-        IsKeepAnswered (census_value census) script.now journal.now result seen
-        (disk_seen D.named D.could_leave D.attached D.content
-        D.may_leave D.moment D.left_since D.faults disk.old disk.new)
-        steps.old steps.new }
-{
-    let Census { setup, release } = census;
-    keep_from(
-        rt, alloc, &setup, release, journal, script, out, disk, steps,
-    )
 }
 
 /// Answers the lines of a script over a census, with the journal in the file of this name: attaches
@@ -216,8 +193,7 @@ pub(crate) fn answer_keep<R: Threads + Wait + Sync, O: Sink, D: Disk, L: Ledger>
     rt: &R,
     alloc: Global,
     census: Census,
-    journal: String,
-    script: Script,
+    kept: &Kept<'_>,
     out: &mut O,
     disk: &mut D,
     steps: &mut Steps<L>,
@@ -226,11 +202,16 @@ pub(crate) fn answer_keep<R: Threads + Wait + Sync, O: Sink, D: Disk, L: Ledger>
     requires attached { D.attached disk.old ≡ false }
     ensures { let seen = output (O.taken out.old) (O.taken out.new)
         (O.faults out.old) (O.faults out.new) in
-        IsKeepAnswered (census_value census) script (string_bytes journal) result seen
+        IsKeepAnswered (census_value census) kept.now.script.now kept.now.journal.now result seen
         (disk_seen D.named D.could_leave D.attached D.content
         D.may_leave D.moment D.left_since D.faults disk.old disk.new)
         steps.old steps.new }
 {
-    let name = journal.as_str();
-    keep_census(rt, alloc, census, name, &script, out, disk, steps)
+    let Census { setup, release } = census;
+    let over = Over {
+        setup: &setup,
+        rt,
+        alloc,
+    };
+    keep_from(&over, release, kept, out, disk, steps)
 }

@@ -4,9 +4,10 @@ ghost use Rattle.std.specs.Prelude.{◌≡◌};
 ghost use Rattle.tb_base.specs.Records.{AllFit};
 ghost use Rattle.tb_model.specs.Schemas.{shape_of};
 ghost use Rattle.tb_top.specs.LaneOutputs.{AreLanesAnswered};
-ghost use Rattle.tb_top.specs.Loading.{IsBase, IsFirst, census_over, census_value};
+ghost use Rattle.tb_top.specs.Asking.{census_over};
+ghost use Rattle.tb_top.specs.Loading.{IsBase, IsFirst, census_value};
 
-use crate::load::Census;
+use crate::asked::Census;
 use std::alloc::Global;
 use std::marker::Brand;
 use std::sync::Wait;

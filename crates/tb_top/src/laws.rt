@@ -1,6 +1,6 @@
 // The headline, and the top call over forms in memory.
 
-ghost use Rattle.std.specs.Prelude.{◌≡◌, ◌≢◌, ◌⊎◌, ◌+◌, All, Some, false, map, string_bytes};
+ghost use Rattle.std.specs.Prelude.{◌≡◌, ◌≢◌, ◌⊎◌, ◌+◌, All, Some, false};
 ghost use Rattle.std.specs.Prelude.{true, vec_len};
 ghost use Rattle.tb_io.specs.Faults.{HasRisen};
 ghost use Rattle.tb_top.specs.KeepOutputs.{disk_seen};
@@ -9,12 +9,10 @@ ghost use Rattle.tb_io.specs.HeldFiles.{bytes_of, bytes_or_none};
 ghost use Rattle.tb_serve.specs.Serves.{output};
 ghost use Rattle.tb_serve.specs.Stages.{IsFresh};
 ghost use Rattle.tb_serve.specs.Stages.{HasRisenSome};
-ghost use Rattle.tb_top.specs.declared.service.TheConstants.{MOST_WORKERS};
+ghost use Rattle.tb_command.specs.declared.service.TheConstants.{MOST_WORKERS};
 ghost use Rattle.tb_top.specs.Asking.{asked_of};
-ghost use Rattle.tb_top.specs.Commands.{asks_to_keep, asks_to_serve, command_of};
+ghost use Rattle.tb_command.specs.Commands.{asks_to_keep, asks_to_serve, command_of};
 ghost use Rattle.tb_top.specs.Headline.{EachTableIsCounted};
-ghost use Rattle.tb_top.specs.HeadlineLanes.{EachLaneIsCounted};
-ghost use Rattle.tb_top.specs.HeadlineSessions.{EachSessionIsCounted};
 ghost use Rattle.tb_top.specs.InMemory.{Adds, NamesTheFailingRead, memory_call};
 ghost use Rattle.tb_top.specs.Loading.{reading};
 ghost use Rattle.tb_top.specs.Promises.{IsDefined, defined_status};
@@ -26,6 +24,7 @@ use std::sync::Wait;
 use std::sync::ledger::Ledger;
 use std::thread::Threads;
 use tb_base::{Status, Steps};
+use tb_command::Arguments;
 use tb_disk::Disk;
 use tb_io::{Files, Listen, MemFiles, MemSink, Sink, SureFiles, SureSink};
 use tb_serve::Port;
@@ -39,7 +38,7 @@ use tb_text::laws::each_line_ends_with_its_world;
 pub fn run_surely<N: Listen + Send, D: Disk + Send, L: Ledger>(
     rt: &(impl Threads + Wait + Sync),
     alloc: Global,
-    words: &[String],
+    arguments: &Arguments<'_>,
     files: &mut SureFiles,
     out: &mut SureSink,
     net: &mut Vec<Port<N>>,
@@ -53,15 +52,15 @@ pub fn run_surely<N: Listen + Send, D: Disk + Send, L: Ledger>(
     ensures write { result ≢ status.WriteFault }
     ensures defined { (result
         ≡ defined_status
-        (asked_of (λ name. Some (bytes_or_none files.old name)) (map string_bytes words.now)))
+        (asked_of (λ name. Some (bytes_or_none files.old name)) arguments.now))
         ⊎ ((result ≡ status.Memory)
         ⊎ (((result ≡ status.NetFault) × HasRisenSome net.old.items net.new.items)
         ⊎ ((result ≡ status.Journal) ⊎ (result ≡ status.DiskFault)))) }
     ensures disk { result ≡ status.DiskFault → HasRisen (D.faults disk.old) (D.faults disk.new)
-        ⊎ ((asks_to_serve (command_of (map string_bytes words.now)) ≡ true)
-        × (asks_to_keep (command_of (map string_bytes words.now)) ≡ true)) }
+        ⊎ ((asks_to_serve (command_of arguments.now) ≡ true)
+        × (asks_to_keep (command_of arguments.now) ≡ true)) }
 {
-    tablebuilder(rt, alloc, words, files, out, net, disk, steps)
+    tablebuilder(rt, alloc, arguments, files, out, net, disk, steps)
 }
 
 /// Runs one command over files and a sink in memory, of which some readings fail and which takes no
@@ -69,7 +68,7 @@ pub fn run_surely<N: Listen + Send, D: Disk + Send, L: Ledger>(
 pub fn run_in_memory<N: Listen + Send, D: Disk + Send, L: Ledger>(
     rt: &(impl Threads + Wait + Sync),
     alloc: Global,
-    words: &[String],
+    arguments: &Arguments<'_>,
     files: &mut MemFiles,
     out: &mut MemSink,
     net: &mut Vec<Port<N>>,
@@ -80,23 +79,21 @@ pub fn run_in_memory<N: Listen + Send, D: Disk + Send, L: Ledger>(
     requires fresh { All IsFresh net.old.items }
     requires attached { D.attached disk.old ≡ false }
     // The bytes are the text of the status.
-    ensures bytes { let arguments = map string_bytes words.now in
-        let call = memory_call arguments files.old files.new out.old out.new
+    ensures bytes { let call = memory_call arguments.now files.old files.new out.old out.new
         net.old.items net.new.items
         (disk_seen D.named D.could_leave D.attached D.content
         D.may_leave D.moment D.left_since D.faults disk.old disk.new) steps.old steps.new in
         Adds call files.old out.old out.new result }
     // A read fault's line names the file of the reading that failed, which was the last.
     ensures read { result ≡ status.ReadFault
-        → NamesTheFailingRead (map string_bytes words.now) files.old files.new out.old out.new }
-    ensures defined { let arguments = map string_bytes words.now in
-        let call = memory_call arguments files.old files.new out.old out.new
+        → NamesTheFailingRead arguments.now files.old files.new out.old out.new }
+    ensures defined { let call = memory_call arguments.now files.old files.new out.old out.new
         net.old.items net.new.items
         (disk_seen D.named D.could_leave D.attached D.content
         D.may_leave D.moment D.left_since D.faults disk.old disk.new) steps.old steps.new in
         IsDefined call (bytes_of files.old.held) result }
 {
-    tablebuilder(rt, alloc, words, files, out, net, disk, steps)
+    tablebuilder(rt, alloc, arguments, files, out, net, disk, steps)
 }
 
 /// Runs one command. Each table of persons that a script, a lane or a session prints is that of its
@@ -107,7 +104,7 @@ pub fn run_in_memory<N: Listen + Send, D: Disk + Send, L: Ledger>(
 pub fn print_counted_tables<F: Files, O: Sink, N: Listen + Send, D: Disk + Send, L: Ledger>(
     rt: &(impl Threads + Wait + Sync),
     alloc: Global,
-    words: &[String],
+    arguments: &Arguments<'_>,
     files: &mut F,
     out: &mut O,
     net: &mut Vec<Port<N>>,
@@ -117,18 +114,15 @@ pub fn print_counted_tables<F: Files, O: Sink, N: Listen + Send, D: Disk + Send,
     requires ports { vec_len net.old ≡ MOST_WORKERS + 1 }
     requires fresh { All IsFresh net.old.items }
     requires attached { D.attached disk.old ≡ false }
-    // Of a script, with a journal or without; of lanes that are answered at the same time; and of
-    // sessions, with a journal or without, and of a mirror's but at its leader's port.
-    ensures counted { let call = call_over (map string_bytes words.now)
+    ensures counted { let call = call_over arguments.now
         (reading F.content F.faults F.readings files.old files.new)
         (output (O.taken out.old) (O.taken out.new) (O.faults out.old) (O.faults out.new))
         net.old.items net.new.items
         (disk_seen D.named D.could_leave D.attached D.content
         D.may_leave D.moment D.left_since D.faults disk.old disk.new) steps.old steps.new in
-        EachTableIsCounted call result
-        × EachLaneIsCounted call result × EachSessionIsCounted call }
+        EachTableIsCounted call result }
 {
     numbers_never_fall();
     each_line_ends_with_its_world();
-    tablebuilder(rt, alloc, words, files, out, net, disk, steps)
+    tablebuilder(rt, alloc, arguments, files, out, net, disk, steps)
 }

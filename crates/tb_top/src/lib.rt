@@ -5,15 +5,15 @@
 //! No file is read before the words are a command's, none after one that is refused, and no line is
 //! answered before all are read. A run that ends so writes one last line, without memory (`End`).
 //!
-//! Begin at `top.rt`, `tablebuilder`: `ask` (`asking.rt`, then `load.rt`), and `answer`, a function
-//! a task. Its clause is `Keeps` (`specs/Promises`) over what the call saw (`specs/Calls`): what is
-//! asked for is a function (`specs/Asking`), what may be printed a relation (`specs/Outputs`). A
-//! new command is a variant of `Command`, `Asked` and `AskedValue`, a line of `command_files`, and
-//! a case of `load`, `answer`, `asked_over`, `IsOutput`, `IsBegun` and `IsAnswered`.
+//! Begin at `top.rt`, `tablebuilder`: `ask` (`asking.rt`, then `load.rt`), and `answer`, which goes
+//! by the lines that are asked for and then by who owns the chain. Its clause is `Keeps`
+//! (`specs/Promises`) over what the call saw (`specs/Calls`): what is asked for is a function
+//! (`specs/Asking`), what may be printed a relation (`specs/Outputs`). A new way in which lines come
+//! is a variant of `AskedLines` and a case of each definition that goes by it.
 #![tactic(auto)]
 
+mod asked;
 mod asking;
-mod command;
 mod follow;
 mod generated;
 mod host;
@@ -22,17 +22,14 @@ mod lanes;
 pub mod laws;
 mod load;
 mod mirror;
-mod numbers;
-mod population;
-mod service;
+mod over;
 mod summary;
 mod summing;
 mod sums;
 mod told_text;
 mod top;
 
-pub use command::{Command, FileName, GENERATED_THRESHOLD, Inputs, read_command};
-pub use load::{Asked, Census, MOST_BYTES, most_bytes_of};
-pub use population::Population;
-pub use service::{MOST_PORT, MOST_SESSIONS, MOST_WORKERS, Service};
+pub use asked::{Asked, AskedLines, Census};
+pub use generated::GENERATED_THRESHOLD;
+pub use load::{MOST_BYTES, most_bytes_of};
 pub use top::tablebuilder;

@@ -7,34 +7,35 @@
 // the last, by a list of named files. Two steps join by appending their lists (`proofs/LoadSteps`
 // has a lemma for each exit), and a file that couldn't be read is one of other contents.
 
-ghost use Rattle.std.specs.Prelude.{◌≡◌, ◌≤◌, ◌++◌, [], ◌∷◌, Some, true, length};
+ghost use Rattle.std.specs.Prelude.{◌≡◌, ◌≤◌, ◌++◌, [], ◌∷◌, Some, true, length, is_some};
 ghost use Rattle.std.specs.Prelude.{IfErr, IfOk, flat_map, option_map};
 ghost use Rattle.tb_base.specs.declared.people.TheConstants.{MOST_PERSONS};
 ghost use Rattle.tb_base.specs.Persons.{AreDistinct};
 ghost use Rattle.tb_base.specs.Records.{AllFit};
+ghost use Rattle.tb_command.specs.Commands.{asks_to_generate, asks_to_keep, asks_to_serve};
+ghost use Rattle.tb_command.specs.Commands.{ports_service};
 ghost use Rattle.tb_model.specs.Schemas.{shape_of};
 ghost use Rattle.tb_endings.specs.declared.endings.End.TheVariants as end;
 ghost use Rattle.tb_endings.specs.declared.endings.Input.TheVariants as input;
-ghost use Rattle.tb_top.specs.Asking.{asked_over, bytes_in, census_in, input_place, is_keep};
-ghost use Rattle.tb_top.specs.Asking.{host_in, is_service};
-ghost use Rattle.tb_top.specs.Asking.{most_bytes, people_in, perturbation_in, recodes_in};
-ghost use Rattle.tb_top.specs.Asking.{counted_in, counted_script_in, units_in};
-ghost use Rattle.tb_top.specs.Asking.{schema_in, script_in, scripted_in};
+ghost use Rattle.tb_top.specs.Asking.{asked_after, asked_over, base_in, bytes_in, census_in};
+ghost use Rattle.tb_top.specs.Asking.{census_of, people_added, setup_in, setup_over};
+ghost use Rattle.tb_top.specs.Asking.{come_at_ports, input_place, is_keep, is_service};
+ghost use Rattle.tb_top.specs.Asking.{lines_over, most_bytes, people_in, perturbation_in};
+ghost use Rattle.tb_top.specs.Asking.{recodes_in, schema_in, script_in, scripted_in, task_over};
+ghost use Rattle.tb_top.specs.Asking.{units_added, units_in};
 ghost use Rattle.tb_top.specs.Asking.{with_units as census_with_units};
-ghost use Rattle.tb_top.specs.Commands.{asks_to_generate, asks_to_keep, asks_to_serve};
-ghost use Rattle.tb_top.specs.Commands.{class_files, counted_files};
-ghost use Rattle.tb_top.specs.Commands.{command_files, input_files, named, recodes_files};
-ghost use Rattle.tb_top.specs.Commands.{scripted_files};
-ghost use Rattle.tb_top.specs.Loading.{AskedIsFirst, IsFirst, Loads, asked_value, census_value};
+ghost use Rattle.tb_top.specs.InputFiles.{class_files, command_files, counted_files, input_files};
+ghost use Rattle.tb_top.specs.InputFiles.{lines_files, named, recodes_files, script_files};
+ghost use Rattle.tb_top.specs.InputFiles.{scripted_files, setup_files, task_files, unit_files};
+ghost use Rattle.tb_top.specs.Loading.{AskedIsFirst, IsBase, IsFirst, Loads, asked_value, census_value};
 ghost use Rattle.tb_top.specs.Loading.{reading, scripted_value};
 
-use crate::command::{Command, FileName, Inputs};
+use crate::asked::{Asked, AskedLines, Census, Scripted};
 use crate::generated::load_generated;
-use crate::population::Population;
-use crate::service::Service;
 use std::alloc::Global;
 use std::thread::Threads;
 use tb_base::{Keys, Record, Rules};
+use tb_command::{Command, FileName, Inputs, Lines, Task, UnitFiles};
 use tb_endings::{End, Input};
 use tb_io::{FileRead, Files};
 use tb_ptable::PTable;
@@ -47,63 +48,6 @@ use tb_units::Units;
 
 /// The most bytes that a file may have, the script apart: 256 MiB.
 pub const MOST_BYTES: u64 = 268_435_456;
-
-/// A census: the setup, and release 0 of the microdata.
-#[derive(Drop)]
-pub struct Census {
-    pub setup: Setup,
-    pub release: Release,
-}
-
-/// A census, and a script over it.
-#[derive(Drop)]
-pub struct Scripted {
-    pub census: Census,
-    pub script: Script,
-}
-
-/// What a run is asked for over a census: to answer the lines of a script, its lanes at the same
-/// time, its lines with a journal under this name, or its lines with a follower in place of a
-/// board; to serve sessions, with a journal under this name, as a mirror of a leader, or with
-/// neither; or to sum up the replies to a generated script.
-#[derive(Drop)]
-pub enum Asked {
-    Script {
-        census: Census,
-        script: Script,
-    },
-    Lanes {
-        census: Census,
-        script: Script,
-    },
-    Keep {
-        census: Census,
-        journal: String,
-        script: Script,
-    },
-    Follow {
-        census: Census,
-        script: Script,
-    },
-    Host {
-        census: Census,
-        journal: String,
-        service: Service,
-    },
-    Mirror {
-        census: Census,
-        service: Service,
-    },
-    Serve {
-        census: Census,
-        service: Service,
-    },
-    Gen {
-        population: Population,
-        census: Census,
-        script: Script,
-    },
-}
 
 /// The most bytes that a file may have.
 pub fn most_bytes_of(file: Input) -> u64
@@ -231,7 +175,92 @@ fn load_people<F: Files, R: Threads + Sync>(
     }
 }
 
-// The setup and release 0, which is made when no file's bytes are held any more.
+// The setup of a classification, without dwellings.
+fn add_ptable<F: Files>(
+    alloc: Global,
+    files: &mut F,
+    schema: Schema,
+    name: &FileName<'_>,
+) -> Result<Setup, End>
+    ensures loads { Loads
+        (reading F.content F.faults F.readings files.old files.new)
+        2
+        (named input.Ptable name.now ∷ [])
+        (λ setup. setup)
+        (setup_over schema) result }
+{
+    let ptable = load_ptable(alloc, files, name, schema.keys())?;
+    Ok(Setup {
+        schema,
+        ptable,
+        units: None,
+    })
+}
+
+// The setup, without dwellings.
+fn load_setup<F: Files>(alloc: Global, files: &mut F, inputs: &Inputs<'_>) -> Result<Setup, End>
+    ensures loads { Loads
+        (reading F.content F.faults F.readings files.old files.new)
+        0
+        (setup_files inputs.now)
+        (λ setup. setup)
+        (setup_in inputs.now) result }
+{
+    let schema = load_schema(alloc, files, inputs)?;
+    add_ptable(alloc, files, schema, &inputs.ptable)
+}
+
+// Release 0 of the microdata, which is made when no file's bytes are held any more.
+fn load_base<F: Files, R: Threads + Sync>(
+    rt: &R,
+    alloc: Global,
+    files: &mut F,
+    inputs: &Inputs<'_>,
+    schema: &Schema,
+) -> Result<Release, End>
+    ensures base { IfOk result IsBase }
+    ensures fit { IfOk result (λ base. AllFit (shape_of schema.now) base.records) }
+    ensures loads { Loads
+        (reading F.content F.faults F.readings files.old files.new)
+        3
+        (named input.People inputs.now.people ∷ [])
+        (λ base. base)
+        (base_in inputs.now schema.now) result }
+{
+    let people = load_people(rt, alloc, files, &inputs.people, schema)?;
+    let rules = Rules::new(alloc, inputs.threshold);
+    let release = Release::first_in_parts(rt, alloc, people, rules)?;
+    Ok(release)
+}
+
+// The classification of a setup.
+fn schema_of(setup: &Setup) -> &Schema
+    ensures { result.now ≡ setup.now.schema }
+{
+    &setup.schema
+}
+
+// The census of a setup.
+fn add_people<F: Files, R: Threads + Sync>(
+    rt: &R,
+    alloc: Global,
+    files: &mut F,
+    inputs: &Inputs<'_>,
+    setup: Setup,
+) -> Result<Census, End>
+    ensures first { IfOk result IsFirst }
+    ensures loads { Loads
+        (reading F.content F.faults F.readings files.old files.new)
+        3
+        (named input.People inputs.now.people ∷ [])
+        census_value
+        (people_added inputs.now setup) result }
+{
+    let release = load_base(rt, alloc, files, inputs, schema_of(&setup))?;
+    Ok(Census { setup, release })
+}
+
+// The setup, without dwellings, and release 0.
 fn load_census<F: Files, R: Threads + Sync>(
     rt: &R,
     alloc: Global,
@@ -246,17 +275,8 @@ fn load_census<F: Files, R: Threads + Sync>(
         census_value
         (census_in inputs.now) result }
 {
-    let schema = load_schema(alloc, files, inputs)?;
-    let ptable = load_ptable(alloc, files, &inputs.ptable, schema.keys())?;
-    let people = load_people(rt, alloc, files, &inputs.people, &schema)?;
-    let rules = Rules::new(alloc, inputs.threshold);
-    let release = Release::first_in_parts(rt, alloc, people, rules)?;
-    let setup = Setup {
-        schema,
-        ptable,
-        units: None,
-    };
-    Ok(Census { setup, release })
+    let setup = load_setup(alloc, files, inputs)?;
+    add_people(rt, alloc, files, inputs, setup)
 }
 
 // The dwellings and the links, both read before either is checked.
@@ -264,18 +284,17 @@ fn load_units<F: Files>(
     alloc: Global,
     files: &mut F,
     keys: Keys,
-    dwellings: &FileName<'_>,
-    links: &FileName<'_>,
+    names: &UnitFiles<'_>,
 ) -> Result<Units, End>
     ensures loads { Loads
         (reading F.content F.faults F.readings files.old files.new)
         4
-        (named input.Dwellings dwellings.now ∷ named input.Links links.now ∷ [])
+        (unit_files (Some names.now))
         (λ units. units)
         (units_in keys) result }
 {
-    let dwellings = read_bytes(alloc, files, Input::Dwellings, dwellings)?;
-    let links = read_bytes(alloc, files, Input::Links, links)?;
+    let dwellings = read_bytes(alloc, files, Input::Dwellings, &names.dwellings)?;
+    let links = read_bytes(alloc, files, Input::Links, &names.links)?;
     Ok(Units::read(alloc, keys, &dwellings, &links)?)
 }
 
@@ -305,27 +324,47 @@ fn with_units(census: Census, units: Units) -> Census
     Census { setup, release }
 }
 
-// The setup with dwellings, and release 0.
+// A census with the dwellings of these files.
+fn add_units<F: Files>(
+    alloc: Global,
+    files: &mut F,
+    census: Census,
+    names: &UnitFiles<'_>,
+) -> Result<Census, End>
+    ensures first { IsFirst census → IfOk result IsFirst }
+    ensures loads { Loads
+        (reading F.content F.faults F.readings files.old files.new)
+        4
+        (unit_files (Some names.now))
+        census_value
+        (units_added (census_value census)) result }
+{
+    let keys = keys_of(&census.setup);
+    let units = load_units(alloc, files, keys, names)?;
+    Ok(with_units(census, units))
+}
+
+// The setup, with dwellings where they are named, and release 0.
 fn load_counted<F: Files, R: Threads + Sync>(
     rt: &R,
     alloc: Global,
     files: &mut F,
     inputs: &Inputs<'_>,
-    dwellings: &FileName<'_>,
-    links: &FileName<'_>,
+    units: &Option<UnitFiles<'_>>,
 ) -> Result<Census, End>
     ensures first { IfOk result IsFirst }
     ensures loads { Loads
         (reading F.content F.faults F.readings files.old files.new)
         0
-        (counted_files inputs.now dwellings.now links.now)
+        (counted_files inputs.now units.now)
         census_value
-        (counted_in inputs.now) result }
+        (census_of inputs.now units.now) result }
 {
     let census = load_census(rt, alloc, files, inputs)?;
-    let keys = keys_of(&census.setup);
-    let units = load_units(alloc, files, keys, dwellings, links)?;
-    Ok(with_units(census, units))
+    match units {
+        Some(names) => add_units(alloc, files, census, names),
+        None => Ok(census),
+    }
 }
 
 // The script of that name.
@@ -333,7 +372,7 @@ fn load_script<F: Files>(alloc: Global, files: &mut F, name: &FileName<'_>) -> R
     ensures loads { Loads
         (reading F.content F.faults F.readings files.old files.new)
         6
-        (named input.Script name.now ∷ [])
+        (script_files name.now)
         (λ script. script)
         script_in result }
 {
@@ -366,69 +405,89 @@ pub(crate) fn load_scripted<F: Files, R: Threads + Sync>(
     Ok(Scripted { census, script })
 }
 
-// The census with dwellings, and the script of that name, which is read last.
-fn load_counted_script<F: Files, R: Threads + Sync>(
-    rt: &R,
-    alloc: Global,
-    files: &mut F,
-    inputs: &Inputs<'_>,
-    dwellings: &FileName<'_>,
-    links: &FileName<'_>,
-    script: &FileName<'_>,
-) -> Result<Scripted, End>
-    ensures first { IfOk result (λ read. IsFirst read.census) }
+// The lines of a task, of which the script is read where there is one.
+fn load_lines<F: Files>(alloc: Global, files: &mut F, lines: &Lines<'_>) -> Result<AskedLines, End>
+    ensures kind { IfOk result (λ asked. come_at_ports asked
+        ≡ is_some (ports_service lines.now)) }
     ensures loads { Loads
         (reading F.content F.faults F.readings files.old files.new)
-        0
-        (counted_files inputs.now dwellings.now links.now
-        ++ (named input.Script script.now ∷ []))
-        scripted_value
-        (counted_script_in inputs.now) result }
+        6
+        (lines_files lines.now)
+        (λ asked. asked)
+        (lines_over lines.now) result }
 {
-    let census = load_counted(rt, alloc, files, inputs, dwellings, links)?;
-    let script = load_script(alloc, files, script)?;
-    Ok(Scripted { census, script })
+    match lines {
+        Lines::Script(name) => {
+            let script = load_script(alloc, files, name)?;
+            Ok(AskedLines::Script(script))
+        }
+        Lines::Lanes(name) => {
+            let script = load_script(alloc, files, name)?;
+            Ok(AskedLines::Lanes(script))
+        }
+        Lines::Ports(service) => Ok(AskedLines::Ports(service.copy())),
+    }
 }
 
-// The census, and a journal's name and a service to have over it.
-fn load_host<F: Files, R: Threads + Sync>(
+// What a task asks for over a census that was read.
+fn with_lines<'a, F: Files>(
+    alloc: Global,
+    files: &mut F,
+    census: Census,
+    task: &Task<'a>,
+) -> Result<Asked<'a>, End>
+    requires first { IsFirst census }
+    ensures first { IfOk result AskedIsFirst }
+    ensures kind { IfOk result (λ asked. is_service (asked_value asked)
+        ≡ is_some (ports_service task.now.lines)) }
+    ensures owner { IfOk result (λ asked. asked.owner ≡ task.now.owner) }
+    ensures loads { Loads
+        (reading F.content F.faults F.readings files.old files.new)
+        6
+        (lines_files task.now.lines)
+        asked_value
+        (asked_after task.now (census_value census)) result }
+{
+    let lines = load_lines(alloc, files, &task.lines)?;
+    Ok(Asked {
+        census,
+        owner: task.owner.copy(),
+        lines,
+    })
+}
+
+// What a task asks for over its files.
+fn load_task<'a, F: Files, R: Threads + Sync>(
     rt: &R,
     alloc: Global,
     files: &mut F,
-    inputs: &Inputs<'_>,
-    journal: &FileName<'_>,
-    service: &Service,
-) -> Result<Asked, End>
+    task: &Task<'a>,
+) -> Result<Asked<'a>, End>
     ensures first { IfOk result AskedIsFirst }
-    ensures kind { IfOk result (λ asked. is_service (asked_value asked) ≡ true) }
-    ensures keeps { IfOk result (λ asked. is_keep (asked_value asked) ≡ true) }
+    ensures kind { IfOk result (λ asked. is_service (asked_value asked)
+        ≡ is_some (ports_service task.now.lines)) }
+    ensures owner { IfOk result (λ asked. asked.owner ≡ task.now.owner) }
     ensures loads { Loads
         (reading F.content F.faults F.readings files.old files.new)
         0
-        (input_files inputs.now)
+        (task_files task.now)
         asked_value
-        (host_in inputs.now journal.now service.now) result }
+        (task_over task.now) result }
 {
-    let census = load_census(rt, alloc, files, inputs)?;
-    let journal = String::from_str(alloc, journal.as_str())?;
-    let service = service.copy();
-    Ok(Asked::Host {
-        census,
-        journal,
-        service,
-    })
+    let census = load_counted(rt, alloc, files, &task.inputs, &task.units)?;
+    with_lines(alloc, files, census, task)
 }
 
 /// Reads the files of a command: CLASSES and RECODES, both before either is checked, then PTABLE,
 /// PEOPLE and the task's, if it has any, each checked before the next is read, but for DWELLINGS
 /// and LINKS, which are checked once both are read. For a generated population it reads none, and
 /// makes them. It takes memory for each file while it is read, and for what it says.
-pub fn load<F: Files, R: Threads + Sync>(
+pub fn load<'a, F: Files, R: Threads + Sync>(
     rt: &R,
     alloc: Global,
     files: &mut F,
-    command: &Command<'_>,
-) -> Result<Asked, End>
+    command: &Command<'a>,
+) -> Result<Asked<'a>, End>
     ensures first { IfOk result AskedIsFirst }
     ensures kind { IfOk result (λ asked. is_service (asked_value asked)
         ≡ asks_to_serve (Some command.now)) }
@@ -444,60 +503,7 @@ pub fn load<F: Files, R: Threads + Sync>(
         (asked_over command.now) result }
 {
     match command {
-        Command::Script { inputs, script } => {
-            let read = load_scripted(rt, alloc, files, inputs, script)?;
-            let Scripted { census, script } = read;
-            Ok(Asked::Script { census, script })
-        }
-        Command::Lanes { inputs, script } => {
-            let read = load_scripted(rt, alloc, files, inputs, script)?;
-            let Scripted { census, script } = read;
-            Ok(Asked::Lanes { census, script })
-        }
-        Command::Keep {
-            inputs,
-            journal,
-            script,
-        } => {
-            let read = load_scripted(rt, alloc, files, inputs, script)?;
-            let Scripted { census, script } = read;
-            let journal = String::from_str(alloc, journal.as_str())?;
-            Ok(Asked::Keep {
-                census,
-                journal,
-                script,
-            })
-        }
-        Command::Follow { inputs, script } => {
-            let read = load_scripted(rt, alloc, files, inputs, script)?;
-            let Scripted { census, script } = read;
-            Ok(Asked::Follow { census, script })
-        }
-        Command::Units {
-            inputs,
-            dwellings,
-            links,
-            script,
-        } => {
-            let read = load_counted_script(rt, alloc, files, inputs, dwellings, links, script)?;
-            let Scripted { census, script } = read;
-            Ok(Asked::Script { census, script })
-        }
-        Command::Host {
-            inputs,
-            journal,
-            service,
-        } => load_host(rt, alloc, files, inputs, journal, service),
-        Command::Mirror { inputs, service } => {
-            let census = load_census(rt, alloc, files, inputs)?;
-            let service = service.copy();
-            Ok(Asked::Mirror { census, service })
-        }
-        Command::Serve { inputs, service } => {
-            let census = load_census(rt, alloc, files, inputs)?;
-            let service = service.copy();
-            Ok(Asked::Serve { census, service })
-        }
-        Command::Gen { population } => load_generated(rt, alloc, population),
+        Command::Over(task) => load_task(rt, alloc, files, task),
+        Command::Gen(population) => load_generated(rt, alloc, population),
     }
 }

@@ -3,16 +3,16 @@
 ghost use Rattle.std.specs.Prelude.{◌≡◌, ◌+◌, All, vec_len};
 ghost use Rattle.tb_serve.specs.Serves.{output};
 ghost use Rattle.tb_serve.specs.Stages.{IsFresh};
-ghost use Rattle.tb_top.specs.declared.service.TheConstants.{MOST_WORKERS};
+ghost use Rattle.tb_command.specs.declared.service.TheConstants.{MOST_WORKERS};
 ghost use Rattle.tb_top.specs.Loading.{IsFirst, census_value};
 ghost use Rattle.tb_top.specs.MirrorOutputs.{IsMirrorAnswered};
 
-use crate::load::Census;
-use crate::service::Service;
+use crate::asked::Census;
 use std::alloc::Global;
 use std::sync::Wait;
 use std::thread::Threads;
 use tb_base::Status;
+use tb_command::Service;
 use tb_io::{Listen, Sink};
 use tb_mirror::serve_mirror;
 use tb_serve::Port;

@@ -5,9 +5,9 @@ ghost use Rattle.tb_io.specs.Taken.{IsWritten};
 ghost use Rattle.tb_top.specs.Summaries.{summary_line};
 ghost use Rattle.tb_top.specs.Summing.{AreSums};
 
-use crate::population::Population;
 use crate::sums::Sums;
 use itoa::Buffer;
+use tb_command::Population;
 use tb_io::{Sink, Wrote, write_all};
 
 /// Writes the line that sums up a text of replies, of which these are the sums. It takes no memory.

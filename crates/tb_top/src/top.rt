@@ -1,38 +1,37 @@
 // The top call.
 //
-// A match arm that takes several owned fields and lends them to its call owes their drops at each
-// exit of the match: so the fields of `Keep` are handed over by value, to a function that lends
-// them.
+// What is asked for is taken apart by the lines, each function owning the census alone: who owns the
+// chain is lent to the next, which decides by it.
 //
 // Each way to end has a lemma that gives all of `Keeps`: `proofs/Finishing`, of a task that is no
 // script `Serving`, and of files that are made `Generating`.
 
-ghost use Rattle.std.specs.Prelude.{◌≡◌, ◌+◌, ℕ, List, All, false, map, string_bytes};
+ghost use Rattle.std.specs.Prelude.{◌≡◌, ◌+◌, ℕ, List, All, false};
 ghost use Rattle.std.specs.Prelude.{vec_len};
 ghost use Rattle.tb_base.specs.Records.{AllFit};
 ghost use Rattle.tb_model.specs.Schemas.{shape_of};
 ghost use Rattle.tb_serve.specs.Serves.{output};
 ghost use Rattle.tb_serve.specs.Stages.{IsFresh};
-ghost use Rattle.tb_top.specs.declared.service.TheConstants.{MOST_WORKERS};
-ghost use Rattle.tb_top.specs.Asking.{Script as AskedScript};
+ghost use Rattle.tb_command.specs.declared.service.TheConstants.{MOST_WORKERS};
+ghost use Rattle.tb_top.specs.Asking.{asked_with};
 ghost use Rattle.tb_top.specs.KeepOutputs.{disk_seen};
 ghost use Rattle.tb_top.specs.Loading.{AskedIsFirst, IsBase, IsFirst, asked_value};
-ghost use Rattle.tb_top.specs.Loading.{census_over, census_value, reading};
-ghost use Rattle.tb_top.specs.Outputs.{IsAnswered, IsGenAnswered, IsScriptAnswered, IsSummedUp};
+ghost use Rattle.tb_top.specs.Asking.{census_over};
+ghost use Rattle.tb_top.specs.Loading.{census_value, reading};
+ghost use Rattle.tb_top.specs.Outputs.{ArePortsAnswered, AreScriptReplies, IsAnswered};
+ghost use Rattle.tb_top.specs.Outputs.{IsGenAnswered, IsRunAnswered, IsScriptAnswered, IsSummedUp};
 ghost use Rattle.tb_top.specs.Services.{IsServiceAnswered};
 ghost use Rattle.tb_top.specs.Promises.{Keeps};
 ghost use Rattle.tb_top.specs.Seen.{call_over};
 ghost use Rattle.tb_top.specs.Summing.{AreSums};
 
+use crate::asked::{Asked, AskedLines, Census};
 use crate::asking::ask;
 use crate::follow::answer_follow;
-use crate::host::answer_host;
-use crate::keep::answer_keep;
+use crate::host::{Hosted, answer_host};
+use crate::keep::{Kept, answer_keep};
 use crate::lanes::answer_lanes;
-use crate::load::{Asked, Census};
 use crate::mirror::answer_mirror;
-use crate::population::Population;
-use crate::service::Service;
 use crate::summary::write_summary;
 use crate::summing::SummingSink;
 use crate::sums::Sums;
@@ -43,6 +42,7 @@ use std::sync::ledger::Ledger;
 use std::thread::Threads;
 use tb_base::{Memory, Status, Steps};
 use tb_board::{Board, Named, Opening};
+use tb_command::{Arguments, Owner, Population, Service};
 use tb_disk::Disk;
 use tb_endings::{End, end_by, end_run};
 use tb_io::{Files, Listen, Sink, Wrote};
@@ -51,6 +51,14 @@ use tb_script::{Script, run_script};
 use tb_serve::{Port, serve};
 use tb_session::FIRST_CAPACITY;
 use tb_text::Setup;
+
+// What a run has: threads, memory, and who owns its chain.
+#[derive(Drop)]
+struct Running<'r, 'a, R: Threads + Wait + Sync> {
+    rt: &'r R,
+    alloc: Global,
+    owner: &'r Owner<'a>,
+}
 
 // Answers the lines of a script over a board.
 fn answer_on_board<B: Named, R: Threads + Wait + Sync, O: Sink, L: Ledger>(
@@ -65,8 +73,8 @@ fn answer_on_board<B: Named, R: Threads + Wait + Sync, O: Sink, L: Ledger>(
     requires name { opening.name ≡ B.name }
     requires shape { opening.start.shape ≡ shape_of setup.now.schema }
     requires first { IsBase opening.start.base }
-    ensures { IsScriptAnswered (AskedScript
-        (census_over setup.now opening.start.base) script.now) result
+    ensures { IsScriptAnswered
+        (AreScriptReplies (census_over setup.now opening.start.base) script.now) result
         (O.faults out.old) (O.faults out.new) (O.taken out.old) (O.taken out.new)
         steps.old steps.new }
 {
@@ -87,7 +95,7 @@ fn script_from<R: Threads + Wait + Sync, O: Sink, L: Ledger>(
 ) -> Status
     requires base { IsBase base }
     requires fit { AllFit (shape_of setup.now.schema) base.records }
-    ensures { IsScriptAnswered (AskedScript (census_over setup.now base) script.now) result
+    ensures { IsScriptAnswered (AreScriptReplies (census_over setup.now base) script.now) result
         (O.faults out.old) (O.faults out.new) (O.taken out.old) (O.taken out.new)
         steps.old steps.new }
 {
@@ -109,7 +117,7 @@ fn answer_script<R: Threads + Wait + Sync, O: Sink, L: Ledger>(
     steps: &mut Steps<L>,
 ) -> Status
     requires { IsFirst census }
-    ensures { IsScriptAnswered (AskedScript (census_value census) script.now) result
+    ensures { IsScriptAnswered (AreScriptReplies (census_value census) script.now) result
         (O.faults out.old) (O.faults out.new) (O.taken out.old) (O.taken out.new)
         steps.old steps.new }
 {
@@ -185,11 +193,107 @@ fn serve_census<R: Threads + Wait + Sync, O: Sink, N: Listen + Send>(
     )
 }
 
+// Answers the lines of a script, by who owns the chain.
+fn answer_run<R: Threads + Wait + Sync, O: Sink, D: Disk, L: Ledger>(
+    run: &Running<'_, '_, R>,
+    census: Census,
+    script: &Script,
+    out: &mut O,
+    disk: &mut D,
+    steps: &mut Steps<L>,
+) -> Status
+    requires first { IsFirst census }
+    requires attached { D.attached disk.old ≡ false }
+    ensures { IsRunAnswered run.now.owner.now (census_value census) script.now
+        (disk_seen D.named D.could_leave D.attached D.content
+        D.may_leave D.moment D.left_since D.faults disk.old disk.new) result
+        (output (O.taken out.old) (O.taken out.new) (O.faults out.old) (O.faults out.new))
+        steps.old steps.new }
+{
+    let (rt, alloc) = (run.rt, run.alloc);
+    match run.owner {
+        Owner::Custodian => answer_script(rt, alloc, census, script, out, steps),
+        Owner::Journal(name) => {
+            let kept = Kept {
+                journal: name.as_str(),
+                script,
+            };
+            answer_keep(rt, alloc, census, &kept, out, disk, steps)
+        }
+        Owner::Leader => answer_follow(rt, alloc, census, script, out, steps),
+    }
+}
+
+// Serves sessions, by who owns the chain.
+fn answer_ports<R: Threads + Wait + Sync, O: Sink, N: Listen + Send, D: Disk + Send>(
+    run: &Running<'_, '_, R>,
+    census: Census,
+    service: &Service,
+    out: &mut O,
+    net: &mut Vec<Port<N>>,
+    disk: &mut D,
+) -> Status
+    requires first { IsFirst census }
+    requires ports { vec_len net.old ≡ MOST_WORKERS + 1 }
+    requires fresh { All IsFresh net.old.items }
+    requires attached { D.attached disk.old ≡ false }
+    ensures { ArePortsAnswered run.now.owner.now (census_value census) service.now
+        net.old.items net.new.items
+        (disk_seen D.named D.could_leave D.attached D.content
+        D.may_leave D.moment D.left_since D.faults disk.old disk.new) result
+        (output (O.taken out.old) (O.taken out.new) (O.faults out.old) (O.faults out.new)) }
+{
+    let (rt, alloc) = (run.rt, run.alloc);
+    match run.owner {
+        Owner::Custodian => serve_census(rt, alloc, census, service, out, net),
+        Owner::Journal(name) => {
+            let hosted = Hosted {
+                journal: name.as_str(),
+                service,
+            };
+            answer_host(rt, alloc, census, &hosted, out, net, disk)
+        }
+        Owner::Leader => answer_mirror(rt, alloc, census, service, out, net),
+    }
+}
+
+// Does what is asked for, by the lines.
+fn answer_lines<R: Threads + Wait + Sync, O: Sink, N: Listen + Send, D: Disk + Send, L: Ledger>(
+    run: &Running<'_, '_, R>,
+    census: Census,
+    lines: &AskedLines,
+    out: &mut O,
+    net: &mut Vec<Port<N>>,
+    disk: &mut D,
+    steps: &mut Steps<L>,
+) -> Status
+    requires first { IsFirst census }
+    requires ports { vec_len net.old ≡ MOST_WORKERS + 1 }
+    requires fresh { All IsFresh net.old.items }
+    requires attached { D.attached disk.old ≡ false }
+    ensures { IsAnswered (asked_with (census_value census) run.now.owner.now lines.now)
+        net.old.items net.new.items
+        (disk_seen D.named D.could_leave D.attached D.content
+        D.may_leave D.moment D.left_since D.faults disk.old disk.new) result
+        (output (O.taken out.old) (O.taken out.new) (O.faults out.old) (O.faults out.new))
+        steps.old steps.new }
+{
+    let (rt, alloc) = (run.rt, run.alloc);
+    match lines {
+        AskedLines::Script(script) => answer_run(run, census, script, out, disk, steps),
+        AskedLines::Lanes(script) => answer_lanes(rt, alloc, census, script, out),
+        AskedLines::Ports(service) => answer_ports(run, census, service, out, net, disk),
+        AskedLines::Sums { population, script } => {
+            sum_up(rt, alloc, population, census, script, out, steps)
+        }
+    }
+}
+
 // Does what is asked for.
 fn answer<R: Threads + Wait + Sync, O: Sink, N: Listen + Send, D: Disk + Send, L: Ledger>(
     rt: &R,
     alloc: Global,
-    asked: Asked,
+    asked: Asked<'_>,
     out: &mut O,
     net: &mut Vec<Port<N>>,
     disk: &mut D,
@@ -199,38 +303,23 @@ fn answer<R: Threads + Wait + Sync, O: Sink, N: Listen + Send, D: Disk + Send, L
     requires ports { vec_len net.old ≡ MOST_WORKERS + 1 }
     requires fresh { All IsFresh net.old.items }
     requires attached { D.attached disk.old ≡ false }
-    ensures { IsAnswered (asked_value asked) net.old.items net.new.items
+    ensures { IsAnswered (asked_value asked.entry) net.old.items net.new.items
         (disk_seen D.named D.could_leave D.attached D.content
         D.may_leave D.moment D.left_since D.faults disk.old disk.new) result
-        (O.faults out.old) (O.faults out.new) (O.taken out.old) (O.taken out.new)
+        (output (O.taken out.old) (O.taken out.new) (O.faults out.old) (O.faults out.new))
         steps.old steps.new }
 {
-    match asked {
-        Asked::Script { census, script } => {
-            answer_script(rt, alloc, census, &script, out, steps)
-        }
-        Asked::Lanes { census, script } => answer_lanes(rt, alloc, census, &script, out),
-        Asked::Keep {
-            census,
-            journal,
-            script,
-        } => answer_keep(rt, alloc, census, journal, script, out, disk, steps),
-        Asked::Follow { census, script } => {
-            answer_follow(rt, alloc, census, &script, out, steps)
-        }
-        Asked::Host {
-            census,
-            journal,
-            service,
-        } => answer_host(rt, alloc, census, journal, &service, out, net, disk),
-        Asked::Mirror { census, service } => answer_mirror(rt, alloc, census, &service, out, net),
-        Asked::Serve { census, service } => serve_census(rt, alloc, census, &service, out, net),
-        Asked::Gen {
-            population,
-            census,
-            script,
-        } => sum_up(rt, alloc, &population, census, &script, out, steps),
-    }
+    let Asked {
+        census,
+        owner,
+        lines,
+    } = asked;
+    let run = Running {
+        rt,
+        alloc,
+        owner: &owner,
+    };
+    answer_lines(&run, census, &lines, out, net, disk, steps)
 }
 
 /// Runs one command: reads its files, does its task, and says how the run ended, if it returns.
@@ -250,8 +339,11 @@ fn answer<R: Threads + Wait + Sync, O: Sink, N: Listen + Send, D: Disk + Send, L
 /// RECODES PTABLE PEOPLE THRESHOLD PORT WORKERS SESSIONS` the listeners are bound, the first to
 /// PORT for the custodian and one for each worker to the ports after it, and each worker serves
 /// sessions in a thread of its own, one after another; in the end `out` takes how many each had.
-/// With `mirror` and the same arguments the first port's sessions bring a leader's numbered
-/// messages, each of which is published when all before it are.
+/// With `host`, which has DWELLINGS, LINKS and JOURNAL before PORT, the batches of the journal are
+/// published first, and each further one is on the disk before its publication is told. With
+/// `mirror`, which has DWELLINGS and LINKS there, the first port's sessions bring a leader's
+/// numbered messages, each of which is published when all before it are. Both may have `-` in the
+/// places of DWELLINGS and LINKS, and count dwellings where they don't.
 /// With `gen N START` no file is read: the replies are those that `script` would write over the
 /// generated files of N persons, and `out` takes how many lines and bytes they have, and the sum of
 /// their byte values. Other arguments are refused.
@@ -268,7 +360,7 @@ fn answer<R: Threads + Wait + Sync, O: Sink, N: Listen + Send, D: Disk + Send, L
 pub fn tablebuilder<F: Files, O: Sink, N: Listen + Send, D: Disk + Send, L: Ledger>(
     rt: &(impl Threads + Wait + Sync),
     alloc: Global,
-    words: &[String],
+    arguments: &Arguments<'_>,
     files: &mut F,
     out: &mut O,
     net: &mut Vec<Port<N>>,
@@ -281,7 +373,7 @@ pub fn tablebuilder<F: Files, O: Sink, N: Listen + Send, D: Disk + Send, L: Ledg
     requires attached { D.attached disk.old ≡ false }
     // What the call keeps, promise by promise, over what it saw.
     ensures { Keeps
-        (call_over (map string_bytes words.now)
+        (call_over arguments.now
         (reading F.content F.faults F.readings files.old files.new)
         (output (O.taken out.old) (O.taken out.new) (O.faults out.old) (O.faults out.new))
         net.old.items net.new.items
@@ -289,7 +381,7 @@ pub fn tablebuilder<F: Files, O: Sink, N: Listen + Send, D: Disk + Send, L: Ledg
         D.may_leave D.moment D.left_since D.faults disk.old disk.new) steps.old steps.new)
         result }
 {
-    match ask(rt, alloc, words, files) {
+    match ask(rt, alloc, arguments, files) {
         Ok(asked) => answer(rt, alloc, asked, out, net, disk, steps),
         Err(end) => end_by(&end, out),
     }

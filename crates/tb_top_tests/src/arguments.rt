@@ -3,13 +3,13 @@
 use std::alloc::Global;
 use std::test::Fail;
 use tb_base::Memory;
+use tb_command::read_command;
 use tb_small_runs::words_of;
-use tb_top::read_command;
 
 // Arguments, which one blank parts, and whether they are a command's.
 type Row = (&'static str, bool);
 
-static ROWS: [Row; 121] = [
+static ROWS: [Row; 131] = [
     ("", false),
     ("help", false),
     ("help script", false),
@@ -107,13 +107,44 @@ static ROWS: [Row; 121] = [
         "script classes - ptable people 0 dwellings links script",
         false,
     ),
-    ("mirror classes - ptable people 0 5000 1", false),
-    ("mirror classes - ptable people 0 5000 1 1", true),
-    ("mirror classes - ptable people 0 5000 1 1 1", false),
-    ("mirror classes - ptable people 0 journal 5000 1 1", false),
-    ("mirror classes - ptable people 0 65520 1 1", false),
-    ("mirror classes - ptable people 0 5000 17 1", false),
-    ("mirror classes - ptable people 0 5000 1 0", false),
+    ("mirror classes - ptable people 0 - - 5000 1", false),
+    ("mirror classes - ptable people 0 - - 5000 1 1", true),
+    ("mirror classes - ptable people 0 - - 5000 1 1 1", false),
+    (
+        "mirror classes - ptable people 0 - - journal 5000 1 1",
+        false,
+    ),
+    ("mirror classes - ptable people 0 - - 65520 1 1", false),
+    ("mirror classes - ptable people 0 - - 5000 17 1", false),
+    ("mirror classes - ptable people 0 - - 5000 1 0", false),
+    (
+        "mirror classes - ptable people 0 dwellings links 5000 1 1",
+        true,
+    ),
+    ("mirror classes - ptable people 0 - links 5000 1 1", false),
+    (
+        "mirror classes - ptable people 0 dwellings - 5000 1 1",
+        false,
+    ),
+    ("mirror classes - ptable people 0 5000 1 1", false),
+    ("host classes - ptable people 0 - - journal 5000 1 1", true),
+    (
+        "host classes - ptable people 0 dwellings links journal 5000 1 1",
+        true,
+    ),
+    (
+        "host classes - ptable people 0 - links journal 5000 1 1",
+        false,
+    ),
+    (
+        "host classes - ptable people 0 dwellings - journal 5000 1 1",
+        false,
+    ),
+    (
+        "host classes - ptable people 0 dwellings links - 5000 1 1",
+        false,
+    ),
+    ("host classes - ptable people 0 journal 5000 1 1", false),
     ("serve classes - ptable people 0 5000 1", false),
     ("serve classes - ptable people 0 5000 1 1", true),
     ("serve classes - ptable people 0 5000 1 1 1", false),

@@ -5,7 +5,7 @@
 ghost use Rattle.std.specs.Prelude.{◌≡◌, ◌<◌, ◌+◌, All, IfOk, false, vec_len};
 ghost use Rattle.tb_mem_disk.specs.HeldDisk.{HeldDisk};
 ghost use Rattle.tb_serve.specs.Stages.{IsFresh};
-ghost use Rattle.tb_top.specs.declared.service.TheConstants.{MOST_WORKERS};
+ghost use Rattle.tb_command.specs.declared.service.TheConstants.{MOST_WORKERS};
 
 use std::alloc::Global;
 use std::marker::Brand;
@@ -13,6 +13,7 @@ use std::sync::Wait;
 use std::sync::ledger::{Blank, Ledger};
 use std::thread::Threads;
 use tb_base::{Memory, Status, Steps};
+use tb_command::Arguments;
 use tb_comparison::{is_either_text, is_status, is_text};
 use tb_io::{MemFiles, MemListen, MemSink, SureFiles, SureSink};
 use tb_mem_disk::MemDisk;
@@ -82,7 +83,10 @@ fn count_in_memory<L: Ledger>(
         return Status::Memory;
     };
     let mut steps = Steps::<L>::new(blank);
-    run_in_memory(rt, alloc, words, files, out, net, &mut disk, &mut steps)
+    let arguments = Arguments::read(words);
+    run_in_memory(
+        rt, alloc, &arguments, files, out, net, &mut disk, &mut steps,
+    )
 }
 
 /// Runs a command over files and a sink that never fail, and a disk of its own.

@@ -1,12 +1,13 @@
 -- How the program is built for clap, and what is read from its matches.
 use Rattle.std.proofs.Common.{◌≡◌, ◌∙◌, ap, ap₂, sym, refl, ℕ, ◌+◌, ◌<◌, ◌++◌, true, List, [], ◌∷◌, Option, Some, None, map, take, length, get_or, append_assoc, fold, Bor, Result}
-use Rattle.std.specs.Prelude.{IfOk, codes, option_map, unwrap_or}
+use Rattle.std.specs.Prelude.{IfOk, option_map, unwrap_or}
+use Rattle.std.specs.List.{list_all}
 use Rattle.std.proofs.lemmas.Result.{IfOk-weaker}
 use Rattle.std.proofs.lemmas.List.{map-append, take_more}
 use Rattle.std.proofs.lemmas.List.Sums.{fold-append}
 use Rattle.clap.specs.Words.{AddsInTurn, AddsSubcommand, App, Text, app_of, new_app, with_subcommand}
 use Rattle.clap.specs.declared.builder.command.Command.{Command}
-use Rattle.tb_words.specs.Positions.{bare_program, command_with, positions_of, program, with_command, with_position}
+use Rattle.tb_words.specs.Positions.{bare_program, command_apps, program, with_command, with_position}
 use Rattle.tb_words.proofs.Plain.{both, is_false}
 
 -- a subcommand of plain settings that is added
@@ -16,40 +17,31 @@ added old sub new a s adds one two plain =
     let set : (app_of sub).top.is_plain ≡ true = ap (λ (x : App). x.top.is_plain) two ∙ plain in
     adds.shape (is_false _ (both _ _ (both _ _ (both _ _ set).1).1).0) ∙ ap₂ with_subcommand one (ap (λ (x : App). x.top) two)
 
--- positions leave a command plain
-pub plain_command : (names : List Text) (a : App) → a.top.is_plain ≡ true → (fold with_position a names).top.is_plain ≡ true
-plain_command [] a plain = plain
-plain_command (name ∷ names) a plain = plain_command names (with_position a name) plain
-
--- one more command
-abbrev with_named : App → Text → App
-with_named a name = with_command a name (positions_of name)
-
--- the commands of these names that are added in turn
-pub all_added : (names : List (Bor Text)) (subs : List Command) (old new : Command) → AddsInTurn AddsSubcommand old subs new
-    → map app_of subs ≡ map (λ s. command_with s.now (positions_of s.now)) names
-    → app_of new ≡ fold with_named (app_of old) (map (λ s. s.now) names)
-all_added [] [] old new is same = ap app_of (sym is)
-all_added [] (sub ∷ subs) old new is same = cc
-all_added (s ∷ names) [] old new is same = cc
-all_added (s ∷ names) (sub ∷ subs) old new (m, first, rest) same =
-    let name = s.now in
-    let one : app_of sub ≡ command_with name (positions_of name) = cc in
-    let others : map app_of subs ≡ map (λ s. command_with s.now (positions_of s.now)) names = cc in
-    all_added names subs m new rest others
-    ∙ ap (λ a. fold with_named a (map (λ s. s.now) names))
-    (added old sub m (app_of old) _ first refl one (plain_command (positions_of name) (new_app name) refl))
+-- the commands that are added in turn, each of plain settings
+pub all_added : (apps : List App) (subs : List Command) (old new : Command) → AddsInTurn AddsSubcommand old subs new
+    → map app_of subs ≡ apps → list_all (λ a. a.top.is_plain) apps ≡ true → app_of new ≡ fold with_command (app_of old) apps
+all_added [] [] old new is same plain = ap app_of (sym is)
+all_added [] (sub ∷ subs) old new is same plain = cc
+all_added (a ∷ apps) [] old new is same plain = cc
+all_added (a ∷ apps) (sub ∷ subs) old new (m, first, rest) same plain =
+    let (one, others) = both a.top.is_plain (list_all (λ (x : App). x.top.is_plain) apps) plain in
+    let its : app_of sub ≡ a = cc in
+    let more : map app_of subs ≡ apps = cc in
+    all_added apps subs m new rest more others
+    ∙ ap (λ b. fold with_command b apps) (added old sub m (app_of old) a first refl its one)
 
 -- which makes the program of all commands
-pub program_of : {E : Type 0} (r : Result Command E) (bare : Command) (names : List (Bor Text)) (subs : List Command)
-    → IfOk r (λ c. AddsInTurn AddsSubcommand bare subs c) → app_of bare ≡ bare_program
-    → map app_of subs ≡ map (λ s. command_with s.now (positions_of s.now)) names
-    → map (λ s. s.now) names ≡ codes "script" ∷ codes "lanes" ∷ codes "keep" ∷ codes "follow" ∷ codes "units" ∷ codes "host" ∷ codes "mirror" ∷ codes "serve" ∷ codes "gen" ∷ []
+pub program_of : {E : Type 0} (r : Result Command E) (bare : Command) (subs : List Command)
+    → IfOk r (λ c. AddsInTurn AddsSubcommand bare subs c) → app_of bare ≡ bare_program → map app_of subs ≡ command_apps
     → IfOk r (λ c. app_of c ≡ program)
-program_of r bare names subs turns one same all =
+program_of r bare subs turns one same =
     IfOk-weaker r (λ c. AddsInTurn AddsSubcommand bare subs c) (λ c. app_of c ≡ program)
-    (λ c adds. all_added names subs bare c adds same ∙ ap (λ a. fold with_named a (map (λ s. s.now) names)) one
-    ∙ ap (fold with_named bare_program) all) turns
+    (λ c adds. all_added command_apps subs bare c adds same refl ∙ ap (λ a. fold with_command a command_apps) one) turns
+
+-- one list after another
+pub map_twice : {A B C : Type 0} (f : B → C) (g : A → B) (xs : List A) → map (λ x. f (g x)) xs ≡ map f (map g xs)
+map_twice f g [] = refl
+map_twice f g (x ∷ xs) = ap (λ ys. f (g x) ∷ ys) (map_twice f g xs)
 
 -- one more position
 pub one_more_place : (places : List (Bor Text)) (i : ℕ) (d : Bor Text) (start old new : App) → i < length places

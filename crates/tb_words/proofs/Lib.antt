@@ -1,5 +1,5 @@
 pub mod Built
-pub mod Handed
 pub mod Parsed
 pub mod Plain
+pub mod Tested
 pub mod Told

@@ -6,7 +6,7 @@ use Rattle.clap.specs.Words.{App, HasMatchesOf, Row, Text, kind_of, subcommand_n
 use Rattle.clap.specs.declared.error.Error.{Error}
 use Rattle.clap.specs.declared.error.kind.ErrorKind.TheVariants.{OutOfMemory}
 use Rattle.clap.specs.declared.parser.matches.ArgMatches.{ArgMatches}
-use Rattle.tb_words.specs.Positions.{positions_of, program, value_at, words_found}
+use Rattle.tb_words.specs.Positions.{positions_named, program, value_at, words_found}
 use Rattle.tb_words.specs.Words.{AreCommand}
 use Rattle.tb_words.proofs.Parsed.{parsed}
 
@@ -37,7 +37,7 @@ map_now f [] = refl
 map_now f (p ∷ ps) = ap (λ ys. f p.now ∷ ys) (map_now f ps)
 
 found_in : (sub : Option (Text × List Row)) (name : Text) (rows : List Row) (ps : List (Bor Text))
-    → Some name ≡ option_map (λ p. p.0) sub → Some rows ≡ option_map (λ p. p.1) sub → map (λ s. s.now) ps ≡ positions_of name
+    → Some name ≡ option_map (λ p. p.0) sub → Some rows ≡ option_map (λ p. p.1) sub → map (λ s. s.now) ps ≡ positions_named name
     → name ∷ map (λ s. value_at rows s.now) ps ≡ words_found sub
 found_in None name rows ps named rowed places = cc
 found_in (Some (its, values)) name rows ps named rowed places =
@@ -47,7 +47,7 @@ found_in (Some (its, values)) name rows ps named rowed places =
 
 -- the name of the subcommand and what stands at its positions are the words that were found
 pub found_by : (m : ArgMatches) (name : Text) (rows : List Row) (ps : List (Bor Text)) → Some name ≡ subcommand_name_of m
-    → Some rows ≡ option_map (λ p. p.1) (subcommand_rows_of m) → map (λ s. s.now) ps ≡ positions_of name
+    → Some rows ≡ option_map (λ p. p.1) (subcommand_rows_of m) → map (λ s. s.now) ps ≡ positions_named name
     → name ∷ map (λ s. value_at rows s.now) ps ≡ words_found (subcommand_rows_of m)
 found_by m name rows ps named rowed places =
     let pair : option_map (λ (p : Text × List Row). p.0) (subcommand_rows_of m) ≡ subcommand_name_of m = twice (λ p. p.0) _ _ in

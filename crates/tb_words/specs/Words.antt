@@ -1,6 +1,21 @@
--- The words of a command that were tested.
-use Rattle.std.specs.Prelude.{◌≡◌, ◌⊎◌, ◌==◌, ℕ, Bool, true, false, not, List, [], ◌∷◌, length, codes, bytes_eq, get_or, set, if◌then◌else◌}
+-- The words of a command, as they are handed to clap.
+use Rattle.std.specs.Prelude.{◌≡◌, ◌⊎◌, ◌==◌, ℕ, Bool, true, false, not, List, [], ◌∷◌, length, map, codes, is_some, if◌then◌else◌}
 use Rattle.std.specs.List.{list_all}
+use Rattle.tb_command.specs.Commands.{command_of}
+use Rattle.tb_command.specs.Forms.{FormValue, forms}
+use Rattle.tb_command.specs.Names.{is_dash}
+use Rattle.tb_command.specs.Positions.{gen_positions, positions_of}
+
+-- the words are those of a command
+abbrev pub IsCommand : List (List ℕ) → Type 0
+IsCommand words = is_some (command_of words) ≡ true
+
+-- a word as it is handed on: `-`, which clap would take for the beginning of an option, is `none`
+abbrev pub handed : List ℕ → List ℕ
+handed word = if is_dash word then codes "none" else word
+
+abbrev pub handed_on : List (List ℕ) → List (List ℕ)
+handed_on words = map handed words
 
 -- a word that can't be taken for an option: it isn't empty and doesn't begin with a minus sign
 abbrev pub is_plain : List ℕ → Bool
@@ -13,26 +28,11 @@ AreOf name count words =
     (values : List (List ℕ)) × (words ≡ name ∷ values) × (length values ≡ count)
     × (list_all is_plain values ≡ true)
 
+-- the words are those of one of these rows, or of `gen`
+abbrev pub AreOfOne : List FormValue → List (List ℕ) → Type 0
+AreOfOne [] words = AreOf (codes "gen") (length gen_positions) words
+AreOfOne (f ∷ rows) words = AreOf f.name (length (positions_of f)) words ⊎ AreOfOne rows words
+
 -- the words are those of one of the commands
 abbrev pub AreCommand : List (List ℕ) → Type 0
-AreCommand words =
-    AreOf (codes "script") 6 words
-    ⊎ (AreOf (codes "lanes") 6 words
-    ⊎ (AreOf (codes "keep") 7 words
-    ⊎ (AreOf (codes "follow") 6 words
-    ⊎ (AreOf (codes "units") 8 words
-    ⊎ (AreOf (codes "host") 9 words
-    ⊎ (AreOf (codes "mirror") 8 words
-    ⊎ (AreOf (codes "serve") 8 words ⊎ AreOf (codes "gen") 2 words)))))))
-
--- `-` stands where recodes are named, which says that there are none
-abbrev pub has_no_recodes : List (List ℕ) → Bool
-has_no_recodes words = bytes_eq (get_or words 2 []) (codes "-")
-
--- the words as they are handed on, where a name stands for it
-abbrev pub handed_on : List (List ℕ) → List (List ℕ)
-handed_on words = if has_no_recodes words then set words 2 (codes "none") else words
-
--- words that passed the test of the commands
-abbrev pub AreTested : List (List ℕ) → Type 0
-AreTested words = AreCommand (handed_on words)
+AreCommand words = AreOfOne forms words

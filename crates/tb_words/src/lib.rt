@@ -1,16 +1,14 @@
-//! The words of a command, put into their positions by `clap` (`in_positions`). The names of
-//! commands and positions are public, for whoever prints the forms of the commands.
+//! The words of a command, put into their positions by `clap` (`in_positions`).
 //!
-//! Who calls has tested the words (`AreTested`), so the words that come back are the same ones, and
-//! `clap` refuses them for want of memory alone. It knows no help and no options here.
+//! Who calls has read the words (`IsCommand`), so `clap` refuses them for want of memory alone, and
+//! finds each word that was handed on at its own position. It knows no help and no options here.
 //!
-//! Begin at `given.rt`, `in_positions`: a `-` in the place of the recodes, which `clap` would take
-//! for the beginning of an option, is handed on as `none` and put back. A new command is one of
-//! `COMMANDS` and a case of `positions_of` in `positions.rt` and in `specs/Positions`.
+//! Begin at `given.rt`, `in_positions`: a `-`, which stands for no file and which `clap` would take
+//! for the beginning of an option, is handed on as `none`. The commands and their positions are
+//! those of the table of `tb_command`.
 #![tactic(auto)]
 
 mod given;
 mod positions;
 
 pub use given::in_positions;
-pub use positions::{COMMANDS, positions_of};

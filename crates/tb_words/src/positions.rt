@@ -7,98 +7,39 @@
 // at each `?`. A `?` on a `Result` with so many fields costs more than the call: the last call's is
 // returned as it is, or a `match` takes it apart.
 
-ghost use Rattle.std.specs.Prelude.{◌≡◌, IfErr, IfOk, false, map};
+ghost use Rattle.std.specs.Prelude.{◌≡◌, ◌∷◌, ◌++◌, [], IfErr, IfOk, codes, false, map};
 ghost use Rattle.clap.specs.Words.{app_of, kind_of, rule_of, subcommand_of, subcommand_rows_of};
 ghost use Rattle.clap.specs.declared.error.kind.ErrorKind.TheVariants.{OutOfMemory};
-ghost use Rattle.tb_words.specs.Positions.{command_with, position as position_of};
-ghost use Rattle.tb_words.specs.Positions.{positions_of as names_of, program as the_program};
+ghost use Rattle.tb_command.specs.Forms.{form_value};
+ghost use Rattle.tb_command.specs.Positions.{positions_of as names_of};
+ghost use Rattle.tb_words.specs.Positions.{command_apps, command_with, position as position_of};
+ghost use Rattle.tb_words.specs.Positions.{positions_named, program as the_program};
 ghost use Rattle.tb_words.specs.Words.{AreCommand};
 
 use clap::{Arg, ArgMatches, Command, Error};
 use std::alloc::{AllocError, Global};
+use tb_command::{Form, all_forms, form_named, of_gen, of_inputs};
 
-/// The names of the commands.
-pub static COMMANDS: [&str; 9] = [
-    "script", "lanes", "keep", "follow", "units", "host", "mirror", "serve", "gen",
-];
-
-static SCRIPT: [&str; 6] = [
-    "CLASSES",
-    "RECODES",
-    "PTABLE",
-    "PEOPLE",
-    "THRESHOLD",
-    "SCRIPT",
-];
-
-static KEEP: [&str; 7] = [
-    "CLASSES",
-    "RECODES",
-    "PTABLE",
-    "PEOPLE",
-    "THRESHOLD",
-    "JOURNAL",
-    "SCRIPT",
-];
-
-static UNITS: [&str; 8] = [
-    "CLASSES",
-    "RECODES",
-    "PTABLE",
-    "PEOPLE",
-    "THRESHOLD",
-    "DWELLINGS",
-    "LINKS",
-    "SCRIPT",
-];
-
-static HOST: [&str; 9] = [
-    "CLASSES",
-    "RECODES",
-    "PTABLE",
-    "PEOPLE",
-    "THRESHOLD",
-    "JOURNAL",
-    "PORT",
-    "WORKERS",
-    "SESSIONS",
-];
-
-static SERVE: [&str; 8] = [
-    "CLASSES",
-    "RECODES",
-    "PTABLE",
-    "PEOPLE",
-    "THRESHOLD",
-    "PORT",
-    "WORKERS",
-    "SESSIONS",
-];
-
-static GEN: [&str; 2] = ["N", "START"];
-
-/// The names of the positions of the command of a name.
-pub fn positions_of(name: &str) -> &'static [&'static str]
-    ensures { map (λ s. s.now) result.now ≡ names_of name.now }
+// The positions of a row, one group after another.
+fn positions_in(alloc: Global, form: &Form) -> Result<Vec<&'static str>, AllocError>
+    ensures { IfOk result (λ places. map (λ s. s.now) places.items
+        ≡ names_of (form_value form.now)) }
 {
-    if name == "script" {
-        SCRIPT.as_slice()
-    } else if name == "lanes" {
-        SCRIPT.as_slice()
-    } else if name == "keep" {
-        KEEP.as_slice()
-    } else if name == "follow" {
-        SCRIPT.as_slice()
-    } else if name == "units" {
-        UNITS.as_slice()
-    } else if name == "host" {
-        HOST.as_slice()
-    } else if name == "mirror" {
-        SERVE.as_slice()
-    } else if name == "serve" {
-        SERVE.as_slice()
-    } else {
-        GEN.as_slice()
+    let mut places = Vec::new(alloc);
+    places.extend_from_slice(of_inputs())?;
+    places.extend_from_slice(form.dwellings.positions())?;
+    places.extend_from_slice(form.owner.positions())?;
+    places.extend_from_slice(form.lines.positions())?;
+    Ok(places)
+}
+
+/// The positions of the command of a name: those of its row, or those of `gen`.
+pub(crate) fn positions_of(alloc: Global, name: &str) -> Result<Vec<&'static str>, AllocError>
+    ensures { IfOk result (λ places. map (λ s. s.now) places.items ≡ positions_named name.now) }
+{
+    match form_named(name) {
+        Some(form) => positions_in(alloc, &form),
+        None => Vec::from_slice(alloc, of_gen()),
     }
 }
 
@@ -110,12 +51,16 @@ fn position<'a>(alloc: Global, name: &'a str) -> Arg<'a>
     Arg::new(alloc, name).required(true)
 }
 
-// The command of that name.
-fn command<'a>(alloc: Global, name: &'static str) -> Result<Command<'a>, AllocError>
-    ensures { IfOk result (λ c. app_of c ≡ command_with name.now (names_of name.now)) }
+// The command of that name, with these positions.
+fn command<'a>(
+    alloc: Global,
+    name: &'static str,
+    places: &[&'static str],
+) -> Result<Command<'a>, AllocError>
+    ensures { IfOk result (λ c. app_of c
+        ≡ command_with name.now (map (λ s. s.now) places.now)) }
 {
     let mut command = Command::new(alloc, name);
-    let places = positions_of(name);
     for place in places {
         let one = position(alloc, *place);
         command = command.arg(one)?;
@@ -123,17 +68,38 @@ fn command<'a>(alloc: Global, name: &'static str) -> Result<Command<'a>, AllocEr
     Ok(command)
 }
 
-// The commands of these names.
-fn commands<'a>(alloc: Global, names: &[&'static str]) -> Result<Vec<Command<'a>>, AllocError>
-    ensures { IfOk result (λ commands. map app_of commands.items
-        ≡ map (λ s. command_with s.now (names_of s.now)) names.now) }
+// The command of a row.
+fn command_of<'a>(alloc: Global, form: &Form) -> Result<Command<'a>, AllocError>
+    ensures { IfOk result (λ c. app_of c
+        ≡ command_with form.now.name.now (names_of (form_value form.now))) }
 {
-    let mut commands = Vec::with_capacity(alloc, names.len())?;
-    for name in names {
-        match command(alloc, *name) {
+    let places = positions_in(alloc, form)?;
+    command(alloc, form.name, places.as_slice())
+}
+
+// The commands of these rows.
+fn commands_of<'a>(alloc: Global, forms: &[Form]) -> Result<Vec<Command<'a>>, AllocError>
+    ensures { IfOk result (λ commands. map app_of commands.items
+        ≡ map (λ f. command_with f.name.now (names_of (form_value f))) forms.now) }
+{
+    let mut commands = Vec::with_capacity(alloc, forms.len())?;
+    for form in forms {
+        match command_of(alloc, form) {
             Ok(one) => commands.push(one)?,
             Err(error) => return Err(error),
         }
+    }
+    Ok(commands)
+}
+
+// All commands.
+fn commands<'a>(alloc: Global) -> Result<Vec<Command<'a>>, AllocError>
+    ensures { IfOk result (λ commands. map app_of commands.items ≡ command_apps) }
+{
+    let mut commands = commands_of(alloc, all_forms())?;
+    match command(alloc, "gen", of_gen()) {
+        Ok(one) => commands.push(one)?,
+        Err(error) => return Err(error),
     }
     Ok(commands)
 }
@@ -142,8 +108,7 @@ fn commands<'a>(alloc: Global, names: &[&'static str]) -> Result<Vec<Command<'a>
 fn program<'a>(alloc: Global) -> Result<Command<'a>, AllocError>
     ensures { IfOk result (λ c. app_of c ≡ the_program) }
 {
-    let names = COMMANDS.as_slice();
-    let commands = commands(alloc, names)?;
+    let commands = commands(alloc)?;
     Command::new(alloc, "tablebuilder")
         .no_binary_name(true)
         .disable_help_flag(true)

@@ -3,16 +3,16 @@ use Rattle.std.proofs.lemmas.Result.{err_from_is_err_and}
 use Rattle.tb_io.proofs.FaultLemmas.{HasRisen-zero}
 use Rattle.tb_io.specs.Faults.{HasRisen}
 use Rattle.tb_io.specs.HeldFiles.{HeldFiles, bytes_or_none}
-use Rattle.tb_top.specs.declared.command.Inputs.{Inputs}
+use Rattle.tb_command.specs.declared.command.Inputs.{Inputs}
 use Rattle.tb_endings.specs.declared.endings.End.{End}
-use Rattle.tb_top.specs.declared.load.Scripted.{Scripted}
+use Rattle.tb_top.specs.declared.asked.Scripted.{Scripted}
 use Rattle.tb_endings.specs.declared.endings.Input.TheVariants as input
-use Rattle.tb_top.specs.Asking.{Gen, generated_asked, script_over, scripted_in}
-use Rattle.tb_top.specs.Commands.{scripted_files}
+use Rattle.tb_top.specs.Asking.{generated_asked, scripted_in, sums_over}
+use Rattle.tb_top.specs.InputFiles.{scripted_files}
 use Rattle.tb_endings.specs.Endings.{input_name}
 use Rattle.tb_top.specs.GeneratedFiles.{HoldGenerated, generated_contents, generated_inputs}
 use Rattle.tb_top.specs.Loading.{Loads, Makes, Reading, asked_value, scripted_value}
-use Rattle.tb_top.specs.Populations.{Population}
+use Rattle.tb_command.specs.Populations.{Population}
 use Rattle.tb_top.proofs.Generating.{accepted-made, gen_of, holds-generated, loads-gen, makes-of}
 use Rattle.tb_top.proofs.generated.load_generated.Goals as goal
 
@@ -23,7 +23,7 @@ made_of : (p q : Population) (files : HeldFiles) (inputs : Inputs) (name : List 
     → Loads saw 0 (scripted_files inputs name) scripted_value (scripted_in inputs) read
     → Makes asked_value (generated_asked p) (gen_of q read)
 made_of p q files inputs name read content sure held is one two h =
-    makes-of asked_value (script_over (Gen p) generated_inputs) (generated_contents p) (λ name. Some (bytes_or_none files name))
+    makes-of asked_value (sums_over p generated_inputs) (generated_contents p) (λ name. Some (bytes_or_none files name))
     (scripted_files generated_inputs (input_name input.Script)) 0 (gen_of q read) content sure (holds-generated p files held)
     (loads-gen p q inputs generated_inputs name (input_name input.Script) read is one two h)
 

@@ -1,4 +1,4 @@
-use Rattle.std.proofs.Common.{◌≡◌, ◌∙◌, ap, sym, subst, List, length, take, drop, ◌++◌, string_bytes}
+use Rattle.std.proofs.Common.{◌≡◌, ◌∙◌, ap, sym, subst, List, length, take, drop, ◌++◌}
 use Rattle.tb_serve.specs.Ports.{PortValue}
 use Rattle.tb_serve.specs.Serves.{output}
 use Rattle.tb_top.specs.HostOutputs.{IsHostAnswered}
@@ -20,5 +20,5 @@ returns g c =
     let out = output (g.O.Sink.taken c.args.out.now) (g.O.Sink.taken c.host_census.new.out) (g.O.Sink.faults c.args.out.now)
     (g.O.Sink.faults c.host_census.new.out) in
     let disk = disk_seen g.D.Disk.named g.D.Disk.could_leave g.D.Disk.attached g.D.Disk.content g.D.Disk.may_leave g.D.Disk.moment g.D.Disk.left_since g.D.Disk.faults c.args.disk.now c.host_census.new.disk in
-    subst (λ (ps : List PortValue). IsHostAnswered (census_value c.args.census) c.args.service.now (string_bytes c.args.journal) ports ps c.host_census.result out disk) (sym back)
-    (rw (c.as_str-name.ensures.value, value) at c.host_census.ensures)
+    subst (λ (ps : List PortValue). IsHostAnswered (census_value c.args.census) c.args.hosted.now.service.now c.args.hosted.now.journal.now ports ps c.host_census.result out disk) (sym back)
+    (rw value at c.host_census.ensures)

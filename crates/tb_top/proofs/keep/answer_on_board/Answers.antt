@@ -8,7 +8,7 @@ use Rattle.tb_top.proofs.keep.answer_on_board.Goals as goal
 pub returns-in-Ran-clause-answered : goal.returns-in-Ran-clause-answered
 returns-in-Ran-clause-answered g c =
     let run = c.in-Ran.ensures in
-    kept-on-board c.args.setup.now c.args.opening _ c.new-board.ensures.custodian c.requires.first c.args.script.now c.in-Ran.end _ _
+    kept-on-board c.args.over.now.setup.now c.args.opening _ c.new-board.ensures.custodian c.requires.first c.args.script.now c.in-Ran.end _ _
     c.end_run.ensures.count run.count (λ is. run.failed (ap keep_end.Ran is)) run.run c.end_run.ensures.ended
 
 pub returns-in-Refused-clause-answered : goal.returns-in-Refused-clause-answered
@@ -20,7 +20,7 @@ returns-in-Refused-clause-answered g c =
       inr (
         status.Journal,
         journal_line fault,
-        inl (fault, fault-on-board c.args.setup.now c.args.opening _ c.new-board.ensures.custodian c.requires.first _ fault told, left, refl, refl),
+        inl (fault, fault-on-board c.args.over.now.setup.now c.args.opening _ c.new-board.ensures.custodian c.requires.first _ fault told, left, refl, refl),
         line-later (journal_line fault) status.Journal _ c.in-Refused.ensures.count c.end_refused.ensures.count none.0
             c.end_refused.ensures.ended,
       ),

@@ -4,7 +4,7 @@ use Rattle.tb_journal.proofs.Beginning.{as-one-now}
 use Rattle.tb_keep.specs.JournalRuns.{JournalRun}
 use Rattle.tb_serve.specs.Serves.{output}
 use Rattle.tb_top.specs.KeepOutputs.{IsKeepRun, disk_line}
-use Rattle.tb_top.specs.Loading.{census_over}
+use Rattle.tb_top.specs.Asking.{census_over}
 use Rattle.tb_top.proofs.Boards.{answered-earlier}
 use Rattle.tb_top.proofs.keep.keep_opened.Goals as goal
 
@@ -26,12 +26,12 @@ returns-in-All g c =
     } in
     let out = output (g.O.Sink.taken c.args.out.now) (g.O.Sink.taken c.answer_on_board.new.out) (g.O.Sink.faults c.args.out.now)
     (g.O.Sink.faults c.answer_on_board.new.out) in
-    let script = c.args.script.now in
+    let script = c.args.kept.now.script.now in
     let content = g.D.Disk.content c.attach.new.self in
     let now = saw content (g.D.Disk.faults c.attach.new.self) (g.D.Disk.moment c.attach.new.self) (g.D.Disk.may_leave c.attach.new.self) in
-    let could_leave = g.D.Disk.could_leave c.args.disk.now c.args.journal.now in
+    let could_leave = g.D.Disk.could_leave c.args.disk.now c.args.kept.now.journal.now in
     let moment = g.D.Disk.moment c.args.disk.now in
-    let census = census_over c.args.setup.now c.args.opening.start.base in
+    let census = census_over c.args.over.now.setup.now c.args.opening.start.base in
     subst (λ (told : Option (List ℕ)). IsKeepRun census script c.answer_on_board.result out (saw told (g.D.Disk.faults c.args.disk.now) moment could_leave))
     (c.in-All.ensures.found refl)
     (answered-earlier census script c.answer_on_board.result out now (g.D.Disk.faults c.args.disk.now)
@@ -41,7 +41,7 @@ returns-in-All g c =
 
 pub returns-in-Failed : goal.returns-in-Failed
 returns-in-Failed g c =
-    let could_leave = g.D.Disk.could_leave c.args.disk.now c.args.journal.now in
+    let could_leave = g.D.Disk.could_leave c.args.disk.now c.args.kept.now.journal.now in
     inr (
       refl,
       inr (

@@ -1,4 +1,3 @@
-use Rattle.std.proofs.Common.{map, string_bytes}
 use Rattle.tb_io.specs.HeldFiles.{bytes_of}
 use Rattle.tb_top.specs.InMemory.{memory_call}
 use Rattle.tb_top.specs.KeepOutputs.{disk_seen}
@@ -7,7 +6,7 @@ use Rattle.tb_top.proofs.laws.run_in_memory.Goals as goal
 
 pub returns-clause-read : goal.returns-clause-read
 returns-clause-read g c = λ h.
-    memory_read_fault (memory_call (map string_bytes c.args.words.now) c.args.files.now c.tablebuilder.new.files c.args.out.now
+    memory_read_fault (memory_call c.args.arguments.now c.args.files.now c.tablebuilder.new.files c.args.out.now
     c.tablebuilder.new.out c.args.net.now.items c.tablebuilder.new.net.items
     (disk_seen g.D.Disk.named g.D.Disk.could_leave g.D.Disk.attached g.D.Disk.content g.D.Disk.may_leave g.D.Disk.moment g.D.Disk.left_since g.D.Disk.faults c.args.disk.now c.tablebuilder.new.disk) c.args.steps.now
     c.tablebuilder.new.steps)

@@ -5,7 +5,7 @@ use Rattle.tb_schema.specs.Recodes.{schema_of}
 use Rattle.tb_endings.specs.declared.endings.Input.TheVariants as input
 use Rattle.tb_top.specs.Asking.{◌>>=◌, bytes_in, or_end, recodes_in, schema_in}
 use Rattle.tb_endings.specs.Refusals.{schema_end}
-use Rattle.tb_top.specs.Commands.{recodes_files}
+use Rattle.tb_top.specs.InputFiles.{recodes_files}
 use Rattle.tb_top.proofs.LoadSteps.{Loads-before, Loads-ends, Loads-fails, Loads-refused-schema, Loads-then, skips-bytes}
 use Rattle.tb_top.proofs.load.load_schema.Goals as goal
 

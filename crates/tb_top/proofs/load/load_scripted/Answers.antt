@@ -3,7 +3,7 @@ use Rattle.std.proofs.lemmas.Result.{err_from_is_err_and}
 use Rattle.tb_script.specs.Scripts.{ScriptValue}
 use Rattle.tb_endings.specs.declared.endings.Input.TheVariants as input
 use Rattle.tb_top.specs.Asking.{◌>>=◌, census_in, script_in, scripted_in}
-use Rattle.tb_top.specs.Commands.{named}
+use Rattle.tb_top.specs.InputFiles.{named}
 use Rattle.tb_top.specs.Loading.{census_value, scripted_value}
 use Rattle.tb_top.proofs.LoadSteps.{Loads-before, Loads-ends, Loads-fails, Loads-then, skips-census}
 use Rattle.tb_top.proofs.load.load_scripted.Goals as goal

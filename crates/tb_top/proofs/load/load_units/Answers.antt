@@ -4,7 +4,7 @@ use Rattle.tb_units.specs.Units.{units_of}
 use Rattle.tb_endings.specs.declared.endings.Input.TheVariants as input
 use Rattle.tb_top.specs.Asking.{◌>>=◌, bytes_in, or_end, units_in}
 use Rattle.tb_endings.specs.Refusals.{units_end}
-use Rattle.tb_top.specs.Commands.{named}
+use Rattle.tb_top.specs.InputFiles.{named}
 use Rattle.tb_top.proofs.LoadSteps.{Loads-before, Loads-ends, Loads-fails, Loads-refused-units, Loads-then, skips-bytes}
 use Rattle.tb_top.proofs.load.load_units.Goals as goal
 
@@ -13,7 +13,7 @@ returns-in_err-dwellings g c =
     let p = err_from_is_err_and c.from_residual.result c.from_residual.ensures.1 in
     let keys = c.args.keys in
     record {
-      loads = rw (p.1, p.2) (Loads-before (λ units. units) (units_in keys) (named input.Links c.args.links.now ∷ [])
+      loads = rw (p.1, p.2) (Loads-before (λ units. units) (units_in keys) (named input.Links c.args.names.now.links ∷ [])
           (Loads-fails (λ bytes. bytes.items) (λ units. units) (λ contents. bytes_in input.Dwellings (contents input.Dwellings))
           (λ contents bytes. bytes_in input.Links (contents input.Links) >>= (λ links. or_end units_end (units_of keys bytes links))) c.in_err-dwellings.ensures.loads));
     }

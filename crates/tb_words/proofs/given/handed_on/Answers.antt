@@ -1,13 +1,20 @@
-use Rattle.std.proofs.Common.{◌∙◌, ap, refl, sym, map}
-use Rattle.tb_words.proofs.Handed.{given_same, none_named}
-use Rattle.tb_words.proofs.given.handed_on.Goals.{then-has_no_recodes, else-has_no_recodes}
+use Rattle.std.proofs.Common.{◌∙◌, ap, [], map, string_bytes}
+use Rattle.std.proofs.lemmas.List.{take_all}
+use Rattle.tb_words.specs.Words.{handed}
+use Rattle.tb_words.proofs.Built.{map_twice, one_more_value}
 use Rattle.tb_words.proofs.given.handed_on.Goals as goal
 
+pub loop-word-init : goal.loop-word-init
+loop-word-init c = ap (map (λ s. s.now)) c.in_ok-handed.ensures.items
+
+pub loop-word-preserved : goal.loop-word-preserved
+loop-word-preserved c =
+    one_more_value (λ s. s.now) (λ s. handed (string_bytes s)) [] c.loop-word.handed.items c.push.new.self.items c.handed_word-text.result
+    c.args.words.now c.loop-word.word-index c.word-item.result c.in_ok-push.ensures.items
+    c.loop-word-test.true c.loop-word.invariant
+    (c.handed_word-text.ensures ∙ ap handed (c.as_str.ensures.value ∙ ap string_bytes c.word-item.is))
+
 pub returns : goal.returns
-returns c = elim c.if-has_no_recodes.branch [
-  | then-has_no_recodes w ↦ (ap (λ v. map (λ s. s.now) v.items) w.handed-is
-      ∙ none_named (λ s. s.now) _ c.in_ok-handed.handed.items _ c.in_ok-handed.ensures refl
-      (sym c.has_no_recodes.ensures ∙ w.if-has_no_recodes.true))
-  | else-has_no_recodes w ↦ (ap (λ v. map (λ s. s.now) v.items) w.handed-is ∙ c.in_ok-handed.ensures
-      ∙ sym (given_same _ _ refl (sym c.has_no_recodes.ensures ∙ w.if-has_no_recodes.false)))
-]
+returns c =
+    c.loop-word.invariant ∙ ap (map (λ s. handed (string_bytes s))) (take_all c.loop-word.word-index c.args.words.now c.loop-word-test.false)
+    ∙ map_twice handed string_bytes c.args.words.now

@@ -11,7 +11,7 @@ loop-place-init c = c.new-command.ensures.app
 pub loop-place-preserved : goal.loop-place-preserved
 loop-place-preserved c =
     let d : Bor (List ℕ) = record { ref_ptr = (0, 0); now = [] } in
-    one_more_place c.positions_of-places.result.now c.loop-place.place-index d (new_app c.args.name.now) (app_of c.loop-place.command)
+    one_more_place c.args.places.now c.loop-place.place-index d (new_app c.args.name.now) (app_of c.loop-place.command)
     (app_of c.in_ok-command.command) c.loop-place-test.true c.loop-place.invariant
     (c.in_ok-command.ensures.shape c.position-one.ensures.local
     ∙ ap (with_rule (app_of c.loop-place.command)) c.position-one.ensures.rule)
@@ -20,5 +20,4 @@ pub returns : goal.returns
 returns c =
     let start = new_app c.args.name.now in
     c.loop-place.invariant
-    ∙ ap (λ ps. fold with_position start (map (λ s. s.now) ps)) (take_all c.loop-place.place-index c.positions_of-places.result.now c.loop-place-test.false)
-    ∙ ap (fold with_position start) c.positions_of-places.ensures
+    ∙ ap (λ ps. fold with_position start (map (λ s. s.now) ps)) (take_all c.loop-place.place-index c.args.places.now c.loop-place-test.false)

@@ -1,4 +1,4 @@
-use Rattle.std.proofs.Common.{◌≡◌, ap, rules, true}
+use Rattle.std.proofs.Common.{◌≡◌, ap, true}
 use Rattle.clap.specs.Words.{App, app_of}
 use Rattle.tb_words.specs.Positions.{bare_program}
 use Rattle.tb_words.proofs.Built.{program_of}
@@ -11,5 +11,5 @@ returns c =
     (ap (λ (a : App). record a {
       top = record a.top { no_binary_name = true; disable_help_flag = true; disable_help_subcommand = true };
     }) c.new.ensures.app) in
-    program_of c.subcommands.result c.disable_help_subcommand.result c.as_slice-names.result.now c.in_ok-commands.commands.items
-    c.subcommands.ensures bare c.in_ok-commands.ensures (search rules)
+    program_of c.subcommands.result c.disable_help_subcommand.result c.in_ok-commands.commands.items
+    c.subcommands.ensures bare c.in_ok-commands.ensures
