@@ -37,7 +37,7 @@ module _ {W : Type 0} (Continues : W → W → Type 0) (itself : (one : W) → C
   abbrev Says : KeeperValue W → KeeperValue W → (KeptState → KeptState → Type 0) → Type 0
   Says old new P = (new.base ≡ old.base) × Continues old.ahead new.ahead × Reaches (Here old) (Here new) P
 
-  lines : (old : KeeperValue W) (ls : List (List ℕ)) (rs : List ReplyValue) (new : KeeperValue W) → Legal old ls rs new → Says old new (λ first last. Kept old.base first ls rs last)
+  pub lines : (old : KeeperValue W) (ls : List (List ℕ)) (rs : List ReplyValue) (new : KeeperValue W) → Legal old ls rs new → Says old new (λ first last. Kept old.base first ls rs last)
   lines old ls rs new h = lines_kept (λ (k : KeeperValue W). k.base) (λ (a b : KeeperValue W). Continues a.ahead b.ahead)
       (λ (k : KeeperValue W). itself k.ahead) (λ (a b c : KeeperValue W). further_on a.ahead b.ahead c.ahead) Here (λ base. IsOwnKeptStep setup base) old ls rs new h
 
@@ -101,7 +101,7 @@ module _ {W : Type 0} (Continues : W → W → Type 0) (itself : (one : W) → C
       )
 
   -- it lets go of the edits that it held
-  begun : (one : KeeperValue W) (first : KeptState) → Here one first → Here (at_start one) (at_session first)
+  pub begun : (one : KeeperValue W) (first : KeptState) → Here one first → Here (at_start one) (at_session first)
   begun one first at = record { same = ap let_go at.same; count = at.count; lives = at.lives; stands = at.stands }
 
   visit : (old new : KeeperValue W) (v : Visit) → IsVisit Legal at_start old v new → Says old new (λ first last. IsVisit (Kept old.base) at_session first v last)
@@ -166,10 +166,13 @@ module _ (setup : SetupValue) (base : ReleaseValue) where
       first last vs h (omega arith)
 
   -- since when it is watched what a stop leaves stays
+  pub lines_since : (first last : KeptState) (ls : List (List ℕ)) (rs : List ReplyValue) → Lines first ls rs last → last.since ≡ first.since
+  lines_since first last ls rs lead =
+      lines-keep (IsOwnKeptStep setup base) (λ (at : KeptState). at.since ≡ first.since)
+      (λ old next line reply step so_far. own_since setup base (asks_to_publish line) old next line reply step ∙ so_far) first last ls rs lead refl
+
   pub visits_since : (first last : KeptState) (vs : List Visit) → AreVisits Lines at_session first vs last → last.since ≡ first.since
   visits_since first last vs h =
       keep (λ (at : KeptState). at.since ≡ first.since) (λ at so. so)
-      (λ one other ls rs lead so.
-      lines-keep (IsOwnKeptStep setup base) (λ (at : KeptState). at.since ≡ first.since)
-      (λ old next line reply step so_far. own_since setup base (asks_to_publish line) old next line reply step ∙ so_far) one other ls rs lead so)
+      (λ one other ls rs lead so. lines_since one other ls rs lead ∙ so)
       first last vs h refl

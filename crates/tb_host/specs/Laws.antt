@@ -2,15 +2,13 @@
 -- program.
 use Rattle.std.specs.Prelude.{◌≡◌, ℕ, Bool, List, Option, is_none}
 use mathlib.Core.List.{IsPrefix}
-use Rattle.tb_ahead.specs.Keepers.{IsAt, KeeperValue, KeepsTo, at_start}
+use Rattle.tb_ahead.specs.Keepers.{KeeperValue, KeepsTo, at_start}
 use Rattle.tb_ahead.specs.Keeping.{KeptState}
 use Rattle.tb_ahead.specs.Publishing.{StateValue, let_go}
-use Rattle.tb_ahead.specs.Puts.{FileStands, Since}
-use Rattle.tb_disk.specs.Images.{WhereTold}
-use Rattle.tb_journal_file.specs.Files.{AreLeft, EachStandsBetween, EachStandsFor, IsFileOf}
-use Rattle.tb_journal_file.specs.Files.{all_of}
+use Rattle.tb_journal_file.specs.Files.{EachStandsFor, IsFileOf}
 use Rattle.tb_keep.specs.Chains.{IsTheirs, batches_of}
 use Rattle.tb_keep.specs.Publishers.{IsOwnStep, asks_to_publish}
+use Rattle.tb_keep.specs.Staying.{BeginsWith, StayKept, StayPublished, standing}
 use Rattle.tb_lines.specs.Outputs.{Lead, ReplyValue}
 use Rattle.tb_model.specs.Releases.{ReleaseValue}
 use Rattle.tb_model.specs.Setups.{SetupValue}
@@ -50,25 +48,21 @@ IsDurable =
 module _ {W D : Type 0} (disk : W → D) (content : D → Option (List ℕ))
     (may_leave : D → List ℕ → Type 0) (moment : D → ℕ) (left_since : D → ℕ → List ℕ → Type 0)
     (Continues : W → W → Type 0) (live : W → Bool) (faults : W → ℕ) where
-  -- what the file stands for, now and since some moment
-  abbrev pub standing : W → FileStands
-  standing ahead = AreLeft (content (disk ahead)) (may_leave (disk ahead)) (moment (disk ahead))
-      (left_since (disk ahead))
+  -- lines of the custodian's led it from one place to another, by these replies
+  abbrev pub AreOwnLines : SetupValue → KeeperValue W → List (List ℕ) → List ReplyValue
+      → KeeperValue W → Type 0
+  AreOwnLines setup = Lead (KeepsTo Continues live faults
+      (standing disk content may_leave moment left_since Continues live faults) (IsOwnStep setup)
+      asks_to_publish)
 
-  -- sessions led a custodian from one place to another
+  -- sessions did so
   abbrev pub AreSessions : SetupValue → KeeperValue W → List Visit → KeeperValue W → Type 0
-  AreSessions setup = AreVisits (Lead (KeepsTo Continues live faults standing (IsOwnStep setup)
-      asks_to_publish)) at_start
+  AreSessions setup = AreVisits (AreOwnLines setup) at_start
 
   -- each file that a stop since the first place may have left stands for a beginning of the
   -- batches at the second, and a further one, that has all these batches
-  pub record StayKept (batches : List (List Edit)) (old new : KeeperValue W) : Type 0 where
-    pub last : KeptState
-    pub stands : IsAt (standing new.ahead) (live new.ahead) (faults new.ahead) new.state last
-    pub ever : WhereTold (content (disk new.ahead))
-        (λ _. EachStandsBetween (left_since (disk new.ahead))
-        (record { moment = moment (disk old.ahead); batches = batches })
-        (all_of last.batches last.further))
+  abbrev pub StaysFrom : List (List Edit) → KeeperValue W → KeeperValue W → Type 0
+  StaysFrom = StayKept disk content may_leave moment left_since Continues live faults
 
   -- what each file stands for that a stop may leave where a session of the custodian's returned, no
   -- stop since takes back, whatever sessions come after
@@ -78,4 +72,32 @@ module _ {W D : Type 0} (disk : W → D) (content : D → Option (List ℕ))
       (batches : List (List Edit)) (further : Option (List Edit))
       → is_none further ≡ live old.ahead
       → EachStandsFor (may_leave (disk old.ahead)) batches further
-      → AreSessions setup old later new → StayKept batches old new
+      → AreSessions setup old later new → StaysFrom batches old new
+
+  -- a custodian came from one place to another at a line's return: by some sessions, and then by
+  -- lines of one more
+  pub record HasCome (setup : SetupValue) (first here : KeeperValue W) : Type 0 where
+    pub before : KeeperValue W
+    pub earlier : List Visit
+    pub sessions : AreSessions setup first earlier before
+    pub lines : List (List ℕ)
+    pub replies : List ReplyValue
+    pub lead : AreOwnLines setup (at_start before) lines replies here
+
+  -- and went on from there: by the other lines of that session, and then by some sessions
+  pub record HasGoneOn (setup : SetupValue) (here new : KeeperValue W) : Type 0 where
+    pub ended : KeeperValue W
+    pub lines : List (List ℕ)
+    pub replies : List ReplyValue
+    pub lead : AreOwnLines setup here lines replies ended
+    pub later : List Visit
+    pub sessions : AreSessions setup ended later new
+
+  -- what was published where a line of a session returned, no stop since takes back, whatever lines
+  -- and sessions come after, from a recovered journal on
+  abbrev pub StaysPublished : Type 0
+  StaysPublished =
+      (setup : SetupValue) (first here new : KeeperValue W) (batches : List (List Edit))
+      → BeginsWith disk content may_leave moment left_since Continues live faults batches first
+      → HasCome setup first here → HasGoneOn setup here new
+      → StayPublished disk content may_leave moment left_since Continues live faults here new

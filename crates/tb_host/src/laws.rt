@@ -1,7 +1,7 @@
 //! Laws of a server that keeps a journal. Each function does nothing, and its contract is a law.
 
 ghost use Rattle.std.specs.Prelude.{Bool, ℕ};
-ghost use Rattle.tb_host.specs.Laws.{IsDurable, StaysKept};
+ghost use Rattle.tb_host.specs.Laws.{IsDurable, StaysKept, StaysPublished};
 
 use tb_ahead::WriteAhead;
 use tb_disk::Disk;
@@ -24,4 +24,13 @@ pub fn what_is_seen_is_durable()
 pub fn what_is_kept_stays<W: WriteAhead, D: Disk>()
     ensures { (disk : W → D) (live : W → Bool) (faults : W → ℕ)
         → StaysKept disk D.content D.may_leave D.moment D.left_since W.Continues live faults }
+{}
+
+/// What was published stays so: where a line of a session of the custodian's returned, each file
+/// that a stop since may have left stands for a list of batches that begins with those of the
+/// custodian's chain, and is a beginning of those for which they stand now. It begins where a
+/// journal was recovered, as `tb_keep::recover` leaves it.
+pub fn what_is_published_stays<W: WriteAhead, D: Disk>()
+    ensures { (disk : W → D) (live : W → Bool) (faults : W → ℕ)
+        → StaysPublished disk D.content D.may_leave D.moment D.left_since W.Continues live faults }
 {}

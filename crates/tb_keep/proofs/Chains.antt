@@ -70,7 +70,7 @@ own-line : (setup : SetupValue) (base : ReleaseValue) (old next : KeptState) (li
 own-line setup base old next line reply step theirs = by-line (asks_to_publish line) setup base old next line reply refl step theirs
 
 -- an analyst's line changes nothing
-any-line : (who : Role) (setup : SetupValue) (base : ReleaseValue) (old next : KeptState) (line : List ℕ) (reply : ReplyValue) → IsKeptStepOf who setup base old line reply next → IsTheirs base old → IsTheirs base next
+pub any-line : (who : Role) (setup : SetupValue) (base : ReleaseValue) (old next : KeptState) (line : List ℕ) (reply : ReplyValue) → IsKeptStepOf who setup base old line reply next → IsTheirs base old → IsTheirs base next
 any-line role.Custodian setup base old next line reply step theirs = own-line setup base old next line reply step theirs
 any-line role.Analyst setup base old next line reply (same, is) theirs = subst (IsTheirs base) (sym same) theirs
 

@@ -57,7 +57,7 @@ module _ {W : Type 0} (Continues : W → W → Type 0) (itself : (w : W) → Con
   )
 
   -- all lines
-  all_lines : (p : Charged (KeeperValue W)) (lines : List ScriptLine) (replies : List ReplyValue) (q : Charged (KeeperValue W)) → Lead (AtPrice (IsOwnedReply setup base_of chain_of Step)) p lines replies q
+  pub all_lines : (p : Charged (KeeperValue W)) (lines : List ScriptLine) (replies : List ReplyValue) (q : Charged (KeeperValue W)) → Lead (AtPrice (IsOwnedReply setup base_of chain_of Step)) p lines replies q
       → (q.at.base ≡ p.at.base) × Continues p.at.ahead q.at.ahead
       × Reaches (Here p.at) (Here q.at) (λ first last. Lead (AtPrice (IsKeptReply setup p.at.base)) (charged first p.steps) lines replies (charged last q.steps))
   all_lines p [] [] q e = (
@@ -157,7 +157,7 @@ module _ (setup : SetupValue) (base : ReleaseValue) where
   role_since role.Analyst old next line reply (same, is) = ap (λ (s : KeptState). s.since) same
 
   module _ (first last : Charged KeptState) where
-    lead_since : (lines : List ScriptLine) (replies : List ReplyValue) → Lead (AtPrice (IsKeptReply setup base)) first lines replies last → last.at.since ≡ first.at.since
+    pub lead_since : (lines : List ScriptLine) (replies : List ReplyValue) → Lead (AtPrice (IsKeptReply setup base)) first lines replies last → last.at.since ≡ first.at.since
     lead_since lines replies lead =
         lines-keep (AtPrice (IsKeptReply setup base)) (λ (c : Charged KeptState). c.at.since ≡ first.at.since)
         (λ old next line reply step so_far. role_since (role_of_lane line.lane) old.at next.at line.line reply step.0 ∙ so_far)

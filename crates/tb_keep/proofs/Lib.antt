@@ -6,4 +6,5 @@ mod Preparing
 mod Recovering
 mod Refusing
 pub mod SomeKeptReplies
+pub mod Staying
 mod Writable

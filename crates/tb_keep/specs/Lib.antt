@@ -4,6 +4,7 @@ pub mod Publishers
 pub mod Playing
 pub mod JournalOwners
 pub mod KeptRuns
+pub mod Staying
 pub mod Seen
 pub mod JournalRuns
 pub mod JournalLaws

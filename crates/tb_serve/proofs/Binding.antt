@@ -1,13 +1,12 @@
 -- Listeners that are bound, each to the port of its number.
 use Rattle.std.proofs.Common.{◌≡◌, ◌∙◌, refl, sym, ℕ, ◌+◌, ◌<◌, List, length, arith, subst, get_or-set_same, inl, inr}
-use Rattle.std.specs.Prelude.{slice_index_or}
+use Rattle.std.specs.Prelude.{All, slice_index_or}
 use Rattle.std.proofs.Math.ListN.{set}
 use Rattle.std.proofs.lemmas.List.{get_or_default, length-set}
-use Rattle.tb_io.specs.Faults.{HasRisen}
-use Rattle.tb_io.specs.Listeners.{IsSameBut}
+use Rattle.tb_io.specs.Listeners.{HasFailed, IsSameBut}
 use Rattle.tb_serve.specs.Each.{Each}
 use Rattle.tb_serve.specs.Ports.{PortValue}
-use Rattle.tb_serve.specs.Stages.{HasRisenSome, IsBoundAt, IsUntouched}
+use Rattle.tb_serve.specs.Stages.{CanBeBound, IsBoundAt, IsNotBound, IsOneNotBound, IsUntouched}
 use Rattle.tb_serve.proofs.Each.{Halfway, half_more, half_weaker}
 
 -- a port that was bound is as it was, as far as sessions go
@@ -52,16 +51,19 @@ all_untouched k first now index e new lt same h step =
     (IsUntouched k) first now index e new lt weaker step)
     (length-set now index new ∙ same) (λ i x y u. u) (stays k)
 
--- and the count of that one rose
-pub risen_there : (k : ℕ) (first now : List PortValue) (index : ℕ) (e new : PortValue) → index < length now → length now ≡ length first
-    → Halfway (IsBoundAt k) first now index
-    → HasRisen (slice_index_or now index e).listener.faults new.listener.faults → HasRisenSome first (set now index new)
-risen_there k first now index e new lt same h risen = (
+-- and that one is left unbound
+pub unbound_there : (k : ℕ) (first now : List PortValue) (index : ℕ) (e new : PortValue) → index < length now → length now ≡ length first
+    → All CanBeBound first → Halfway (IsBoundAt k) first now index
+    → HasFailed (slice_index_or now index e).listener new.listener → IsOneNotBound first (set now index new)
+unbound_there k first now index e new lt same can h failed = (
   index,
   omega arith,
   λ d.
-      subst (λ (x : PortValue). HasRisen (slice_index_or first index d).listener.faults x.listener.faults) (sym
-      (get_or-set_same now index new d lt))
-      (subst (λ (x : PortValue). HasRisen x.listener.faults new.listener.faults) (get_or_default now index e d lt ∙ h.rest index d
-      (omega arith)) risen),
+      let there : slice_index_or now index e ≡ slice_index_or first index d = get_or_default now index e d lt ∙ h.rest index d
+      (omega arith) in
+      let here : HasFailed (slice_index_or first index d).listener new.listener = subst (λ (x : PortValue). HasFailed x.listener new.listener)
+      there failed in
+      let within : index < length first = omega (arith, lt, same) in
+      subst (λ (x : PortValue). IsNotBound (slice_index_or first index d) x) (sym (get_or-set_same now index new d lt))
+      (record { port = here.0.port ∙ (can index d within).unbound; risen = here.1 }),
 )

@@ -12,7 +12,7 @@ use Rattle.tb_release.specs.Batches.{BatchValue}
 use Rattle.tb_serve.specs.Each.{Each}
 use Rattle.tb_serve.specs.Ports.{PortValue}
 use Rattle.tb_serve.specs.Serves.{HasServed, IsVisited}
-use Rattle.tb_serve.specs.Stages.{HasLines, HasOwnParty, HasRisenSome, IsCleared, IsConfirmed, IsLeft, IsSeated}
+use Rattle.tb_serve.specs.Stages.{HasLines, HasOwnParty, IsCleared, IsConfirmed, IsLeft, IsNotBound, IsOneNotBound, IsSeated}
 use Rattle.tb_serve.specs.Workers.{HasWorkedAs, HasWorkedAt}
 use Rattle.tb_serve.proofs.PortEnds.{analyst_served, custodian_served, left_here, visited_here}
 use Rattle.tb_session.specs.Parties.{seen_by}
@@ -30,20 +30,25 @@ each_then R S T a b c r s both = record {
   at = λ i d lt. both i d lt (r.at i d lt) (s.at i d (let e = r.same_length in omega arith));
 }
 
--- a count that rose before all was cleared
-pub risen_cleared : (a b c : List PortValue) → Each (λ _. HasLines) a b → (bs : List PortValue) → HasRisenSome b bs
-    → Each (λ _. IsCleared) bs c → length b ≡ length bs → HasRisenSome a c
-risen_cleared a b c lines bs risen cleared same =
-    let within : risen.0 < length a = (let e = lines.same_length in let r = risen.1 in omega arith) in (
-      risen.0,
+-- a port that was left unbound before it was cleared
+unbound_here : (p q r t : PortValue) → HasLines p q → IsNotBound q r → IsCleared r t → IsNotBound p t
+unbound_here p q r t lines left cleared = record {
+  port = ap (λ (x : PortValue). x.listener.port) cleared ∙ left.port;
+  risen = subst (λ (x : ℕ × ℕ). HasRisen x.0 x.1)
+      (λ j. (ap (λ (x : PortValue). x.listener.faults) lines j, sym (ap (λ (x : PortValue). x.listener.faults) cleared) j)) left.risen;
+}
+
+-- and before all were
+pub unbound_cleared : (a b c : List PortValue) → Each (λ _. HasLines) a b → (bs : List PortValue) → IsOneNotBound b bs
+    → Each (λ _. IsCleared) bs c → length b ≡ length bs → IsOneNotBound a c
+unbound_cleared a b c lines bs one cleared same =
+    let within : one.0 < length a = (let e = lines.same_length in let r = one.1 in omega arith) in
+    let still : one.0 < length bs = (let r = one.1 in omega arith) in (
+      one.0,
       within,
       λ d.
-          subst (λ (x : ℕ × ℕ). HasRisen x.0 x.1)
-          (λ j. (
-            (ap (λ (x : PortValue). x.listener.faults) (lines.at risen.0 d within)) j,
-            (sym (ap (λ (x : PortValue). x.listener.faults) (cleared.at risen.0 d (let r = risen.1 in omega arith)))) j,
-          ))
-          (risen.2 d),
+          unbound_here (slice_index_or a one.0 d) (slice_index_or b one.0 d) (slice_index_or bs one.0 d) (slice_index_or c one.0 d)
+          (lines.at one.0 d within) (one.2 d) (cleared.at one.0 d still),
     )
 
 -- ---- from parties to ends

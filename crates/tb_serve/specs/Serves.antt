@@ -13,7 +13,7 @@ use Rattle.tb_release.specs.Batches.{BatchValue}
 use Rattle.tb_serve.specs.Each.{Each}
 use Rattle.tb_serve.specs.Ports.{PortValue}
 use Rattle.tb_serve.specs.Reports.{memory_line, net_line, report, some_failed}
-use Rattle.tb_serve.specs.Stages.{HasRisenSome, IsUntouched}
+use Rattle.tb_serve.specs.Stages.{IsOneNotBound, IsUntouched}
 use Rattle.tb_ahead.specs.Publishing.{StateValue, after_seeing, let_go}
 use Rattle.tb_session.specs.Transcripts.{IsLegal}
 use Rattle.tb_session.specs.declared.party.Role.{Role}
@@ -103,10 +103,11 @@ abbrev pub IsOutOfMemory : ℕ → List PortValue → List PortValue → Output 
 IsOutOfMemory first before after out ended =
     Each (IsUntouched first) before after × IsEnded memory_line status.Memory out ended
 
--- a bind failed, for which a listener's count rose, and nothing was accepted
+-- a bind failed, so that a port is left unbound whose listener's count rose, and nothing was
+-- accepted
 abbrev pub IsUnbound : ℕ → List PortValue → List PortValue → Output → Status → Type 0
 IsUnbound first before after out ended =
-    Each (IsUntouched first) before after × HasRisenSome before after
+    Each (IsUntouched first) before after × IsOneNotBound before after
     × IsEnded net_line status.NetFault out ended
 
 -- what a call did with its ports, each of which is to serve so many sessions

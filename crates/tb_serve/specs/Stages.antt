@@ -48,7 +48,18 @@ pub record IsUntouched (first i : ℕ) (before after : PortValue) : Type 0 where
   pub to_come : after.listener.to_come ≡ before.listener.to_come
   pub came_back : after.listener.came_back ≡ before.listener.came_back
 
--- the count of faults of some listener rose
+-- a port was left unbound, and its listener's count of faults rose
+pub record IsNotBound (before after : PortValue) : Type 0 where
+  pub port : after.listener.port ≡ None
+  pub risen : HasRisen before.listener.faults after.listener.faults
+
+-- so was some port
+abbrev pub IsOneNotBound : List PortValue → List PortValue → Type 0
+IsOneNotBound before after =
+    (i : ℕ) × (i < length before)
+    × ((d : PortValue) → IsNotBound (slice_index_or before i d) (slice_index_or after i d))
+
+-- the count of faults of some listener rose, by a bind or an accept
 abbrev pub HasRisenSome : List PortValue → List PortValue → Type 0
 HasRisenSome before after =
     (i : ℕ) × (i < length before)
@@ -69,12 +80,12 @@ pub record GetsReady (first i : ℕ) (before after : PortValue) : Type 0 where
   pub calm : IsCalm before.listener after.listener
   pub rest : after ≡ record before { listener = after.listener; has_lines = true }
 
--- all ports got ready; or memory was refused; or a bind failed, for which a count rose
+-- all ports got ready; or memory was refused; or a bind failed, whose port is left unbound
 abbrev pub HasPrepared : ℕ → List PortValue → List PortValue → Readiness → Type 0
 HasPrepared first before after readiness.Ready = Each (GetsReady first) before after
 HasPrepared first before after readiness.NoMemory = Each (IsUntouched first) before after
 HasPrepared first before after readiness.NotBound =
-    Each (IsUntouched first) before after × HasRisenSome before after
+    Each (IsUntouched first) before after × IsOneNotBound before after
 
 -- ---- the parties
 

@@ -7,8 +7,8 @@ ghost use Rattle.std.specs.Prelude.{◌≡◌, ◌+◌, ◌≤◌, All, OnErr, O
 ghost use Rattle.tb_io.specs.declared.answers.Bound.TheVariants as bound;
 ghost use Rattle.tb_serve.specs.Each.{Each};
 ghost use Rattle.tb_serve.specs.Ports.{PortValue};
-ghost use Rattle.tb_serve.specs.Stages.{CanBeBound, HasLines, HasPrepared, HasRisenSome, IsBoundAt};
-ghost use Rattle.tb_serve.specs.Stages.{IsFresh, IsSameButLines, IsUntouched};
+ghost use Rattle.tb_serve.specs.Stages.{CanBeBound, HasLines, HasPrepared, IsBoundAt, IsFresh};
+ghost use Rattle.tb_serve.specs.Stages.{IsOneNotBound, IsSameButLines, IsUntouched};
 
 use crate::closing::clear_all;
 use crate::port::Port;
@@ -35,7 +35,7 @@ fn bind_all<N: Listen>(first: u16, ports: &mut [Port<N>]) -> Bound
     requires fit { first + length ports.old ≤ 65536 }
     ensures ready { result ≡ bound.Ready → Each (IsBoundAt first) ports.old ports.new }
     ensures failed { result ≡ bound.Failed → Each (IsUntouched first) ports.old ports.new }
-    ensures risen { result ≡ bound.Failed → HasRisenSome ports.old ports.new }
+    ensures unbound { result ≡ bound.Failed → IsOneNotBound ports.old ports.new }
 {
     for (i, port) in ports.iter_mut().enumerate() {
         match port.bind(first + i as u16) {

@@ -362,40 +362,46 @@ fn is_quiet(net: &[Port<MemListen>], place: usize) -> bool {
     }
 }
 
-// The custodian's port with a session, and an analyst's, whose bind fails.
-fn unbound(alloc: Global) -> Result<Vec<Port<MemListen>>, Memory>
+// The custodian's port with so many sessions, and an analyst's with one: its bind fails, or its
+// first accept.
+fn failing(
+    alloc: Global,
+    own: u32,
+    bind_fails: bool,
+    fails: u32,
+) -> Result<Vec<Port<MemListen>>, Memory>
     ensures ports { IfOk result (λ net. vec_len net ≡ MOST_WORKERS + 1) }
     ensures fresh { IfOk result (λ net. All IsFresh net.items) }
 {
     let mut net = Vec::new(alloc);
-    add_port(alloc, &mut net, b"drop 103\npublish\n", 1, false, &[])?;
-    add_port(alloc, &mut net, b"table SEX\n", 1, true, &[])?;
+    add_port(alloc, &mut net, b"drop 103\npublish\n", own, false, &[])?;
+    add_port(alloc, &mut net, b"table SEX\n", 1, bind_fails, &[fails])?;
     fill(alloc, &mut net, b"", 0, MOST_WORKERS as usize + 1)?;
     Ok(net)
 }
 
-// Whether a run whose journal was played serves nobody where a bind fails, and keeps its batch.
+// Whether a run whose journal was played serves nobody where the analyst's bind fails, or the first
+// accept, writes this, and keeps its batch.
 fn keeps_the_batch<R: Threads + Wait + Sync + Eprint>(
     rt: &R,
     alloc: Global,
+    own: u32,
+    bind_fails: bool,
+    fails: u32,
+    text: &[u8],
 ) -> Result<bool, Memory> {
-    let mut net = unbound(alloc)?;
+    let mut net = failing(alloc, own, bind_fails, fails)?;
     let mut disk = MemDisk::new(alloc, ONE_BATCH, &[])?;
-    let ends = ends_over(
-        rt,
-        alloc,
-        ONE,
-        &mut net,
-        &mut disk,
-        Status::NetFault,
-        b"fault net\n",
-    );
+    let ends = ends_over(rt, alloc, ONE, &mut net, &mut disk, Status::NetFault, text);
     Ok(ends && is_quiet(&net, 0) && is_quiet(&net, 1) && is_text(rt, disk.bytes(), ONE_BATCH))
 }
 
+// All ports are bound before the first accept, so a bind that failed is told alone.
 #[test]
-fn a_bind_fails_behind_a_journal(rt: HostRuntime) -> Result<(), Fail> {
-    assert!(&rt; keeps_the_batch(&rt, rt.alloc())?);
+fn a_port_fails_behind_a_journal(rt: HostRuntime) -> Result<(), Fail> {
+    assert!(&rt; keeps_the_batch(&rt, rt.alloc(), 1, true, 0, b"fault net\n")?);
+    let text = b"worker 0 sessions 0\nworker 1 sessions 0\nrelease 1\nfault net\n";
+    assert!(&rt; keeps_the_batch(&rt, rt.alloc(), 0, false, 1, text)?);
     Ok(())
 }
 

@@ -44,6 +44,7 @@ loads_nothing view defined files saw content faults = record {
   risen = λ file k. cc;
   within = λ file k. cc;
   last = λ file k. cc;
+  units = λ k. cc;
   all = λ x k. cc;
 }
 

@@ -18,15 +18,16 @@ use Rattle.tb_command.specs.declared.command.Lines.{Lines}
 use Rattle.tb_command.specs.declared.command.Lines.TheVariants as named_lines
 use Rattle.tb_command.specs.declared.command.Owner.{Owner}
 use Rattle.tb_command.specs.declared.command.Owner.TheVariants as owner
+use Rattle.tb_command.specs.declared.command.Task.{Task}
 use Rattle.tb_command.specs.declared.command.UnitFiles.{UnitFiles}
 use Rattle.tb_top.specs.Calls.{Call, HasTaken, IsReadTo, NetFailed, ReadFailed, WriteFailed, output_of}
 use Rattle.tb_command.specs.Commands.{asks_to_generate, asks_to_keep, asks_to_serve, command_of}
-use Rattle.tb_top.specs.InputFiles.{command_files, counted_files, lines_files}
+use Rattle.tb_top.specs.InputFiles.{asks_for_dwellings, command_files, counted_files, have_dwellings, lines_files, task_files}
 use Rattle.tb_endings.specs.Endings.{IsEnded, IsLineWritten, last_line, status_of}
-use Rattle.tb_top.specs.KeepOutputs.{HasFailed, IsStill}
+use Rattle.tb_top.specs.KeepOutputs.{IsStill}
 use Rattle.tb_top.specs.Loading.{Hold, Loads, Reading}
 use Rattle.tb_command.specs.Populations.{Population}
-use Rattle.tb_top.specs.Promises.{EndsBy, IsByInput, IsCaused, IsDefined, IsLastLine, IsPriced, IsTextOf, IsWhole, Keeps, defined_status}
+use Rattle.tb_top.specs.Promises.{EndsBy, HasDiskCause, IsByInput, IsCaused, IsDefined, IsLastLine, IsPriced, IsTextOf, IsWhole, Keeps, defined_status}
 use Rattle.tb_top.specs.Outputs.{AreAnswers, AreScriptReplies, IsAnswered, IsBegun, IsGenAnswered, IsOutput, IsScriptAnswered}
 use Rattle.tb_top.specs.Summaries.{summary_line}
 use Rattle.tb_top.specs.Summing.{most_counted}
@@ -199,7 +200,8 @@ module _ (call : Call) (e : End) (s : Status) (usage : e ≡ end.Usage → comma
     (rose : (file : Input) → e ≡ end.Unread file → ReadFailed call) (ends : IfSome call.content (λ at. e ≢ end.Memory → EndsBy call at e))
     (accepted : asks_to_generate (command_of call.words) ≡ true → e ≡ end.Memory)
     (priced : IfSome call.content (λ at. (call.steps_after ≡ call.steps) ⊎ IsPriced call at s)) (fresh : All IsFresh call.ports)
-    (same : call.ports_after ≡ call.ports) (disk : KeepsDisk call s) (alone : e ≢ end.Memory → IsStill call.disk) where
+    (same : call.ports_after ≡ call.ports) (disk : KeepsDisk call s) (units : status_of e ≡ status.Units → asks_for_dwellings (command_of call.words) ≡ true)
+    (alone : e ≢ end.Memory → IsStill call.disk) where
   usage_told : IsToldBy call e s → s ≡ status.Usage → (command_of call.words ≡ None) × HasTaken call (last_line end.Usage)
   usage_told (inl (is, took)) h = let u = status-usage e (sym is ∙ h) in (usage u, subst (λ x. HasTaken call (last_line x)) u took)
   usage_told (inr (is, failed, part)) h = cc
@@ -220,9 +222,17 @@ module _ (call : Call) (e : End) (s : Status) (usage : e ≡ end.Usage → comma
   net_told (inl (is, took)) h = absurd (subst IsOfEnd (sym is ∙ h) (of_end e))
   net_told (inr (is, failed, part)) h = cc
 
-  disk_told : IsToldBy call e s → s ≡ status.DiskFault → HasFailed call.disk ⊎ ((asks_to_serve (command_of call.words) ≡ true) × (asks_to_keep (command_of call.words) ≡ true))
+  disk_told : IsToldBy call e s → s ≡ status.DiskFault → HasDiskCause (command_of call.words) call.disk call.ports call.ports_after (output_of call)
   disk_told (inl (is, took)) h = absurd (subst IsOfEnd (sym is ∙ h) (of_end e))
   disk_told (inr (is, failed, part)) h = cc
+
+  journal_told : IsToldBy call e s → s ≡ status.Journal → asks_to_keep (command_of call.words) ≡ true
+  journal_told (inl (is, took)) h = absurd (subst IsOfEnd (sym is ∙ h) (of_end e))
+  journal_told (inr (is, failed, part)) h = cc
+
+  units_told : IsToldBy call e s → s ≡ status.Units → asks_for_dwellings (command_of call.words) ≡ true
+  units_told (inl (is, took)) h = units (sym is ∙ h)
+  units_told (inr (is, failed, part)) h = cc
 
   generated_told : IsToldBy call e s → asks_to_generate (command_of call.words) ≡ true → (s ≡ status.Done) ⊎ ((s ≡ status.WriteFault) ⊎ (s ≡ status.Memory))
   generated_told (inl (is, took)) h = inr (inr (is ∙ ap status_of (accepted h)))
@@ -245,6 +255,8 @@ module _ (call : Call) (e : End) (s : Status) (usage : e ≡ end.Usage → comma
     write_fault = write_told told;
     net_fault = net_told told;
     disk_fault = disk_told told;
+    journal = journal_told told;
+    units = units_told told;
     exact = where_told _ _ call.content (λ at by. exact_by_end call at same e s by rose told) ends;
     price = priced;
     generated = generated_told told;
@@ -296,7 +308,7 @@ module _ (call : Call) (command : Command) (asked : AskedValue) (s : Status) (na
       (script_priced replies answers (λ m. cc) part cost) fresh same disk (inr (is, failed, part))
   keeps_by_script (inr (inr (free, ended))) =
       keeps_by_end call end.Memory s (λ h. cc) (λ h. cc) (λ file h. cc) (always_told _ call.content (λ at ne. absurd (ne refl)))
-      (λ h. refl) (unpriced call s free) fresh same disk (λ ne. absurd (ne refl)) ended
+      (λ h. refl) (unpriced call s free) fresh same disk (λ h. cc) (λ ne. absurd (ne refl)) ended
 
 -- how a generated population was answered, and the status
 abbrev pub IsGenAnsweredBy : Call → Population → CensusValue → ScriptValue → Status → Type 0
@@ -339,10 +351,10 @@ module _ (call : Call) (command : Command) (population : Population) (census : C
   keeps_by_gen (inl (replies, answers, cost, inr (long, ended))) =
       keeps_by_end call end.Memory s (λ h. cc) (λ h. cc) (λ file h. cc) (always_told _ call.content (λ at ne. absurd (ne refl)))
       (λ h. refl) (priced_by replies answers cost (begun_long replies long ended)) fresh same
-      (left-alone call summed s (inr (refl, refl)) told still) (λ ne. absurd (ne refl)) ended
+      (left-alone call summed s (inr (refl, refl)) told still) (λ h. cc) (λ ne. absurd (ne refl)) ended
   keeps_by_gen (inr (free, ended)) =
       keeps_by_end call end.Memory s (λ h. cc) (λ h. cc) (λ file h. cc) (always_told _ call.content (λ at ne. absurd (ne refl)))
-      (λ h. refl) (unpriced call s free) fresh same (undone call end.Memory s free same ended still) (λ ne. absurd (ne refl)) ended
+      (λ h. refl) (unpriced call s free) fresh same (undone call end.Memory s free same ended still) (λ h. cc) (λ ne. absurd (ne refl)) ended
 
 -- how what is asked for was answered, and the status
 abbrev pub IsAnsweredBy : Call → AskedValue → Status → Type 0
@@ -438,6 +450,32 @@ holds at (command.Over task) =
     holds-task at inputs.classes inputs.ptable inputs.people inputs.threshold inputs.recodes task.units task.lines
 holds at (command.Gen population) = tt
 
+-- files of dwellings are a command's only where it asks for them
+module _ (classes ptable people : List ℕ) (threshold : ℕ) (by : Owner) where
+  abbrev task_of : Option (List ℕ) → Option UnitFiles → Lines → Task
+  task_of recodes units lines = record {
+    inputs = record { classes = classes; recodes = recodes; ptable = ptable; people = people; threshold = threshold };
+    units = units;
+    owner = by;
+    lines = lines;
+  }
+
+  dwellings_in : (recodes : Option (List ℕ)) (units : Option UnitFiles) (lines : Lines) → have_dwellings (task_files (task_of recodes units lines)) ≡ true
+      → asks_for_dwellings (Some (command.Over (task_of recodes units lines))) ≡ true
+  dwellings_in recodes (Some files) lines h = refl
+  dwellings_in None None (named_lines.Script name) h = absurd (true≢false (sym h))
+  dwellings_in None None (named_lines.Lanes name) h = absurd (true≢false (sym h))
+  dwellings_in None None (named_lines.Ports service) h = absurd (true≢false (sym h))
+  dwellings_in (Some r) None (named_lines.Script name) h = absurd (true≢false (sym h))
+  dwellings_in (Some r) None (named_lines.Lanes name) h = absurd (true≢false (sym h))
+  dwellings_in (Some r) None (named_lines.Ports service) h = absurd (true≢false (sym h))
+
+dwellings-asked : (c : Command) → have_dwellings (command_files c) ≡ true → asks_for_dwellings (Some c) ≡ true
+dwellings-asked (command.Over task) h =
+    let inputs = task.inputs in
+    dwellings_in inputs.classes inputs.ptable inputs.people inputs.threshold task.owner inputs.recodes task.units task.lines h
+dwellings-asked (command.Gen population) h = absurd (true≢false (sym h))
+
 -- how loading ended the run
 pub keeps_by_load : {A : Type 0} (view : A → AskedValue) (call : Call) (after : Option (List ℕ → Option (List ℕ))) (command : Command)
     (e : End) (s : Status) → command_of call.words ≡ Some command
@@ -455,7 +493,8 @@ keeps_by_load view call after command e s named loads accepted free fresh same s
       caused call command e named rose last,
       same,
     )) loads.gives)
-    accepted (unpriced call s free) fresh same (undone call e s free same told still) (λ ne. still) told
+    accepted (unpriced call s free) fresh same (undone call e s free same told still)
+    (λ h. ap asks_for_dwellings named ∙ dwellings-asked command (loads.units h)) (λ ne. still) told
 
 -- other arguments end the run at once
 pub keeps_by_usage : (call : Call) (s : Status) → command_of call.words ≡ None → call.steps_after ≡ call.steps → All IsFresh call.ports
@@ -464,7 +503,7 @@ keeps_by_usage call s none free fresh same still told =
     keeps_by_end call end.Usage s (λ h. none) (λ h. refl) (λ file h. cc)
     (always_told _ call.content (λ at ne. (rw none refl, tt, same)))
     (λ h. absurd (true≢false (sym h ∙ ap asks_to_generate none))) (unpriced call s free) fresh same
-    (undone call end.Usage s free same told still) (λ ne. still) told
+    (undone call end.Usage s free same told still) (λ h. cc) (λ ne. still) told
 
 -- files that were all read lead to the task
 pub keeps_by_task : {A : Type 0} (view : A → AskedValue) (call : Call) (after : Option (List ℕ → Option (List ℕ))) (command : Command)

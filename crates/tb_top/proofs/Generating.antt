@@ -25,9 +25,10 @@ use Rattle.tb_endings.specs.declared.endings.End.{End}
 use Rattle.tb_endings.specs.declared.endings.End.TheVariants as end
 use Rattle.tb_top.specs.Asking.{AskedValue, CensusValue, Contents, asked_with, bytes_in, generated_asked, most_bytes, people_in, perturbation_in, schema_in, script_in, scripted_in, sums_over}
 use Rattle.tb_top.specs.InputFiles.{NamedFile, scripted_files}
-use Rattle.tb_endings.specs.Endings.{input_name}
+use Rattle.tb_endings.specs.Endings.{input_name, status_of}
+use Rattle.tb_base.specs.declared.status.Status.TheVariants as status
 use Rattle.tb_top.specs.GeneratedFiles.{HoldGenerated, generated_contents, generated_inputs}
-use Rattle.tb_top.specs.Loading.{Hold, Loads, Makes, Reading, asked_value, census_value, scripted_value}
+use Rattle.tb_top.specs.Loading.{Hold, IsWithUnits, Loads, Makes, Reading, asked_value, census_value, scripted_value}
 use Rattle.tb_command.specs.Populations.{HasPersons, Population}
 use Rattle.tb_top.proofs.LoadSteps.{Loads-ends, Loads-fails, contents_same}
 use Rattle.tb_top.proofs.Telling.{always_told}
@@ -97,9 +98,10 @@ makes-of view defined contents at files place (Err e) {saw} content sure held h 
 
 -- a step that reads no file
 pub loads-none : {A B : Type 0} (view : A → B) (defined : Result B End) (result : Result A End) (saw : Reading) {place : ℕ}
-    → saw.content_after ≡ saw.content → saw.faults_after ≡ saw.faults → saw.readings_after ≡ saw.readings → Makes view defined result
+    → saw.content_after ≡ saw.content → saw.faults_after ≡ saw.faults → saw.readings_after ≡ saw.readings → IfErr result (IsWithUnits [])
+    → Makes view defined result
     → Loads saw place [] view (λ _. defined) result
-loads-none view defined (Ok x) saw {place} content faults readings makes = record {
+loads-none view defined (Ok x) saw {place} content faults readings units makes = record {
   usage = λ k. cc;
   count = omega (arith, faults);
   same = content;
@@ -107,9 +109,10 @@ loads-none view defined (Ok x) saw {place} content faults readings makes = recor
   risen = λ file k. cc;
   within = λ file k. cc;
   last = λ file k. cc;
+  units = units;
   all = λ y k. readings;
 }
-loads-none view defined (Err e) saw {place} content faults readings (usage, unread, gives) = record {
+loads-none view defined (Err e) saw {place} content faults readings units (usage, unread, gives) = record {
   usage = λ k. usage cc;
   count = omega (arith, faults);
   same = content;
@@ -117,8 +120,14 @@ loads-none view defined (Err e) saw {place} content faults readings (usage, unre
   risen = λ file k. absurd (unread file cc);
   within = λ file k. absurd (unread file cc);
   last = λ file k. absurd (unread file cc);
+  units = units;
   all = λ y k. cc;
 }
+
+-- an end by memory alone is at no file
+pub no-units-alone : {A : Type 0} (files : List NamedFile) (result : Result A End) → IfErr result (λ e. e ≡ end.Memory) → IfErr result (IsWithUnits files)
+no-units-alone files (Ok x) h = h
+no-units-alone files (Err e) h = λ k. let bad : status.Memory ≡ status.Units = sym (ap status_of h) ∙ k in cc
 
 -- what a census and a script are asked for, as those of a population
 abbrev pub summed_over : Population → Scripted → Asked

@@ -18,7 +18,7 @@ use Rattle.tb_serve.specs.Each.{Each}
 use Rattle.tb_serve.specs.Ports.{PortValue}
 use Rattle.tb_serve.specs.Reports.{memory_line, net_line, some_failed}
 use Rattle.tb_serve.specs.Serves.{IsEnded, Output, final_status, output}
-use Rattle.tb_serve.specs.Stages.{HasRisenSome, IsFresh, IsUntouched}
+use Rattle.tb_serve.specs.Stages.{IsFresh, IsOneNotBound, IsUntouched}
 use Rattle.tb_worker.specs.Work.{IsEnough}
 use Rattle.tb_top.specs.Asking.{AskedValue, CensusValue, asked_of, asked_with, base_of}
 use Rattle.tb_top.specs.declared.asked.AskedLines.TheVariants as lines
@@ -36,8 +36,8 @@ use Rattle.tb_command.specs.declared.command.Command.{Command}
 use Rattle.tb_top.proofs.Boards.{same-base}
 use Rattle.tb_top.proofs.DiskKept.{KeepsDisk, served-on-disk}
 use Rattle.tb_top.proofs.Earlier.{earlier, stands-earlier, stays-earlier, until-earlier}
-use Rattle.tb_top.proofs.PortLemmas.{all-same, all-unserved, each-idle, each-unserved, each-whole, idle-whole, risen-whole, same-idle, take-fresh, unserved}
-use Rattle.tb_top.proofs.Serving.{IsFinal, done_or_net, ending_of, final_is, keeps_by_final, risen-by, serves-alone, some_by, whole_by_output}
+use Rattle.tb_top.proofs.PortLemmas.{all-same, all-unserved, each-idle, each-unserved, each-whole, idle-whole, risen-unbound, risen-whole, same-idle, take-fresh, unserved}
+use Rattle.tb_top.proofs.Serving.{EndsByDisk, IsFinal, done_or_net, ending_of, final_is, keeps_by_final, no_disk_by, risen-by, serves-alone, some_by, whole_by_output}
 
 -- ---- what was seen is told from an earlier moment on
 
@@ -163,11 +163,11 @@ module _ (call : Call) (command : Command) (census : CensusValue) (journal : Lis
 
   -- one of its last lines was written
   by_line : (text : List ℕ) (final : Status) → IsFinal final → (final ≡ status.NetFault → NetFailed call)
-      → (final ≡ status.DiskFault → HasFailed call.disk ⊎ ((asks_to_serve (Some command) ≡ true) × (asks_to_keep (Some command) ≡ true))) → All IsIdle call.ports_after
+      → (final ≡ status.DiskFault → EndsByDisk call command text) → All IsIdle call.ports_after
       → ((at : List ℕ → Option (List ℕ)) → asked_of at call.words ≡ Ok task → IsWhole call at final text)
       → IsEnded text final (output_of call) s → Keeps call s
   by_line text final is net disk idle whole ended =
-      keeps_by_final call command task s final text named told free is net disk idle no_others (not_generated final) whole on_disk ended
+      keeps_by_final call command task s final text named told free is net disk (λ h. keeps) idle no_others (not_generated final) whole on_disk ended
 
   -- no port changed
   by_same : (text : List ℕ) (final : Status) → IsFinal final → final ≢ status.NetFault → (final ≡ status.DiskFault → HasFailed call.disk)
@@ -175,7 +175,7 @@ module _ (call : Call) (command : Command) (census : CensusValue) (journal : Lis
       → ((at : List ℕ → Option (List ℕ)) → asked_of at call.words ≡ Ok task → IsWhole call at final text)
       → IsEnded text final (output_of call) s → Keeps call s
   by_same text final is net disk same whole ended =
-      by_line text final is (λ h. absurd (net h)) (λ h. inl (disk h)) (same-idle call.ports call.ports_after same fresh) whole ended
+      by_line text final is (λ h. absurd (net h)) (λ h. (keeps, inl (disk h))) (same-idle call.ports call.ports_after same fresh) whole ended
 
   by_memory : call.ports_after ≡ call.ports → IsEnded memory_line status.Memory (output_of call) s → Keeps call s
   by_memory same ended =
@@ -203,10 +203,11 @@ module _ (call : Call) (command : Command) (census : CensusValue) (journal : Lis
       by_untouched memory_line status.Memory tt each (λ h. cc) (λ h. cc) (λ at h. (inl refl, none)) ended
 
   by_unbound : Each (IsUntouched service.port) (take n call.ports) (take n call.ports_after)
-      → HasRisenSome (take n call.ports) (take n call.ports_after) → IsEnded net_line status.NetFault (output_of call) s → Keeps call s
-  by_unbound each rose ended =
+      → IsOneNotBound (take n call.ports) (take n call.ports_after) → IsEnded net_line status.NetFault (output_of call) s → Keeps call s
+  by_unbound each one ended =
+      let rose = risen-unbound (take n call.ports) (take n call.ports_after) one in
       by_untouched net_line status.NetFault tt each (λ h. risen-whole n call.ports call.ports_after long each.same_length rest rose) (λ h. cc)
-      (λ at h. (task, h, inr ((each, rest), rose, refl, refl))) ended
+      (λ at h. (task, h, inr ((each, rest), one, refl, refl))) ended
 
   -- all ports were served
   module _ (all : HostsAll census.setup (base_of census) service.port service.sessions (take n call.ports) (take n call.ports_after) saw
@@ -255,10 +256,10 @@ module _ (call : Call) (command : Command) (census : CensusValue) (journal : Lis
         let ending = ending_of ports in
         let final = final_status ports in
         by_line (host_report true ports (length last.state.chain)) final (final_is final (done_or_net ports ending))
-        (λ h. rises (some_by ports ending h)) (λ h. inr (serves, keeps)) idle_now
+        (λ h. rises (some_by ports ending h)) (λ h. absurd (no_disk_by final (done_or_net ports ending) h)) idle_now
         (λ at h. whole_by_output call at final (host_report true ports (length last.state.chain)) (done_or_net ports ending) (task, h, is)) ended
     by_report false is ended =
-        by_line (host_report false ports (length last.state.chain)) status.DiskFault tt (λ h. cc) (λ h. inr (serves, keeps)) idle_now
+        by_line (host_report false ports (length last.state.chain)) status.DiskFault tt (λ h. cc) (λ h. (keeps, inr (serves, (census, service, is)))) idle_now
         (λ at h. inr (task, h, is)) ended
 
     by_all : Keeps call s
@@ -271,7 +272,7 @@ module _ (call : Call) (command : Command) (census : CensusValue) (journal : Lis
   by_run (inr (inr (inl (same, rose, stands, ended)))) =
       by_same disk_line status.DiskFault tt (λ h. cc) (λ h. rose) (all-same n call.ports call.ports_after same rest)
       (λ at h. inl (census, journal, (lines.Ports service, h), inr (rose, stands, refl, refl))) ended
-  by_run (inr (inr (inr (inl ((each, rose, ended), recovered))))) = by_unbound each rose ended
+  by_run (inr (inr (inr (inl ((each, one, ended), recovered))))) = by_unbound each one ended
   by_run (inr (inr (inr (inr all)))) = by_all all
 
   by_answer : (((ports_of service call.ports_after ≡ ports_of service call.ports) × IsStill call.disk

@@ -85,7 +85,7 @@ module _ (call : Call) (command : Command) (census : CensusValue) (journal : Lis
       → ((at : List ℕ → Option (List ℕ)) → asked_of at call.words ≡ Ok asked → IsWhole call at final text) → IsSomeLastLine final text
       → call.steps_after ≡ call.steps → IsStill call.disk ⊎ StandsAsBefore (seen_of saw) → IsEnded text final (output_of call) s → Keeps call s
   by_last_line final text is net failed whole line free unspoiled ended =
-      keeps_by_final call command asked s final text named told free is (λ h. absurd (net h)) (λ h. inl (failed h))
+      keeps_by_final call command asked s final text named told free is (λ h. absurd (net h)) (λ h. (keeps, inl (failed h))) (λ h. keeps)
       (same-idle call.ports call.ports_after same fresh) (λ h. same) (λ h. absurd (keeps-alone command keeps h)) whole
       (ended-in-script call asked s final text told refl asks free (unspoiled_as unspoiled) line ended) ended
 

@@ -46,9 +46,9 @@ lanes_status : (census : CensusValue) (script : ScriptValue) (s : Status) (text 
 lanes_status census script s text (inl (done, phases)) = inl done
 lanes_status census script s text (inr (memory, cut)) = inr memory
 
-no_fault : (s : Status) → (s ≡ status.Done) ⊎ (s ≡ status.Memory) → (s ≢ status.NetFault) × (s ≢ status.DiskFault)
-no_fault s (inl done) = (λ h. cc, λ h. cc)
-no_fault s (inr memory) = (λ h. cc, λ h. cc)
+no_fault : (s : Status) → (s ≡ status.Done) ⊎ (s ≡ status.Memory) → (s ≢ status.NetFault) × (s ≢ status.DiskFault) × (s ≢ status.Journal)
+no_fault s (inl done) = (λ h. cc, λ h. cc, λ h. cc)
+no_fault s (inr memory) = (λ h. cc, λ h. cc, λ h. cc)
 
 -- and is what a run with it writes
 lanes_whole : (call : Call) (at : List ℕ → Option (List ℕ)) (census : CensusValue) (by : Owner) (script : ScriptValue) (s : Status) (text : List ℕ)
@@ -67,7 +67,7 @@ keeps_by_lanes call command census by script s named told free fresh same still 
     let one = lanes_status census script final text is in
     let none = no_fault final one in
     keeps_by_final call command (asked_with census by (lines.Lanes script)) s final text named told free (lanes_final census script final text is)
-    (λ net. absurd (none.0 net)) (λ disk. absurd (none.1 disk)) (same-idle call.ports call.ports_after same fresh) (λ h. same)
+    (λ net. absurd (none.0 net)) (λ disk. absurd (none.1 disk)) (λ journal. absurd (none.2 journal)) (same-idle call.ports call.ports_after same fresh) (λ h. same)
     (λ h. one) (λ at asked. lanes_whole call at census by script final text asked same is)
     (left-alone call (asked_with census by (lines.Lanes script)) s (inr (refl, refl)) told still) ended
 

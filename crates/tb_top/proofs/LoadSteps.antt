@@ -1,13 +1,14 @@
 -- Steps over a run's files, one after another.
-use Rattle.std.proofs.Common.{◌≡◌, ◌≢◌, ◌∙◌, ap, sym, refl, ℕ, suc, zero, ◌<◌, ◌≤◌, List, [], ◌∷◌, ◌++◌, length, map, Option, option_map, Some, None, Result, Ok, Err, true, arith, Global}
+use Rattle.std.proofs.Common.{◌≡◌, ◌≢◌, ◌∙◌, ap, sym, refl, ℕ, Bool, false, suc, zero, ◌<◌, ◌≤◌, List, [], ◌∷◌, ◌++◌, length, map, Option, option_map, Some, None, Result, Ok, Err, true, true≢false, arith, Global}
 use Rattle.std.proofs.lemmas.Bool.{ne_eqb}
 use Rattle.std.proofs.lemmas.List.{append-nil, append_assoc, length-map, map-append}
-use Rattle.std.specs.Prelude.{IfSome, flat_map, ◌==◌}
+use Rattle.std.specs.Prelude.{IfErr, IfSome, flat_map, ◌==◌, ◌||◌}
 use Rattle.std.specs.declared.vec.Vec.{Vec}
 use Rattle.tb_io.specs.Faults.{HasRisen, one_more}
 use Rattle.tb_io.proofs.FaultLemmas.{HasRisen-earlier}
 use Rattle.tb_base.specs.declared.records.Record.{Record}
 use Rattle.tb_base.specs.declared.keys.Keys.{Keys}
+use Rattle.tb_base.specs.declared.status.Status.TheVariants as status
 use Rattle.tb_ptable.specs.Table.{TableValue}
 use Rattle.tb_model.specs.Releases.{first_release}
 use Rattle.tb_model.specs.Schemas.{SchemaValue}
@@ -20,6 +21,7 @@ use Rattle.tb_rows.specs.FaultNames.{FaultNameValue}
 use Rattle.tb_rows.specs.declared.fault.Fault.{Fault}
 use Rattle.tb_rows.specs.declared.fault.Fault.TheVariants as fault
 use Rattle.tb_schema.specs.Recodes.{schema_of}
+use Rattle.tb_schema.specs.declared.fault.ClassFile.TheVariants as class_file
 use Rattle.tb_schema.specs.declared.fault.SchemaFault.{SchemaFault}
 use Rattle.tb_schema.specs.declared.fault.SchemaFault.TheVariants as schema_fault
 use Rattle.tb_model.specs.Units.{UnitsValue}
@@ -33,10 +35,11 @@ use Rattle.tb_endings.specs.declared.endings.Input.TheVariants as input
 use Rattle.tb_endings.specs.declared.endings.End.{End}
 use Rattle.tb_endings.specs.declared.endings.End.TheVariants as end
 use Rattle.tb_top.specs.Asking.{◌>>=◌, CensusValue, Contents, base_in, bytes_in, census_in, census_of, census_over, contents_for, counted_in, input_place, or_end, people_added, people_in, perturbation_in, recodes_in, schema_in, setup_in, setup_over, units_in, with_units}
+use Rattle.tb_endings.specs.Endings.{input_status, status_of}
 use Rattle.tb_endings.specs.Refusals.{file_end, schema_end, units_end}
 use Rattle.tb_top.specs.Calls.{IsReadTo, readings_more}
-use Rattle.tb_top.specs.InputFiles.{NamedFile, counted_files, input_files, named, unit_files}
-use Rattle.tb_top.specs.Loading.{Gives, Hold, Loads, Reading, census_value}
+use Rattle.tb_top.specs.InputFiles.{NamedFile, counted_files, have_dwellings, input_files, is_of_dwellings, named, unit_files}
+use Rattle.tb_top.specs.Loading.{Gives, Hold, IsWithUnits, Loads, Reading, census_value}
 
 -- the records of lists, one list after another
 abbrev pub all_of : Vec (Vec Record Global) Global → List Record
@@ -73,6 +76,40 @@ readings-of-both : {A : Type 0} (xs ys : List A) (count : Option ℕ) → readin
 readings-of-both [] ys count = refl
 readings-of-both (x ∷ xs) ys count = ap (option_map one_more) (readings-of-both xs ys count) ∙ one-more-first (length ys)
     (readings_more (length xs) count)
+
+-- files of dwellings are among those of both steps
+either-before : (a b c : Bool) → (b ≡ true → c ≡ true) → (a || b) ≡ true → (a || c) ≡ true
+either-before true b c f h = refl
+either-before false b c f h = f h
+
+either-after : (a b : Bool) → b ≡ true → (a || b) ≡ true
+either-after true b h = refl
+either-after false b h = h
+
+dwellings-before : (files more : List NamedFile) → have_dwellings files ≡ true → have_dwellings (files ++ more) ≡ true
+dwellings-before [] more h = absurd (true≢false (sym h))
+dwellings-before (file ∷ files) more h =
+    either-before (is_of_dwellings file.input) (have_dwellings files) (have_dwellings (files ++ more)) (dwellings-before files more) h
+
+dwellings-after : (files more : List NamedFile) → have_dwellings more ≡ true → have_dwellings (files ++ more) ≡ true
+dwellings-after [] more h = h
+dwellings-after (file ∷ files) more h =
+    either-after (is_of_dwellings file.input) (have_dwellings (files ++ more)) (dwellings-after files more h)
+
+units-later : {C : Type 0} (files more : List NamedFile) (result : Result C End) → IfErr result (IsWithUnits more)
+    → IfErr result (IsWithUnits (files ++ more))
+units-later files more (Ok x) h = h
+units-later files more (Err e) h = λ k. dwellings-after files more (h k)
+
+-- of one file
+pub units_of_one : (file : Input) (name : List ℕ) → IsWithUnits (named file name ∷ []) (end.TooLong file)
+units_of_one input.Classes name h = cc
+units_of_one input.Recodes name h = cc
+units_of_one input.Ptable name h = cc
+units_of_one input.People name h = cc
+units_of_one input.Dwellings name h = refl
+units_of_one input.Links name h = refl
+units_of_one input.Script name h = cc
 
 inputs_of : List NamedFile → List Input
 inputs_of files = map (λ f. f.input) files
@@ -117,6 +154,7 @@ Loads-fails {A} {B} {C} {D} view view' defined next {e} {saw} {place} {files} h 
   risen = λ file k. h.risen file (let same : e ≡ end.Unread file = cc in ap (λ (x : End). Err x) same);
   within = λ file k. h.within file (let same : e ≡ end.Unread file = cc in ap (λ (x : End). Err x) same);
   last = λ file k. h.last file (let same : e ≡ end.Unread file = cc in ap (λ (x : End). Err x) same);
+  units = h.units;
   all = λ x k. cc;
 }
 
@@ -132,6 +170,7 @@ Loads-before {A} {B} view defined more {e} {saw} {place} {files} h = record {
   risen = h.risen;
   within = h.within;
   last = λ file k. IsReadTo-more files more file saw.readings saw.readings_after (h.last file k);
+  units = λ k. dwellings-before files more (h.units k);
   all = λ x k. cc;
 }
 
@@ -157,6 +196,7 @@ Loads-unread {A} view file name {saw} count same rose readings = record {
   risen = λ other k. rose;
   within = λ other k. let is : file ≡ other = cc in omega (arith, ap input_place is);
   last = λ other k. let is : file ≡ other = cc in ([], [], ap (λ (f : Input). f ∷ []) is, readings);
+  units = λ k. cc;
   all = λ x k. cc;
 } where
   always : {X : Type 0} (P : X → Type 0) (o : Option X) → ((x : X) → P x) → IfSome o P
@@ -213,6 +253,7 @@ Loads-then {A} {B} {C} {D} view view' defined next x result {one} {two} {place} 
       within = λ file u. omega (arith, k.within file u, up);
       last = λ file u. IsReadTo-later files more file one.readings one.readings_after two.readings two.readings_after
           (h.all x refl) readings (k.last file u);
+      units = units-later files more result k.units;
       all = λ y u. k.all y u ∙ ap (readings_more (length more)) (readings ∙ h.all x refl) ∙ sym (readings-of-both files more one.readings);
     }
 
@@ -230,6 +271,7 @@ Loads-ends {A} {B} {C} {D} view view' defined next x y {saw} {place} {files} giv
   risen = λ file k. cc;
   within = λ file k. cc;
   last = λ file k. cc;
+  units = tt;
   all = λ z k. h.all x refl;
 }
 
@@ -246,8 +288,9 @@ pub Loads-refuses : {A B C D : Type 0} (view : A → B) (view' : C → D) (defin
     (next : Contents → B → Result D End) (x : A) (e : End)
     {saw : Reading} {place : ℕ} {files : List NamedFile}
     → e ≢ end.Usage → ((file : Input) → e ≢ end.Unread file) → ((contents : Contents) → e ≢ end.Memory → next contents (view x) ≡ Err e)
-    → Loads saw place files view defined (Ok x) → Loads saw place files view' (λ contents. defined contents >>= next contents) (Err e)
-Loads-refuses {A} {B} {C} {D} view view' defined next x e {saw} {place} {files} usage unread given h = record {
+    → Loads saw place files view defined (Ok x) → IsWithUnits files e
+    → Loads saw place files view' (λ contents. defined contents >>= next contents) (Err e)
+Loads-refuses {A} {B} {C} {D} view view' defined next x e {saw} {place} {files} usage unread given h units = record {
   usage = λ k. usage cc;
   count = h.count;
   same = h.same;
@@ -257,6 +300,7 @@ Loads-refuses {A} {B} {C} {D} view view' defined next x e {saw} {place} {files} 
   risen = λ file k. absurd (unread file cc);
   within = λ file k. absurd (unread file cc);
   last = λ file k. absurd (unread file cc);
+  units = units;
   all = λ z k. cc;
 }
 
@@ -266,7 +310,7 @@ pub Loads-memory : {A B C D : Type 0} (view : A → B) (view' : C → D) (define
     → Loads saw place files view defined (Ok x) → Loads saw place files view' (λ contents. defined contents >>= next contents)
     (Err end.Memory)
 Loads-memory view view' defined next x h = Loads-refuses view view' defined next x end.Memory (λ k. cc) (λ file k. cc)
-    (λ contents ne. absurd (ne refl)) h
+    (λ contents ne. absurd (ne refl)) h (λ k. cc)
 
 -- by its reader's fault
 not_by_reader : {K : Type 0} (file : Input) (name_of : K → FaultNameValue) (f : Fault K) → (file_end file name_of f ≢ end.Usage) ×
@@ -274,20 +318,31 @@ not_by_reader : {K : Type 0} (file : Input) (name_of : K → FaultNameValue) (f 
 not_by_reader file name_of (fault.Refused kind at) = (λ h. cc, λ other h. cc)
 not_by_reader file name_of fault.Memory = (λ h. cc, λ other h. cc)
 
+no-units-by-reader : {K : Type 0} (file : Input) (name_of : K → FaultNameValue) (f : Fault K) → input_status file ≢ status.Units
+    → status_of (file_end file name_of f) ≢ status.Units
+no-units-by-reader file name_of (fault.Refused kind at) other h = other h
+no-units-by-reader file name_of fault.Memory other h = cc
+
 pub Loads-refused : {V A B K : Type 0} (items : V → List ℕ) (view : A → B) (file : Input) (name_of : K → FaultNameValue)
     (read : List ℕ → Result B (Fault K)) (x : V) (f : Fault K) {saw : Reading} {place : ℕ} {files : List NamedFile}
-    → (f ≢ fault.Memory → read (items x) ≡ Err f) → Loads saw place files items (λ contents. bytes_in file (contents file)) (Ok x)
+    → input_status file ≢ status.Units → (f ≢ fault.Memory → read (items x) ≡ Err f) → Loads saw place files items (λ contents. bytes_in file (contents file)) (Ok x)
     → Loads saw place files view (λ contents. bytes_in file (contents file) >>= (λ bytes. or_end (file_end file name_of) (read bytes)))
     (Err (file_end file name_of f))
-Loads-refused {V} {A} {B} {K} items view file name_of read x f given h =
+Loads-refused {V} {A} {B} {K} items view file name_of read x f other given h =
     let not = not_by_reader file name_of f in
     Loads-refuses items view (λ contents. bytes_in file (contents file)) (λ contents bytes. or_end (file_end file name_of) (read bytes)) x
     (file_end file name_of f) not.0 not.1
     (λ contents ne. ap (or_end (file_end file name_of)) (given (λ m. ne (ap (file_end file name_of) m)))) h
+    (λ k. absurd (no-units-by-reader file name_of f other k))
 
 not_by_schema : (f : SchemaFault) → (schema_end f ≢ end.Usage) × ((other : Input) → schema_end f ≢ end.Unread other)
 not_by_schema (schema_fault.Refused file kind at) = (λ h. cc, λ other h. cc)
 not_by_schema schema_fault.Memory = (λ h. cc, λ other h. cc)
+
+no-units-by-schema : (f : SchemaFault) → status_of (schema_end f) ≢ status.Units
+no-units-by-schema (schema_fault.Refused class_file.Classes kind at) h = cc
+no-units-by-schema (schema_fault.Refused class_file.Recodes kind at) h = cc
+no-units-by-schema schema_fault.Memory h = cc
 
 pub Loads-refused-schema : {V : Type 0} (recodes : V → Option (List ℕ)) (classes : List ℕ) (name : Option (List ℕ)) (x : V)
     (f : SchemaFault) {saw : Reading} {place : ℕ} {files : List NamedFile}
@@ -297,7 +352,7 @@ pub Loads-refused-schema : {V : Type 0} (recodes : V → Option (List ℕ)) (cla
 Loads-refused-schema recodes classes name x f given h =
     let not = not_by_schema f in
     Loads-refuses recodes (λ s. s) (recodes_in name) (λ contents r. or_end schema_end (schema_of classes r)) x (schema_end f) not.0 not.1
-    (λ contents ne. ap (or_end schema_end) (given (λ m. ne (ap schema_end m)))) h
+    (λ contents ne. ap (or_end schema_end) (given (λ m. ne (ap schema_end m)))) h (λ k. absurd (no-units-by-schema f k))
 
 not_by_units : (f : UnitsFault) → (units_end f ≢ end.Usage) × ((other : Input) → units_end f ≢ end.Unread other)
 not_by_units (units_fault.Refused file kind at) = (λ h. cc, λ other h. cc)
@@ -306,12 +361,12 @@ not_by_units units_fault.Memory = (λ h. cc, λ other h. cc)
 pub Loads-refused-units : {V : Type 0} (items : V → List ℕ) (keys : Keys) (dwellings : List ℕ) (x : V)
     (f : UnitsFault) {saw : Reading} {place : ℕ} {files : List NamedFile}
     → (f ≢ units_fault.Memory → units_of keys dwellings (items x) ≡ Err f) → Loads saw place files items (λ contents. bytes_in input.Links (contents input.Links)) (Ok x)
-    → Loads saw place files (λ (u : UnitsValue). u)
+    → have_dwellings files ≡ true → Loads saw place files (λ (u : UnitsValue). u)
     (λ contents. bytes_in input.Links (contents input.Links) >>= (λ links. or_end units_end (units_of keys dwellings links))) (Err (units_end f))
-Loads-refused-units items keys dwellings x f given h =
+Loads-refused-units items keys dwellings x f given h have =
     let not = not_by_units f in
     Loads-refuses items (λ u. u) (λ contents. bytes_in input.Links (contents input.Links)) (λ contents links. or_end units_end (units_of keys dwellings links)) x (units_end f) not.0 not.1
-    (λ contents ne. ap (or_end units_end) (given (λ m. ne (ap units_end m)))) h
+    (λ contents ne. ap (or_end units_end) (given (λ m. ne (ap units_end m)))) h (λ k. have)
 
 -- without a file from a place on, each file before it has its bytes
 same-before : (e : End) (contents : Contents) (file : Input) (place : ℕ) →

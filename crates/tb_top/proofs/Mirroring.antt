@@ -53,9 +53,9 @@ pub keeps_by_mirror : (call : Call) (command : Command) (census : CensusValue) (
     → IsMirrorAnswered census service call.ports call.ports_after s (output_of call) → Keeps call s
 keeps_by_mirror call command census service s named serves told free fresh still (long, rest, inl (each, ended)) =
     by_memory call command (mirrored census service) service s named serves refl told free fresh long rest still each ended
-keeps_by_mirror call command census service s named serves told free fresh still (long, rest, inr (inl (each, rose, ended))) =
-    by_unbound call command (mirrored census service) service s named serves refl told free fresh long rest still each rose
-    (inr ((each, rest), rose, refl, refl)) ended
+keeps_by_mirror call command census service s named serves told free fresh still (long, rest, inr (inl (each, one, ended))) =
+    by_unbound call command (mirrored census service) service s named serves refl told free fresh long rest still each one
+    (inr ((each, rest), one, refl, refl)) ended
 keeps_by_mirror call command census service s named serves told free fresh still (long, rest, inr (inr (last, each, ended))) =
     by_sessions call command (mirrored census service) service s named serves refl told free fresh long rest still
     (length last.follower.chain.batches) each.same_length (mirrored-idle census service last _ _ each)

@@ -5,7 +5,7 @@ use Rattle.std.proofs.lemmas.List.Elements.{All-append}
 use Rattle.std.proofs.lemmas.Bool.{cases_lt}
 use Rattle.tb_serve.specs.Each.{Each}
 use Rattle.tb_serve.specs.Ports.{PortValue}
-use Rattle.tb_serve.specs.Stages.{HasRisenSome, IsFresh, IsUntouched}
+use Rattle.tb_serve.specs.Stages.{HasRisenSome, IsFresh, IsOneNotBound, IsUntouched}
 use Rattle.tb_top.specs.Services.{IsIdle, IsUnserved}
 
 pub unserved : (p : PortValue) → IsUnserved p p
@@ -78,6 +78,10 @@ module _ (n : ℕ) (ports ports' : List PortValue) (long : n ≤ length ports)
   risen-whole (i, below, rose) =
       let low : i < n = omega (arith, below, length-take-le n ports long) in
       (i, omega (arith, low, long), λ d. rw (sym (get_or-take n ports i d low), sym (get_or-take n ports' i d low)) (rose d))
+
+-- a port that is left unbound is one whose count rose
+pub risen-unbound : (ports ports' : List PortValue) → IsOneNotBound ports ports' → HasRisenSome ports ports'
+risen-unbound ports ports' (i, below, left) = (i, below, λ d. (left d).risen)
 
 -- a port where nothing was accepted
 untouched-unserved : (first i : ℕ) (p q : PortValue) → IsUntouched first i p q → IsUnserved p q

@@ -11,7 +11,7 @@ use Rattle.tb_serve.specs.Each.{Each}
 use Rattle.tb_serve.specs.Ports.{PortValue}
 use Rattle.tb_serve.specs.Reports.{memory_line, net_line, report, some_failed}
 use Rattle.tb_serve.specs.Serves.{IsEnded, IsPortServed, final_status}
-use Rattle.tb_serve.specs.Stages.{HasRisenSome, IsFresh, IsUntouched}
+use Rattle.tb_serve.specs.Stages.{HasRisenSome, IsFresh, IsOneNotBound, IsUntouched}
 use Rattle.tb_top.specs.Asking.{AskedValue, CensusValue, asked_of, asked_with, base_of, is_keep}
 use Rattle.tb_top.specs.declared.asked.AskedLines.TheVariants as lines
 use Rattle.tb_command.specs.declared.command.Owner.TheVariants as owner
@@ -20,12 +20,12 @@ use Rattle.tb_command.specs.Commands.{asks_to_generate, asks_to_keep, asks_to_se
 use Rattle.tb_top.specs.KeepOutputs.{HasFailed, IsStill}
 use Rattle.tb_top.specs.Outputs.{IsOutput}
 use Rattle.tb_command.specs.ServicePorts.{Service}
-use Rattle.tb_top.specs.Promises.{IsAskedOutput, IsByInput, IsDefined, IsJournalText, IsTextOf, IsWhole, Keeps, defined_status}
+use Rattle.tb_top.specs.Promises.{HasDiskCause, IsAskedOutput, IsByInput, IsDefined, IsJournalText, IsTextOf, IsUnkeptReport, IsWhole, Keeps, defined_status}
 use Rattle.tb_top.specs.Services.{IsIdle, IsServiceAnswered}
 use Rattle.tb_command.specs.declared.command.Command.{Command}
 use Rattle.tb_command.specs.declared.command.Command.TheVariants as command
 use Rattle.tb_top.proofs.DiskKept.{KeepsDisk, left-alone}
-use Rattle.tb_top.proofs.PortLemmas.{each-idle, each-unserved, each-whole, idle-whole, risen-whole, take-fresh, unserved}
+use Rattle.tb_top.proofs.PortLemmas.{each-idle, each-unserved, each-whole, idle-whole, risen-unbound, risen-whole, take-fresh, unserved}
 use Rattle.tb_top.proofs.Telling.{always_told, where_told}
 
 -- the statuses of a task whose last line was written
@@ -59,12 +59,19 @@ final-task status.Journal is by = by
 final-task status.DiskFault is by = by
 final-task status.Units is by = is
 
+-- a task ends with DiskFault by this text: a journal was asked for, and the disk's count rose; or
+-- sessions with one were, of which it is the report
+abbrev pub EndsByDisk : Call → Command → List ℕ → Type 0
+EndsByDisk call command text =
+    (asks_to_keep (Some command) ≡ true)
+    × (HasFailed call.disk ⊎ ((asks_to_serve (Some command) ≡ true) × IsUnkeptReport call.ports call.ports_after text))
+
 -- a call that came to its task, and whose text is one of a final status
 module _ (call : Call) (command : Command) (task : AskedValue) (s final : Status) (text : List ℕ)
     (named : command_of call.words ≡ Some command)
     (told : IfSome call.content (λ at. asked_of at call.words ≡ Ok task)) (free : call.steps_after ≡ call.steps)
     (is_final : IsFinal final) (failed : final ≡ status.NetFault → NetFailed call)
-    (disk_failed : final ≡ status.DiskFault → HasFailed call.disk ⊎ ((asks_to_serve (Some command) ≡ true) × (asks_to_keep (Some command) ≡ true)))
+    (disk_failed : final ≡ status.DiskFault → EndsByDisk call command text) (journal : final ≡ status.Journal → asks_to_keep (Some command) ≡ true)
     (idle : All IsIdle call.ports_after) (others : asks_to_serve (Some command) ≡ false → call.ports_after ≡ call.ports)
     (generated : asks_to_generate (Some command) ≡ true → (final ≡ status.Done) ⊎ (final ≡ status.Memory))
     (whole : (at : List ℕ → Option (List ℕ)) → asked_of at call.words ≡ Ok task → IsWhole call at final text) (disk : KeepsDisk call s) where
@@ -118,12 +125,20 @@ module _ (call : Call) (command : Command) (task : AskedValue) (s final : Status
   net_told (inr (is, part, rose)) h = cc
 
   disk_told : IsEnded text final (output_of call) s → s ≡ status.DiskFault
-      → HasFailed call.disk ⊎ ((asks_to_serve (command_of call.words) ≡ true) × (asks_to_keep (command_of call.words) ≡ true))
-  disk_told (inl (is, took)) h = elim (disk_failed (sym is ∙ h)) [
-    | inl failed ↦ inl failed
-    | inr hosts ↦ inr (ap asks_to_serve named ∙ hosts.0, ap asks_to_keep named ∙ hosts.1)
-  ]
+      → HasDiskCause (command_of call.words) call.disk call.ports call.ports_after (output_of call)
+  disk_told (inl (is, took)) h =
+      let cause = disk_failed (sym is ∙ h) in (
+        ap asks_to_keep named ∙ cause.0,
+        elim cause.1 [
+          | inl failed ↦ inl failed
+          | inr hosts ↦ inr (ap asks_to_serve named ∙ hosts.0, (text, hosts.1, took))
+        ],
+      )
   disk_told (inr (is, part, rose)) h = cc
+
+  journal_told : IsEnded text final (output_of call) s → s ≡ status.Journal → asks_to_keep (command_of call.words) ≡ true
+  journal_told (inl (is, took)) h = ap asks_to_keep named ∙ journal (sym is ∙ h)
+  journal_told (inr (is, part, rose)) h = cc
 
   -- where a generated population is asked for it is Done or Memory
   generated_told : IsEnded text final (output_of call) s → (final ≡ status.Done) ⊎ (final ≡ status.Memory)
@@ -141,6 +156,8 @@ module _ (call : Call) (command : Command) (task : AskedValue) (s final : Status
     write_fault = write_told ended;
     net_fault = net_told ended;
     disk_fault = disk_told ended;
+    journal = journal_told ended;
+    units = λ h. absurd (never status.Units ended (λ k. cc) (λ x. x) h);
     exact = where_told _ _ call.content (λ at asked. exact_told at ended asked) told;
     price = always_told _ call.content (λ at. inl free);
     generated = λ h. generated_told ended (generated (ap asks_to_generate (sym named) ∙ h));
@@ -186,6 +203,10 @@ final_is f (inr net) = rw net tt
 pub no_disk_by : (f : Status) → (f ≡ status.Done) ⊎ (f ≡ status.NetFault) → f ≢ status.DiskFault
 no_disk_by f (inl done) h = cc
 no_disk_by f (inr net) h = cc
+
+pub no_journal_by : (f : Status) → (f ≡ status.Done) ⊎ (f ≡ status.NetFault) → f ≢ status.Journal
+no_journal_by f (inl done) h = cc
+no_journal_by f (inr net) h = cc
 
 -- the element at a place is the same whatever stands in for one that isn't there
 failed_at : (ports : List PortValue) (i : ℕ) (x d : PortValue) → i < length ports → x ≡ get_or ports i x → x.failed ≡ true
@@ -250,25 +271,26 @@ module _ (call : Call) (command : Command) (task : AskedValue) (service : Servic
 
   -- nothing was accepted
   by_untouched : (text : List ℕ) (final : Status) → IsFinal final → Each (IsUntouched service.port) (take n call.ports) (take n call.ports_after)
-      → (final ≡ status.NetFault → NetFailed call) → final ≢ status.DiskFault
+      → (final ≡ status.NetFault → NetFailed call) → final ≢ status.DiskFault → final ≢ status.Journal
       → ((at : List ℕ → Option (List ℕ)) → asked_of at call.words ≡ Ok task → IsWhole call at final text)
       → IsEnded text final (output_of call) s → Keeps call s
-  by_untouched text final is each net no_disk whole ended =
+  by_untouched text final is each net no_disk no_journal whole ended =
       let idle = idle-whole n call.ports call.ports_after long each.same_length rest fresh (each-idle service.port _ _ each ours) in
-      keeps_by_final call command task s final text named told free is net (λ h. absurd (no_disk h)) idle no_others
+      keeps_by_final call command task s final text named told free is net (λ h. absurd (no_disk h)) (λ h. absurd (no_journal h)) idle no_others
       (not_generated final) whole on_disk ended
 
   pub by_memory : Each (IsUntouched service.port) (take n call.ports) (take n call.ports_after)
       → IsEnded memory_line status.Memory (output_of call) s → Keeps call s
   by_memory each ended =
       let none = each-whole n call.ports call.ports_after long each.same_length rest _ unserved (each-unserved service.port _ _ each) in
-      by_untouched memory_line status.Memory tt each (λ h. cc) (λ h. cc) (λ at asked. (inl refl, none)) ended
+      by_untouched memory_line status.Memory tt each (λ h. cc) (λ h. cc) (λ h. cc) (λ at asked. (inl refl, none)) ended
 
   pub by_unbound : Each (IsUntouched service.port) (take n call.ports) (take n call.ports_after)
-      → HasRisenSome (take n call.ports) (take n call.ports_after)
+      → IsOneNotBound (take n call.ports) (take n call.ports_after)
       → IsOutput task call.ports call.ports_after status.NetFault net_line → IsEnded net_line status.NetFault (output_of call) s → Keeps call s
-  by_unbound each rose out ended =
-      by_untouched net_line status.NetFault tt each (λ h. risen-whole n call.ports call.ports_after long each.same_length rest rose) (λ h. cc)
+  by_unbound each one out ended =
+      let rose = risen-unbound (take n call.ports) (take n call.ports_after) one in
+      by_untouched net_line status.NetFault tt each (λ h. risen-whole n call.ports call.ports_after long each.same_length rest rose) (λ h. cc) (λ h. cc)
       (λ at asked. (task, asked, out)) ended
 
   -- all ports were served, and the number of this release was reported
@@ -283,7 +305,7 @@ module _ (call : Call) (command : Command) (task : AskedValue) (service : Servic
       keeps_by_final call command task s (final_status ports) text named told free
       (final_is (final_status ports) (done_or_net ports ending))
       (λ h. risen-whole n call.ports call.ports_after long same rest (rises (some_by ports ending h)))
-      (λ h. absurd (no_disk_by (final_status ports) (done_or_net ports ending) h))
+      (λ h. absurd (no_disk_by (final_status ports) (done_or_net ports ending) h)) (λ h. absurd (no_journal_by (final_status ports) (done_or_net ports ending) h))
       (idle-whole n call.ports call.ports_after long same rest fresh idle) no_others
       (not_generated (final_status ports))
       (λ (at : List ℕ → Option (List ℕ)) (asked : asked_of at call.words ≡ Ok task).
@@ -301,9 +323,9 @@ pub keeps_by_service : (call : Call) (command : Command) (census : CensusValue) 
     → Keeps call s
 keeps_by_service call command census service s named serves told free fresh still (long, rest, inl (each, ended)) =
     by_memory call command (served census service) service s named serves refl told free fresh long rest still each ended
-keeps_by_service call command census service s named serves told free fresh still (long, rest, inr (inl (each, rose, ended))) =
-    by_unbound call command (served census service) service s named serves refl told free fresh long rest still each rose
-    (inr ((each, rest), rose, refl, refl)) ended
+keeps_by_service call command census service s named serves told free fresh still (long, rest, inr (inl (each, one, ended))) =
+    by_unbound call command (served census service) service s named serves refl told free fresh long rest still each one
+    (inr ((each, rest), one, refl, refl)) ended
 keeps_by_service call command census service s named serves told free fresh still (long, rest, inr (inr (chain, each, ended))) =
     by_sessions call command (served census service) service s named serves refl told free fresh long rest still (length chain) each.same_length
     (served-idle census service chain _ _ each) (failed-risen census service chain _ _ each) (inl (chain, (each, rest), refl, refl)) ended

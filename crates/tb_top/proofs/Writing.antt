@@ -34,6 +34,8 @@ module _ (call : Call) (command : Command) (asked : AskedValue) (s : Status) (te
     write_fault = λ h. cc;
     net_fault = λ h. cc;
     disk_fault = λ h. cc;
+    journal = λ h. cc;
+    units = λ h. cc;
     exact = where_told _ _ call.content (λ at h. inl (is ∙ sym (ap defined_status h))) told;
     price = priced;
     generated = λ h. inl is;
@@ -55,6 +57,8 @@ module _ (call : Call) (command : Command) (asked : AskedValue) (s : Status) (te
     write_fault = λ h. failed;
     net_fault = λ h. cc;
     disk_fault = λ h. cc;
+    journal = λ h. cc;
+    units = λ h. cc;
     exact = where_told _ _ call.content (λ at h. inr (inr (inr (inl (is, failed))))) told;
     price = priced;
     generated = λ h. inr (inl is);

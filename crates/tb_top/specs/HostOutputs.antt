@@ -15,7 +15,7 @@ use Rattle.tb_release.specs.declared.edits.Edit.{Edit}
 use Rattle.tb_serve.specs.Ports.{PortValue}
 use Rattle.tb_serve.specs.Reports.{memory_line, net_line, report}
 use Rattle.tb_serve.specs.Serves.{IsEnded, Output, final_status}
-use Rattle.tb_serve.specs.Stages.{HasRisenSome, IsUntouched}
+use Rattle.tb_serve.specs.Stages.{IsOneNotBound, IsUntouched}
 use Rattle.tb_top.specs.Asking.{CensusValue, base_of}
 use Rattle.tb_top.specs.KeepOutputs.{DiskSeen, IsStill, journal_line}
 use Rattle.tb_command.specs.ServicePorts.{Service}
@@ -53,7 +53,7 @@ IsHostOutput census service before after s text =
     × (text
     ≡ host_report (is_none last.further) (ports_of service after) (length last.state.chain)))
     ⊎ (EachPort service (IsUntouched service.port) before after
-    × HasRisenSome (ports_of service before) (ports_of service after)
+    × IsOneNotBound (ports_of service before) (ports_of service after)
     × (s ≡ status.NetFault) × (text ≡ net_line))
 
 -- what is seen of the file of this name on a disk

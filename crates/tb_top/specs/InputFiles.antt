@@ -1,5 +1,6 @@
 -- The files of a command, in the order in which they are read.
-use Rattle.std.specs.Prelude.{ℕ, List, [], ◌∷◌, ◌++◌, Option, Some, None}
+use Rattle.std.specs.Prelude.{ℕ, Bool, true, false, List, [], ◌∷◌, ◌++◌, ◌||◌, Option, Some, None}
+use Rattle.std.specs.Prelude.{is_some, option_and_then}
 use Rattle.tb_command.specs.declared.command.Command.{Command}
 use Rattle.tb_command.specs.declared.command.Command.TheVariants as command
 use Rattle.tb_command.specs.declared.command.Inputs.{Inputs}
@@ -60,6 +61,28 @@ counted_files inputs units = input_files inputs ++ unit_files units
 
 abbrev pub task_files : Task → List NamedFile
 task_files task = counted_files task.inputs task.units ++ lines_files task.lines
+
+-- whether there is a file of dwellings or of links among some files
+abbrev pub is_of_dwellings : Input → Bool
+is_of_dwellings input.Classes = false
+is_of_dwellings input.Recodes = false
+is_of_dwellings input.Ptable = false
+is_of_dwellings input.People = false
+is_of_dwellings input.Dwellings = true
+is_of_dwellings input.Links = true
+is_of_dwellings input.Script = false
+
+abbrev pub have_dwellings : List NamedFile → Bool
+have_dwellings [] = false
+have_dwellings (file ∷ files) = is_of_dwellings file.input || have_dwellings files
+
+-- whether dwellings are asked for
+abbrev pub dwellings_of : Command → Option UnitFiles
+dwellings_of (command.Over task) = task.units
+dwellings_of (command.Gen population) = None
+
+abbrev pub asks_for_dwellings : Option Command → Bool
+asks_for_dwellings asked = is_some (option_and_then dwellings_of asked)
 
 -- a journal isn't read like them, and a generated population has none
 abbrev pub command_files : Command → List NamedFile

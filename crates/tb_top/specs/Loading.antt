@@ -1,19 +1,21 @@
 -- How a step that reads some of a run's files may go.
-use Rattle.std.specs.Prelude.{◌≡◌, ◌≢◌, ◌≤◌, ℕ, List, [], ◌∷◌, IfSome, Option, Result, Ok, Err, length}
+use Rattle.std.specs.Prelude.{◌≡◌, ◌≢◌, ◌≤◌, ℕ, true, List, [], ◌∷◌, IfErr, IfSome, Option, Result, Ok, Err, length}
 use Rattle.tb_base.specs.Records.{AllFit}
+use Rattle.tb_base.specs.declared.status.Status.TheVariants as status
 use Rattle.tb_io.specs.Faults.{HasRisen}
 use Rattle.tb_model.specs.Releases.{ReleaseValue, first_release}
 use Rattle.tb_model.specs.Schemas.{shape_of}
 use Rattle.tb_endings.specs.declared.endings.Input.{Input}
 use Rattle.tb_endings.specs.declared.endings.End.{End}
 use Rattle.tb_endings.specs.declared.endings.End.TheVariants as end
+use Rattle.tb_endings.specs.Endings.{status_of}
 use Rattle.tb_top.specs.declared.asked.Asked.{Asked}
 use Rattle.tb_top.specs.declared.asked.Census.{Census}
 use Rattle.tb_top.specs.declared.asked.Scripted.{Scripted}
 use Rattle.tb_script.specs.Scripts.{ScriptValue}
 use Rattle.tb_top.specs.Asking.{AskedValue, CensusValue, Contents, asked_with, census_over, contents_for, input_place}
 use Rattle.tb_top.specs.Calls.{IsReadTo, readings_more}
-use Rattle.tb_top.specs.InputFiles.{NamedFile}
+use Rattle.tb_top.specs.InputFiles.{NamedFile, have_dwellings}
 
 -- what a step saw of the files: what stands under each name, the count of faults, and how many
 -- readings there were, before and after
@@ -50,6 +52,10 @@ abbrev pub Gives : {A B : Type 0} → (A → B) → (Contents → Result B End) 
 Gives view defined contents (Ok x) = defined contents ≡ Ok (view x)
 Gives view defined contents (Err e) = e ≢ end.Memory → defined (contents_for e contents) ≡ Err e
 
+-- an end with the status of dwellings comes only where these files have some
+abbrev pub IsWithUnits : List NamedFile → End → Type 0
+IsWithUnits files e = status_of e ≡ status.Units → have_dwellings files ≡ true
+
 -- a step over these files, all of which have that place or a later one
 pub record Loads {A B : Type 0} (saw : Reading) (place : ℕ) (files : List NamedFile) (view : A → B)
     (defined : Contents → Result B End) (result : Result A End) : Type 0 where
@@ -63,6 +69,7 @@ pub record Loads {A B : Type 0} (saw : Reading) (place : ℕ) (files : List Name
   pub within : (file : Input) → result ≡ Err (end.Unread file) → place ≤ input_place file
   pub last : (file : Input) → result ≡ Err (end.Unread file)
       → IsReadTo files file saw.readings saw.readings_after
+  pub units : IfErr result (IsWithUnits files)
   -- else each of its files was read once
   pub all : (x : A) → result ≡ Ok x
       → saw.readings_after ≡ readings_more (length files) saw.readings

@@ -7,7 +7,7 @@ use Rattle.tb_mirror.specs.Mirroring.{IsPortMirrored, Mirrors}
 use Rattle.tb_serve.specs.Ports.{PortValue}
 use Rattle.tb_serve.specs.Reports.{net_line, report}
 use Rattle.tb_serve.specs.Serves.{Output, final_status}
-use Rattle.tb_serve.specs.Stages.{HasRisenSome, IsUntouched}
+use Rattle.tb_serve.specs.Stages.{IsOneNotBound, IsUntouched}
 use Rattle.tb_top.specs.Asking.{CensusValue, base_of}
 use Rattle.tb_command.specs.ServicePorts.{Service}
 use Rattle.tb_top.specs.Services.{EachPort, ports_of}
@@ -28,7 +28,7 @@ IsMirrorOutput census service before after s text =
     × (s ≡ final_status (ports_of service after))
     × (text ≡ report (ports_of service after) (length last.follower.chain.batches)))
     ⊎ (EachPort service (IsUntouched service.port) before after
-    × HasRisenSome (ports_of service before) (ports_of service after)
+    × IsOneNotBound (ports_of service before) (ports_of service after)
     × (s ≡ status.NetFault) × (text ≡ net_line))
 
 -- a mirror was run: there is a port for each worker, and it served, or ended before its first

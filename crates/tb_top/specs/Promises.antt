@@ -2,6 +2,7 @@
 use Rattle.std.specs.Prelude.{◌≡◌, ◌⊎◌, ◌+◌, ◌≤◌, ℕ, List, ◌++◌, All, false, true, Option, None, Some, Result, Ok, Err, IfSome}
 use Rattle.tb_base.specs.declared.status.Status.{Status}
 use Rattle.tb_base.specs.declared.status.Status.TheVariants as status
+use Rattle.tb_io.specs.Taken.{Took}
 use Rattle.tb_lines.specs.Outputs.{ReplyValue, price_of}
 use Rattle.tb_endings.specs.declared.endings.Input.{Input}
 use Rattle.tb_endings.specs.declared.endings.End.{End}
@@ -13,12 +14,12 @@ use Rattle.tb_command.specs.declared.command.Owner.TheVariants as owner
 use Rattle.tb_top.specs.Calls.{Call, HasTaken, IsReadTo, NetFailed, ReadFailed, WriteFailed}
 use Rattle.tb_top.specs.Calls.{journal_seen, output_of}
 use Rattle.tb_command.specs.Commands.{asks_to_generate, asks_to_keep, asks_to_serve, command_of}
-use Rattle.tb_top.specs.InputFiles.{command_files}
+use Rattle.tb_top.specs.InputFiles.{asks_for_dwellings, command_files}
 use Rattle.tb_command.specs.declared.command.Command.{Command}
 use Rattle.tb_endings.specs.Endings.{last_line, status_of}
-use Rattle.tb_top.specs.HostOutputs.{IsHostAnswered}
-use Rattle.tb_top.specs.KeepOutputs.{AreKeepLinesAnswered, HasFailed, IsKeepLine, IsStill}
-use Rattle.tb_top.specs.KeepOutputs.{disk_line, journal_line}
+use Rattle.tb_top.specs.HostOutputs.{IsHostAnswered, IsHostOutput}
+use Rattle.tb_top.specs.KeepOutputs.{AreKeepLinesAnswered, DiskSeen, HasFailed, IsKeepLine}
+use Rattle.tb_top.specs.KeepOutputs.{IsStill, disk_line, journal_line}
 use Rattle.tb_top.specs.Outputs.{AreAnswers, IsBegun, IsOutput, IsOutputToMemory}
 use Rattle.tb_command.specs.ServicePorts.{Service}
 use Rattle.tb_top.specs.Services.{IsIdle, IsUnserved}
@@ -27,7 +28,8 @@ use Rattle.tb_keep.specs.Seen.{StandsAsBefore}
 use Rattle.tb_keep.specs.declared.recovery.JournalFault.{JournalFault}
 use Rattle.tb_script.specs.Scripts.{ScriptValue}
 use Rattle.tb_serve.specs.Each.{Each}
-use Rattle.tb_serve.specs.Serves.{IsEnded}
+use Rattle.tb_serve.specs.Ports.{PortValue}
+use Rattle.tb_serve.specs.Serves.{IsEnded, Output}
 
 -- an end at a file that couldn't be read: a read failed, and it was the last, at that file
 abbrev pub IsReadingAt : Call → Input → Type 0
@@ -188,6 +190,24 @@ IsByInput status.NetFault = ⊥
 IsByInput status.Journal = ⊥
 IsByInput status.DiskFault = ⊥
 
+-- a text is the report of some sessions with a journal, over some census, that led their custodian
+-- to where its journal isn't live any more
+abbrev pub IsUnkeptReport : (ports ports' : List PortValue) → List ℕ → Type 0
+IsUnkeptReport ports ports' text =
+    (census : CensusValue) × (service : Service)
+    × IsHostOutput census service ports ports' status.DiskFault text
+
+-- Why a run ends with DiskFault: a journal was asked for, and the disk's count rose; or sessions
+-- with one were, and it wasn't live at their end, as was reported. That holds whatever the files
+-- tell.
+abbrev pub HasDiskCause : Option Command → DiskSeen → (ports ports' : List PortValue) → Output
+    → Type 0
+HasDiskCause asked disk ports ports' out =
+    (asks_to_keep asked ≡ true)
+    × (HasFailed disk
+    ⊎ ((asks_to_serve asked ≡ true)
+    × ((text : List ℕ) × IsUnkeptReport ports ports' text × Took out.before out.after text)))
+
 -- what a call keeps, whatever its status
 pub record Keeps (call : Call) (s : Status) : Type 0 where
   -- What the sink took is the text of that status.
@@ -196,16 +216,16 @@ pub record Keeps (call : Call) (s : Status) : Type 0 where
   pub usage : s ≡ status.Usage
       → (command_of call.words ≡ None) × HasTaken call (last_line end.Usage)
   pub words : command_of call.words ≡ None → (s ≡ status.Usage) ⊎ (s ≡ status.WriteFault)
-  -- A fault of the outside comes only where its count rose; but where sessions are served
-  -- with a journal, DiskFault comes where that isn't live at the end, of which `hosted` tells the
-  -- cause.
+  -- A fault of the outside comes only where its count rose; but where sessions are served with a
+  -- journal, DiskFault also comes where that isn't live at the end.
   pub read_fault : s ≡ status.ReadFault → ReadFailed call
   pub write_fault : s ≡ status.WriteFault → WriteFailed call
   pub net_fault : s ≡ status.NetFault → NetFailed call
   pub disk_fault : s ≡ status.DiskFault
-      → HasFailed call.disk
-      ⊎ ((asks_to_serve (command_of call.words) ≡ true)
-      × (asks_to_keep (command_of call.words) ≡ true))
+      → HasDiskCause (command_of call.words) call.disk call.ports call.ports_after (output_of call)
+  -- A journal is refused only where one is asked for, and so are dwellings.
+  pub journal : s ≡ status.Journal → asks_to_keep (command_of call.words) ≡ true
+  pub units : s ≡ status.Units → asks_for_dwellings (command_of call.words) ≡ true
   -- No status comes but the defined one, Memory, a fault whose count rose, or that of a journal.
   pub exact : IfSome call.content (λ at. IsDefined call at s)
   -- The counter rises by no more than the replies' price, and not at all where no line is answered,

@@ -7,7 +7,7 @@ use Rattle.tb_serve.specs.Each.{Each}
 use Rattle.tb_serve.specs.Ports.{PortValue}
 use Rattle.tb_serve.specs.Reports.{net_line, report}
 use Rattle.tb_serve.specs.Serves.{IsPortServed, Serves, final_status, output}
-use Rattle.tb_serve.specs.Stages.{HasRisenSome, IsUntouched}
+use Rattle.tb_serve.specs.Stages.{IsOneNotBound, IsUntouched}
 use Rattle.tb_top.specs.Asking.{CensusValue, base_of}
 use Rattle.tb_command.specs.ServicePorts.{Service}
 
@@ -38,7 +38,7 @@ IsServiceOutput census service before after s text =
     × (s ≡ final_status (ports_of service after))
     × (text ≡ report (ports_of service after) (length chain)))
     ⊎ (EachPort service (IsUntouched service.port) before after
-    × HasRisenSome (ports_of service before) (ports_of service after)
+    × IsOneNotBound (ports_of service before) (ports_of service after)
     × (s ≡ status.NetFault) × (text ≡ net_line))
 
 -- a service was answered: there is a port for each worker, and it served, or ended before its first

@@ -2,7 +2,6 @@
 
 ghost use Rattle.std.specs.Prelude.{◌≡◌, ◌≢◌, ◌⊎◌, ◌+◌, All, Some, false};
 ghost use Rattle.std.specs.Prelude.{true, vec_len};
-ghost use Rattle.tb_io.specs.Faults.{HasRisen};
 ghost use Rattle.tb_top.specs.KeepOutputs.{disk_seen};
 ghost use Rattle.tb_base.specs.declared.status.Status.TheVariants as status;
 ghost use Rattle.tb_io.specs.HeldFiles.{bytes_of, bytes_or_none};
@@ -11,11 +10,12 @@ ghost use Rattle.tb_serve.specs.Stages.{IsFresh};
 ghost use Rattle.tb_serve.specs.Stages.{HasRisenSome};
 ghost use Rattle.tb_command.specs.declared.service.TheConstants.{MOST_WORKERS};
 ghost use Rattle.tb_top.specs.Asking.{asked_of};
-ghost use Rattle.tb_command.specs.Commands.{asks_to_keep, asks_to_serve, command_of};
+ghost use Rattle.tb_command.specs.Commands.{asks_to_keep, command_of};
 ghost use Rattle.tb_top.specs.Headline.{EachTableIsCounted};
+ghost use Rattle.tb_top.specs.InputFiles.{asks_for_dwellings};
 ghost use Rattle.tb_top.specs.InMemory.{Adds, NamesTheFailingRead, memory_call};
 ghost use Rattle.tb_top.specs.Loading.{reading};
-ghost use Rattle.tb_top.specs.Promises.{IsDefined, defined_status};
+ghost use Rattle.tb_top.specs.Promises.{HasDiskCause, IsDefined, defined_status};
 ghost use Rattle.tb_top.specs.Seen.{call_over};
 
 use crate::top::tablebuilder;
@@ -56,9 +56,16 @@ pub fn run_surely<N: Listen + Send, D: Disk + Send, L: Ledger>(
         ⊎ ((result ≡ status.Memory)
         ⊎ (((result ≡ status.NetFault) × HasRisenSome net.old.items net.new.items)
         ⊎ ((result ≡ status.Journal) ⊎ (result ≡ status.DiskFault)))) }
-    ensures disk { result ≡ status.DiskFault → HasRisen (D.faults disk.old) (D.faults disk.new)
-        ⊎ ((asks_to_serve (command_of arguments.now) ≡ true)
-        × (asks_to_keep (command_of arguments.now) ≡ true)) }
+    // No status of a journal, or of dwellings, comes where none is asked for; DiskFault comes only
+    // for a stated cause.
+    ensures journal { result ≡ status.Journal
+        → asks_to_keep (command_of arguments.now) ≡ true }
+    ensures units { result ≡ status.Units
+        → asks_for_dwellings (command_of arguments.now) ≡ true }
+    ensures disk { result ≡ status.DiskFault → HasDiskCause (command_of arguments.now)
+        (disk_seen D.named D.could_leave D.attached D.content
+        D.may_leave D.moment D.left_since D.faults disk.old disk.new)
+        net.old.items net.new.items (output out.old out.new 0 0) }
 {
     tablebuilder(rt, alloc, arguments, files, out, net, disk, steps)
 }
@@ -99,8 +106,8 @@ pub fn run_in_memory<N: Listen + Send, D: Disk + Send, L: Ledger>(
 /// Runs one command. Each table of persons that a script, a lane or a session prints is that of its
 /// query over one release of the one chain, which isn't older than any that its caller, the script,
 /// the lane or the port, had seen; and a query is refused only for a stated fault of its text, or
-/// answered `memory`. Nothing is said here of `follow` and of a mirror's first port. `gen` prints no
-/// table.
+/// answered `memory`. Nothing is said here of `follow` and of a mirror's first port. `gen` prints
+/// no table.
 pub fn print_counted_tables<F: Files, O: Sink, N: Listen + Send, D: Disk + Send, L: Ledger>(
     rt: &(impl Threads + Wait + Sync),
     alloc: Global,

@@ -8,8 +8,8 @@
 //! Begin at `top.rt`, `tablebuilder`: `ask` (`asking.rt`, then `load.rt`), and `answer`, which goes
 //! by the lines that are asked for and then by who owns the chain. Its clause is `Keeps`
 //! (`specs/Promises`) over what the call saw (`specs/Calls`): what is asked for is a function
-//! (`specs/Asking`), what may be printed a relation (`specs/Outputs`). A new way in which lines come
-//! is a variant of `AskedLines` and a case of each definition that goes by it.
+//! (`specs/Asking`), what may be printed a relation (`specs/Outputs`). A new way in which lines
+//! come is a variant of `AskedLines` and a case of each definition that goes by it.
 #![tactic(auto)]
 
 mod asked;

@@ -27,8 +27,8 @@ ghost use Rattle.tb_top.specs.Asking.{with_units as census_with_units};
 ghost use Rattle.tb_top.specs.InputFiles.{class_files, command_files, counted_files, input_files};
 ghost use Rattle.tb_top.specs.InputFiles.{lines_files, named, recodes_files, script_files};
 ghost use Rattle.tb_top.specs.InputFiles.{scripted_files, setup_files, task_files, unit_files};
-ghost use Rattle.tb_top.specs.Loading.{AskedIsFirst, IsBase, IsFirst, Loads, asked_value, census_value};
-ghost use Rattle.tb_top.specs.Loading.{reading, scripted_value};
+ghost use Rattle.tb_top.specs.Loading.{AskedIsFirst, IsBase, IsFirst, Loads, asked_value};
+ghost use Rattle.tb_top.specs.Loading.{census_value, reading, scripted_value};
 
 use crate::asked::{Asked, AskedLines, Census, Scripted};
 use crate::generated::load_generated;
@@ -61,6 +61,7 @@ pub fn most_bytes_of(file: Input) -> u64
 }
 
 // The bytes of an input, whose file has this name.
+#[tactic(auto, using(crate::proofs::LoadSteps::units_of_one))]
 fn read_bytes<F: Files>(
     alloc: Global,
     files: &mut F,

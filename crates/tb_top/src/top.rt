@@ -1,7 +1,7 @@
 // The top call.
 //
-// What is asked for is taken apart by the lines, each function owning the census alone: who owns the
-// chain is lent to the next, which decides by it.
+// What is asked for is taken apart by the lines, each function owning the census alone: who owns
+// the chain is lent to the next, which decides by it.
 //
 // Each way to end has a lemma that gives all of `Keeps`: `proofs/Finishing`, of a task that is no
 // script `Serving`, and of files that are made `Generating`.

@@ -4,7 +4,7 @@ use Rattle.tb_serve.specs.Each.{Each}
 use Rattle.tb_serve.specs.Ports.{PortValue}
 use Rattle.tb_serve.specs.Stages.{GetsReady, HasLines, IsBoundAt, IsCleared, IsSameButLines, IsUntouched}
 use Rattle.tb_serve.proofs.PortEnds.{can_bind, gets_ready, unserved_bound, unserved_lines}
-use Rattle.tb_serve.proofs.Wholes.{each_then, risen_cleared}
+use Rattle.tb_serve.proofs.Wholes.{each_then, unbound_cleared}
 use Rattle.tb_serve.proofs.preparing.prepare.Goals as goal
 
 pub bind_all-requires-clause-can : goal.bind_all-requires-clause-can
@@ -39,6 +39,6 @@ returns-in-Failed g c =
       each_then (λ _. HasLines) Between (IsUntouched c.args.first) c.args.ports.now c.give_all_lines.new.ports
           c.clear_all-in-Failed.new.ports lines between
           (λ i d lt x y. unserved_bound c.args.first i _ _ y.0 _ (c.requires.fresh i d lt) x y.1 y.2),
-      risen_cleared c.args.ports.now c.give_all_lines.new.ports c.clear_all-in-Failed.new.ports lines c.bind_all.new.ports
-          (c.in-Failed.ensures.risen refl) cleared (sym same.same_length),
+      unbound_cleared c.args.ports.now c.give_all_lines.new.ports c.clear_all-in-Failed.new.ports lines c.bind_all.new.ports
+          (c.in-Failed.ensures.unbound refl) cleared (sym same.same_length),
     )

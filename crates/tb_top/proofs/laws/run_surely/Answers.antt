@@ -29,5 +29,11 @@ returns-clause-defined g c = elim c.tablebuilder.ensures.exact [
   ]
 ]
 
+pub returns-clause-journal : goal.returns-clause-journal
+returns-clause-journal g c = c.tablebuilder.ensures.journal
+
+pub returns-clause-units : goal.returns-clause-units
+returns-clause-units g c = c.tablebuilder.ensures.units
+
 pub returns-clause-disk : goal.returns-clause-disk
 returns-clause-disk g c = c.tablebuilder.ensures.disk_fault

@@ -31,4 +31,4 @@ returns-in_ok-script-in-Lanes-clause-loads g c =
 
 pub returns-in-Ports-clause-loads : goal.returns-in-Ports-clause-loads
 returns-in-Ports-clause-loads g c =
-    rw c.in-Ports.is (loads-none (λ asked. asked) _ _ _ refl refl refl (rw c.copy.ensures refl))
+    rw c.in-Ports.is (loads-none (λ asked. asked) _ _ _ refl refl refl tt (rw c.copy.ensures refl))

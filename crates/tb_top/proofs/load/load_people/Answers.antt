@@ -27,4 +27,4 @@ pub returns-clause-loads : goal.returns-clause-loads
 returns-clause-loads g c =
     rw c.of.ensures (Loads-refused (λ bytes. bytes.items) all_of input.People people_name
     (people_of c.args.schema.now) c.in_ok-bytes.bytes c.in-Err.fault
-    (rw (← c.deref.ensures.value) c.in-Err.ensures.refused) c.in_ok-bytes.ensures.loads)
+    (λ k. cc) (rw (← c.deref.ensures.value) c.in-Err.ensures.refused) c.in_ok-bytes.ensures.loads)

@@ -24,4 +24,4 @@ returns-in-Ok-clause-loads g c =
 pub returns-clause-loads : goal.returns-clause-loads
 returns-clause-loads g c =
     rw c.of.ensures (Loads-refused (λ bytes. bytes.items) (λ table. table) input.Ptable ptable_name (perturbation_of c.args.keys) c.in_ok-bytes.bytes c.in-Err.fault
-    (rw (← c.deref.ensures.value) c.in-Err.ensures.refused) c.in_ok-bytes.ensures.loads)
+    (λ k. cc) (rw (← c.deref.ensures.value) c.in-Err.ensures.refused) c.in_ok-bytes.ensures.loads)

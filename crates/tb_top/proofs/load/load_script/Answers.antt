@@ -31,5 +31,5 @@ returns-in-Err-Line g c =
     record {
       loads = Loads-refuses (λ bytes. bytes.items) (λ script. script) (λ contents. bytes_in input.Script (contents input.Script))
           (λ contents bytes. or_end end.BadLine (script_of bytes)) c.in_ok-bytes.bytes (end.BadLine c.in-Err-Line.line) (λ h. cc)
-          (λ file h. cc) (λ contents ne. ap (or_end end.BadLine) refused) c.in_ok-bytes.ensures.loads;
+          (λ file h. cc) (λ contents ne. ap (or_end end.BadLine) refused) c.in_ok-bytes.ensures.loads (λ k. cc);
     }

@@ -43,7 +43,7 @@ returns-in_err-read g c =
           (λ contents bytes. bytes_in input.Links (contents input.Links) >>= (λ links. or_end units_end (units_of keys bytes links))) c.in_ok-dwellings.dwellings (Err _)
           (skips-bytes input.Dwellings 5 (omega arith)) (omega arith) refl refl refl c.in_ok-dwellings.ensures.loads
           (Loads-refused-units (λ bytes. bytes.items) keys dwellings c.in_ok-links.links _
-          (rw (← c.deref.ensures.value, ← c.deref-2.ensures.value) c.in_err-read.ensures.refused) c.in_ok-links.ensures.loads));
+          (rw (← c.deref.ensures.value, ← c.deref-2.ensures.value) c.in_err-read.ensures.refused) c.in_ok-links.ensures.loads refl));
     }
 
 pub returns : goal.returns
