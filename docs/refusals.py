@@ -82,6 +82,11 @@ KEYS = (
     "the `variable` `*` states the key range: in the first record alone, with the `code` `keys` and the `label` 256"
     " or 4096"
 )
+PERSONS = (
+    "the `variable` `*` with the `code` `persons` bounds the persons: once, before the categories, with a `label`"
+    " from 1 to 100000000"
+)
+TOO_MANY = "there must be at most 1000000 records, or as many as the classification says"
 LINE = (
     "the line must be the name of a lane (a letter and up to 15 more letters and digits), a blank and the lane's"
     " line, or begin with #; it may have 4096 bytes, and a script 64 lanes"
@@ -107,6 +112,10 @@ FILES = [
     ("classes.csv", "variable,code\n", "fault classes 1 BadHeader 0",
      "classes.csv, header: the header must have each of `variable`, `code` and `label` once", 3),
     ("classes.csv", CLASSES + "*,keys,512\n", "fault classes 13 BadKeys 1", f"classes.csv, record 1: {KEYS}", 3),
+    ("classes.csv", CLASSES + "*,persons,0\n", "fault classes 14 BadPersons 1",
+     f"classes.csv, record 1: {PERSONS}", 3),
+    ("classes.csv", CLASSES + "*,persons,4\n*,keys,256\n", "fault classes 13 BadKeys 2",
+     f"classes.csv, record 2: {KEYS}", 3),
     ("classes.csv", CLASSES + "SEX,1\n", "fault classes 10 BadCsv 1",
      "classes.csv, record 1: the record has not as many fields as the header", 3),
     ("classes.csv", CLASSES + "SEX,1,\n1SEX,1,\n", "fault classes 2 BadName 2",
@@ -169,7 +178,7 @@ FILES = [
     ("people.csv", PEOPLE + "101,200,1,0-15,E1\n101,200,1,0-15,E1\n", "fault people 5 PersonTwice 2",
      "people.csv, record 2: an earlier record has the same person", 5),
     ("people.csv", PEOPLE + "".join(f"{i},0,1,65+,E1\n" for i in range(1, 1_000_002)), "fault people 7 TooMany 1000001",
-     "people.csv, record 1000001: there must be at most 1000000 records", 5),
+     f"people.csv, record 1000001: {TOO_MANY}", 5),
     ("people.csv", LONG, "fault people TooLong", "people.csv: the file must have at most 268435456 bytes", 5),
     ("people.csv", None, "fault read people", f"people.csv: {UNREAD}", 7),
     ("script.txt", "a table SEX\na table AREA\n!x\n", "fault script 3", f"script.txt, line 3: {LINE}", 6),
@@ -178,7 +187,6 @@ FILES = [
 ]
 
 DWELLING = "dwelling must be a number from 1 to 4294967295"
-TOO_MANY = "there must be at most 1000000 records"
 ONES = "".join(f"{i},1\n" for i in range(1, 1_000_002))
 
 # The same of the files that `units` reads besides.

@@ -3,8 +3,8 @@
 use crate::version::VERSION;
 use std::fmt;
 use std::fmt::{Display, Formatter, Write};
-use tb_base::{MOST_PERSONS, MOST_THRESHOLD, read_number};
-use tb_top::{MOST_PORT, MOST_SESSIONS, MOST_WORKERS};
+use tb_base::{MOST_THRESHOLD, read_number};
+use tb_top::{MOST_GENERATED, MOST_PORT, MOST_SESSIONS, MOST_WORKERS};
 use tb_words::{COMMANDS, positions_of};
 
 /// What an argument must be.
@@ -29,7 +29,7 @@ impl Rule {
             "PORT" => Rule::within(1, u32::from(MOST_PORT)),
             "WORKERS" => Rule::within(1, MOST_WORKERS),
             "SESSIONS" => Rule::within(1, MOST_SESSIONS),
-            "N" => Rule::within(1, MOST_PERSONS as u32),
+            "N" => Rule::within(1, MOST_GENERATED as u32),
             "START" => Rule::within(0, u32::MAX),
             _ => Rule::File,
         }

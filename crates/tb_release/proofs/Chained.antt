@@ -162,16 +162,21 @@ batches_lead_on release edits s can =
     }) (rules_after release edits)
 
 -- ---- chains
+-- changes leave the limit
+pub same_limit : (release : ReleaseValue) (changes : List Change) → (fold changed release changes).most ≡ release.most
+same_limit release [] = refl
+same_limit release (c ∷ cs) = same_limit (changed release c) cs
+
 after_follows : (release : ReleaseValue) (batch : BatchValue) (f : Follows release batch) → IsSound release → after_batch release batch ≡ next_release release f.edits
 after_follows release batch f s =
     ap (after_batch release) f.theirs ∙ batches_lead_on release f.edits s f.can.possible
 
 next_sound : (release : ReleaseValue) (edits : List Edit) → ArePossible release edits → IsSound release → IsSound (next_release release edits)
 next_sound release edits can s =
-    let h = stay_sound release edits can s in record { distinct = h.distinct; in_book = h.in_book; few = h.few; in_pages = h.in_pages }
+    let h = stay_sound release edits can s in record { distinct = h.distinct; in_book = h.in_book; few = h.few; most = h.most; in_pages = h.in_pages }
 
 pub chains_hold : (release : ReleaseValue) (chain : List BatchValue) → IsSound release → IsChain release chain → ChainFacts release chain
-chains_hold release [] s is = record { sound = s; keys = λ q k at. at; number = omega arith; changes = omega arith; edits = omega arith }
+chains_hold release [] s is = record { sound = s; keys = λ q k at. at; most = refl; number = omega arith; changes = omega arith; edits = omega arith }
 chains_hold release (batch ∷ chain) s is =
     let next = after_follows release batch is.0 s in
     let sound : IsSound (after_batch release batch) = subst IsSound (sym next) (next_sound release is.0.edits is.0.can.possible s) in
@@ -180,6 +185,7 @@ chains_hold release (batch ∷ chain) s is =
     let rest = chains_hold (after_batch release batch) chain sound is.1 in record {
       sound = rest.sound;
       keys = λ q k at. rest.keys q k (keys q k at);
+      most = rest.most ∙ same_limit release batch.changes;
       number = let number = rest.number in omega arith;
       changes = let more : change_count (batch ∷ chain) ≡ length batch.changes + change_count chain = sum_by-cons (λ (b : BatchValue). length b.changes) batch chain in
           let changes = rest.changes in omega arith;

@@ -7,7 +7,6 @@ use Rattle.std.proofs.lemmas.List.{length-map}
 use Rattle.std.proofs.lemmas.List.Sums.{length-filter, count_by-le-length}
 use Rattle.std.proofs.lemmas.List.Elements.{All-push, All-filter, All-map, All-weaker}
 use Rattle.tb_base.specs.declared.records.Record.{Record}
-use Rattle.tb_base.specs.declared.people.TheConstants.{MOST_PERSONS}
 use Rattle.tb_base.specs.Persons.{has_person, AreDistinct}
 use Rattle.tb_base.proofs.PersonLemmas.{AreDistinct-push}
 use Rattle.tb_base.specs.Rules.{RulesValue}
@@ -41,10 +40,10 @@ there false none = cc
 
 pub possible_of : (release : ReleaseValue) (edit : Edit) → refusal release edit ≡ None → IsPossible release edit
 possible_of release (Add person key codes) none =
-    let h = add_parts (has_person release.records person) (has_other_key release.key_book person key) (leb MOST_PERSONS (length release.records)) none in record {
+    let h = add_parts (has_person release.records person) (has_other_key release.key_book person key) (leb release.most (length release.records)) none in record {
       new = h.0;
       same_key = h.1;
-      room = leb-false MOST_PERSONS (length release.records) h.2;
+      room = leb-false release.most (length release.records) h.2;
     }
 possible_of release (Drop person) none = there (has_person release.records person) none
 possible_of release (Amend person sets) none = there (has_person release.records person) none
@@ -52,7 +51,7 @@ possible_of release (Pvalue row key pvalue) none = tt
 possible_of release (Threshold value) none = tt
 
 pub none_of : (release : ReleaseValue) (edit : Edit) → IsPossible release edit → refusal release edit ≡ None
-none_of release (Add person key codes) can = rw (can.new, can.same_key, lt-leb MOST_PERSONS (length release.records) can.room) refl
+none_of release (Add person key codes) can = rw (can.new, can.same_key, lt-leb release.most (length release.records) can.room) refl
 none_of release (Drop person) is = rw is refl
 none_of release (Amend person sets) is = rw is refl
 none_of release (Pvalue row key pvalue) is = refl
@@ -125,16 +124,16 @@ leads_pages release edit of =
     sym (ap (λ (b : Bool). if b then release.pages else changed_pages (release.number + 1) release.pages (person_of edit) (change_of release edit).before (change_of release edit).after) of)
 
 -- releases with the same parts
-pub same_release : {a b : List Record} {ps qs : List PageValue} {m n : KeyBook} {number number' changes changes' edits edits' : ℕ} {rules rules' : RulesValue}
-    → a ≡ b → ps ≡ qs → m ≡ n → number ≡ number' → changes ≡ changes' → edits ≡ edits' → rules ≡ rules'
-    → ◌≡◌ {A = ReleaseValue} (record { records = a; pages = ps; key_book = m; number = number; changes = changes; edits = edits; rules = rules })
-    (record { records = b; pages = qs; key_book = n; number = number'; changes = changes'; edits = edits'; rules = rules' })
-same_release records pages book number changes edits rules = rw (records, pages, book, number, changes, edits, rules) refl
+pub same_release : {a b : List Record} {ps qs : List PageValue} {m n : KeyBook} {most most' number number' changes changes' edits edits' : ℕ} {rules rules' : RulesValue}
+    → a ≡ b → ps ≡ qs → m ≡ n → most ≡ most' → number ≡ number' → changes ≡ changes' → edits ≡ edits' → rules ≡ rules'
+    → ◌≡◌ {A = ReleaseValue} (record { records = a; pages = ps; key_book = m; most = most; number = number; changes = changes; edits = edits; rules = rules })
+    (record { records = b; pages = qs; key_book = n; most = most'; number = number'; changes = changes'; edits = edits'; rules = rules' })
+same_release records pages book most number changes edits rules = rw (records, pages, book, most, number, changes, edits, rules) refl
 
 pub changed-change_of : (release : ReleaseValue) (edit : Edit) → is_of_rules edit ≡ false → AreDistinct release.records → IsPossible release edit
     → changed release (change_of release edit) ≡ edited release edit
 changed-change_of release edit of distinct can =
-    same_release (leads_records release edit of distinct can) (leads_pages release edit of) (leads_book release edit of distinct can) refl refl refl (sym (rules_stay release.rules edit of))
+    same_release (leads_records release edit of distinct can) (leads_pages release edit of) (leads_book release edit of distinct can) refl refl refl refl (sym (rules_stay release.rules edit of))
 
 -- a change leaves the same in the pages as in the list of all records
 pub records_in-changed : (stamp : ℕ) (pages : List PageValue) (person : ℕ) (before after : Option Record)
@@ -185,6 +184,7 @@ sound_after release (Add person key codes) can s =
       in_book = All-push (HasKeyOf book) release.records new
           (All-weaker (HasKeyOf release.key_book) (HasKeyOf book) (λ r h. book_keeps release.key_book person key r.person r.key can.same_key h) release.records s.in_book) own;
       few = let room = can.room in omega arith;
+      most = s.most;
       in_pages = edited_in_pages release (Add person key codes) s.distinct can s.in_pages;
     }
 sound_after release (Drop person) can s =
@@ -193,6 +193,7 @@ sound_after release (Drop person) can s =
       distinct = distinct-filter (λ x. not (is_of person x)) release.records s.distinct;
       in_book = All-filter (λ x. not (is_of person x)) (HasKeyOf release.key_book) release.records s.in_book;
       few = let few = s.few in omega arith;
+      most = s.most;
       in_pages = edited_in_pages release (Drop person) s.distinct can s.in_pages;
     }
 sound_after release (Amend person sets) can s = record {
@@ -200,7 +201,8 @@ sound_after release (Amend person sets) can s = record {
   in_book = All-map (HasKeyOf release.key_book) (λ x. if is_of person x then amended sets x else x) release.records
       (All-weaker (HasKeyOf release.key_book) (λ r. HasKeyOf release.key_book (if is_of person r then amended sets r else r)) (λ r h. has_key_if (is_of person r) release.key_book sets r h) release.records s.in_book);
   few = rw length-map s.few;
+  most = s.most;
   in_pages = edited_in_pages release (Amend person sets) s.distinct can s.in_pages;
 }
-sound_after release (Pvalue row key pvalue) can s = record { distinct = s.distinct; in_book = s.in_book; few = s.few; in_pages = s.in_pages }
-sound_after release (Threshold value) can s = record { distinct = s.distinct; in_book = s.in_book; few = s.few; in_pages = s.in_pages }
+sound_after release (Pvalue row key pvalue) can s = record { distinct = s.distinct; in_book = s.in_book; few = s.few; most = s.most; in_pages = s.in_pages }
+sound_after release (Threshold value) can s = record { distinct = s.distinct; in_book = s.in_book; few = s.few; most = s.most; in_pages = s.in_pages }

@@ -39,10 +39,10 @@ use Rattle.tb_release.proofs.Fitting.{fit_after, stay_fitting}
 
 -- ---- the beginning and the end of a draft
 pub draft_of : (draft : Draft) (release : ReleaseValue) → IsShared release draft.register
-    → draft.number ≡ release.number → draft.changes ≡ release.changes → draft.edits ≡ release.edits → draft.rules ≡ release.rules → draft.made ≡ 0
+    → draft.most ≡ release.most → draft.number ≡ release.number → draft.changes ≡ release.changes → draft.edits ≡ release.edits → draft.rules ≡ release.rules → draft.made ≡ 0
     → release.number < MOST_RELEASES → IsDraftOf release draft
-draft_of draft release shared number changes edits rules none more =
-    let same : release_of draft ≡ release = same_release refl refl refl number changes edits rules ∙ sym shared.same in record {
+draft_of draft release shared most number changes edits rules none more =
+    let same : release_of draft ≡ release = same_release refl refl refl most number changes edits rules ∙ sym shared.same in record {
       whole = record {
         whole = shared.whole;
         sound = subst IsSound (sym same) shared.sound;
@@ -64,19 +64,19 @@ pub placed_there : (register : Register) (o : Option Book) → o ≡ Some regist
 placed_there register o is whole = λ b there. (let same : register.book ≡ b = cc in subst (λ (x : Book). ArePlaced x register.pages) same whole.placed)
 
 pub draft_kept : (draft : Draft) (count : ℕ) (stock : Stock) → stock ≡ stock_of draft.register → IsDraft draft → draft.made ≤ count → draft.edits + count ≤ MOST_CHANGES
-    → IsKept stock (draft.number + 1) (draft.changes + draft.made) (draft.edits + count) draft.rules
-draft_kept draft count stock is d less few = subst (λ (s : Stock). IsKept s (draft.number + 1) (draft.changes + draft.made) (draft.edits + count) draft.rules) (sym is) (record {
+    → IsKept stock draft.most (draft.number + 1) (draft.changes + draft.made) (draft.edits + count) draft.rules
+draft_kept draft count stock is d less few = subst (λ (s : Stock). IsKept s draft.most (draft.number + 1) (draft.changes + draft.made) (draft.edits + count) draft.rules) (sym is) (record {
   whole = record { placed = placed_there draft.register (Some draft.register.book) refl d.whole; living = d.whole.living; distinct = d.whole.distinct };
-  sound = record { distinct = d.sound.distinct; in_book = d.sound.in_book; few = d.sound.few; in_pages = d.sound.in_pages };
+  sound = record { distinct = d.sound.distinct; in_book = d.sound.in_book; few = d.sound.few; most = d.sound.most; in_pages = d.sound.in_pages };
   room = d.room;
   fewer = let fewer = d.fewer in omega arith;
   few = few;
 })
 
 -- the next release is that of the draft
-pub draft_stocked : (draft : Draft) (stock : Stock) (next : ReleaseValue) (number changes edits : ℕ) → stock ≡ stock_of draft.register → next ≡ stocked stock number changes edits draft.rules
+pub draft_stocked : (draft : Draft) (stock : Stock) (next : ReleaseValue) (number changes edits : ℕ) → stock ≡ stock_of draft.register → next ≡ stocked stock draft.most number changes edits draft.rules
     → next ≡ record (release_of draft) { number = number; changes = changes; edits = edits }
-draft_stocked draft stock next number changes edits is same = same ∙ ap (λ s. stocked s number changes edits draft.rules) is
+draft_stocked draft stock next number changes edits is same = same ∙ ap (λ s. stocked s draft.most number changes edits draft.rules) is
 
 -- ---- the loop
 pub left_at : {X : Type 0} (xs : List X) (i : ℕ) (x : X) → i < length xs → x ≡ get_or xs i x → drop i xs ≡ x ∷ drop (i + 1) xs

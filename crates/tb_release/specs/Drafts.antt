@@ -22,7 +22,8 @@ use Rattle.tb_release.specs.Entries.{changes_in, entry_of}
 
 -- the release for which a draft stands
 abbrev pub release_of : Draft → ReleaseValue
-release_of draft = registered draft.register draft.number draft.changes draft.edits draft.rules
+release_of draft =
+    registered draft.register draft.most draft.number draft.changes draft.edits draft.rules
 
 -- persons are found on their pages, the release is sound, there are no more pages than the changes
 -- so far and those made suffice for, no more changes than edits, and another release may come

@@ -72,11 +72,12 @@ BatchesLeadOn =
     (release : ReleaseValue) (edits : List Edit) → IsSound release → ArePossible release edits
     → after_batch release (batch_of release edits) ≡ next_release release edits
 
--- the release after a chain is sound, has the keys from before, and counts batches, changes and
--- edits
+-- the release after a chain is sound, has the keys and the limit from before, and counts batches,
+-- changes and edits
 pub record ChainFacts (release : ReleaseValue) (chain : List BatchValue) : Type 0 where
   pub sound : IsSound (release_after release chain)
   pub keys : KeepsKeys release.key_book (release_after release chain).key_book
+  pub most : (release_after release chain).most ≡ release.most
   pub number : (release_after release chain).number ≡ release.number + length chain
   pub changes : (release_after release chain).changes ≡ release.changes + change_count chain
   pub edits : (release_after release chain).edits ≡ release.edits + edit_count chain
@@ -110,8 +111,8 @@ BatchesKeepPages =
 -- as the page's stamp says
 abbrev pub StampsTell : Type 0
 StampsTell =
-    (threshold : ℕ) (people : List Record) (chain : List BatchValue) (i : ℕ)
-    → let base = first_release threshold people in
+    (most threshold : ℕ) (people : List Record) (chain : List BatchValue) (i : ℕ)
+    → let base = first_release most threshold people in
     let last = release_after base chain in
     let stamp = (slice_index_or last.pages i no_page).stamp in
     i < length last.pages

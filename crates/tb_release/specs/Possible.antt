@@ -3,7 +3,6 @@ use Rattle.std.specs.Prelude.{◌≡◌, ◌<◌, ℕ, ◌+◌, ◌==◌, nat_le
 use Rattle.std.specs.Prelude.{if◌then◌else◌, List, [], ◌∷◌, length, Option, Some, None}
 use Rattle.std.specs.Option.{option_map_or}
 use Rattle.std.specs.FinMap as finmap
-use Rattle.tb_base.specs.declared.people.TheConstants.{MOST_PERSONS}
 use Rattle.tb_base.specs.Persons.{has_person}
 use Rattle.tb_model.specs.Releases.{KeyBook, ReleaseValue}
 use Rattle.tb_release.specs.declared.edits.Edit.{Edit}
@@ -18,11 +17,11 @@ has_other_key book person key =
     option_map_or (λ old. not (old == key)) (finmap.get book person) false
 
 -- an add is possible where the person has no record, the key book has no other key for the person,
--- and there are fewer records than the most
+-- and there are fewer records than there may be
 pub record CanAdd (release : ReleaseValue) (person key : ℕ) : Type 0 where
   pub new : has_person release.records person ≡ false
   pub same_key : has_other_key release.key_book person key ≡ false
-  pub room : length release.records < MOST_PERSONS
+  pub room : length release.records < release.most
 
 -- an edit is possible: a drop or an amend where the person has a record, and one of the rules
 -- always
@@ -44,7 +43,7 @@ abbrev pub refusal : ReleaseValue → Edit → Option EditFaultKind
 refusal release (Add person key codes) =
     if has_person release.records person then Some kind.PersonThere
     else if has_other_key release.key_book person key then Some kind.KeyChanged
-    else if nat_le MOST_PERSONS (length release.records) then Some kind.TooMany
+    else if nat_le release.most (length release.records) then Some kind.TooMany
     else None
 refusal release (Drop person) =
     if has_person release.records person then None else Some kind.NoSuchPerson

@@ -24,7 +24,7 @@ use crate::fault::{EditFault, EditFaultKind};
 use crate::parts::amended_record;
 use crate::release::Release;
 use std::alloc::Global;
-use tb_base::{Codes, MOST_PERSONS, Memory, Record, Shape};
+use tb_base::{Codes, Memory, Record, Shape};
 use tb_pages::{Register, Stock};
 
 /// A release while it is edited. Its pages, shards and rules are those of the old one until an edit
@@ -32,6 +32,7 @@ use tb_pages::{Register, Stock};
 #[derive(Drop)]
 pub(crate) struct Draft {
     register: Register,
+    most: usize,
     number: u32,
     changes: u32,
     edits: u32,
@@ -50,6 +51,7 @@ impl Draft {
         let rules = DraftRules::of(shared);
         Ok(Draft {
             register,
+            most: old.most(),
             number: old.number(),
             changes: old.record_changes(),
             edits: old.changes(),
@@ -101,6 +103,7 @@ impl Draft {
     {
         let Draft {
             register,
+            most,
             number,
             changes,
             edits,
@@ -111,7 +114,7 @@ impl Draft {
         let changes = changes + made as u32;
         let edits = edits + count as u32;
         let rules = rules.finish(alloc)?;
-        let next = Release::of(alloc, stock, number + 1, changes, edits, rules)?;
+        let next = Release::of(alloc, stock, most, number + 1, changes, edits, rules)?;
         Ok(next)
     }
 
@@ -143,7 +146,7 @@ impl Draft {
         if is_other(self.register.key_of(person), key) {
             return Some(EditFaultKind::KeyChanged);
         }
-        if self.register.living >= MOST_PERSONS {
+        if self.register.living >= self.most {
             return Some(EditFaultKind::TooMany);
         }
         None

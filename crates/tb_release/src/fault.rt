@@ -19,7 +19,8 @@ pub enum EditFaultKind {
     NoSuchPerson,
     #[error("the person must have the same record key as before")]
     KeyChanged,
-    #[error("there must be at most 1,000,000 records, 10,000 releases and 1,000,000 edits")]
+    #[error("there must be at most 1,000,000 records, or as many as the classification says, \
+        10,000 releases and 1,000,000 edits")]
     TooMany,
     #[error("there must be at least one edit")]
     Nothing,

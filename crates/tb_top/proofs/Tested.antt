@@ -10,7 +10,7 @@ use Rattle.tb_words.specs.Words.{AreTested, handed_on, is_plain}
 use Rattle.tb_top.specs.declared.command.Command.{Command}
 use Rattle.tb_top.specs.declared.command.Command.TheVariants as command
 use Rattle.tb_top.specs.declared.command.Inputs.{Inputs}
-use Rattle.tb_base.specs.declared.people.TheConstants.{MOST_PERSONS}
+use Rattle.tb_gen.specs.declared.limits.TheConstants.{MOST_GENERATED}
 use Rattle.tb_base.specs.declared.limits.TheConstants.{MOST_THRESHOLD}
 use Rattle.tb_top.specs.declared.service.TheConstants.{MOST_PORT, MOST_SESSIONS, MOST_WORKERS}
 use Rattle.tb_top.specs.Commands.{command_of, follow_words, gen_named, gen_words, host_named, host_words, inputs_named, inputs_with, is_file_name, keep_named, keep_words, lanes_words, may_name_recodes, mirror_words, script_words, serve_words, threshold_in, units_named, units_words, with_script, with_service, word_at, words_with_script, words_with_service}
@@ -287,7 +287,7 @@ gen_list (a ∷ []) k len name named = absurd (omega (arith, len))
 gen_list (a ∷ b ∷ []) k len name named = absurd (omega (arith, len))
 gen_list (a ∷ b ∷ c ∷ []) k len name named =
     let (population, read) = map_some command.Gen (population_named b c) k named in
-    let (p, persons, more) = then_some (λ n. option_map (population_with n) (number_of c)) (number_within 1 MOST_PERSONS b) population read in
+    let (p, persons, more) = then_some (λ n. option_map (population_with n) (number_of c)) (number_within 1 MOST_GENERATED b) population read in
     let (start, is_start) = map_some (population_with p) (number_of c) population more in
     let values = b ∷ handed c ∷ [] in
     let first : a ≡ codes "gen" = (bytes_eq-Decides a (codes "gen")).0 name in
@@ -295,7 +295,7 @@ gen_list (a ∷ b ∷ c ∷ []) k len name named =
       values,
       handed_at a b c [] ∙ ap (λ (word : List ℕ). word ∷ values) first,
       refl,
-      all_true _ _ (plain_within 1 MOST_PERSONS p b persons) (all_true _ _ (plain_either c (plain_number c start is_start)) refl),
+      all_true _ _ (plain_within 1 MOST_GENERATED p b persons) (all_true _ _ (plain_either c (plain_number c start is_start)) refl),
     ))))))))
 gen_list (a ∷ b ∷ c ∷ x ∷ rest) k len name named = absurd (omega (arith, len))
 

@@ -1,6 +1,6 @@
 -- What the arguments and the files ask for: a task over a census; or why the run ends before it
 -- begins.
-use Rattle.std.specs.Prelude.{◌==◌, ℕ, Bool, true, false, List, [], ◌∷◌, length, Option, Some, None, Result, Ok, Err, ok_or, nat_lt, if◌then◌else◌}
+use Rattle.std.specs.Prelude.{◌==◌, ℕ, Bool, true, false, List, [], ◌∷◌, length, Option, Some, None, Result, Ok, Err, ok_or, nat_le, nat_lt, if◌then◌else◌}
 use Rattle.tb_base.specs.declared.records.Record.{Record}
 use Rattle.tb_base.specs.declared.keys.Keys.{Keys}
 use Rattle.tb_model.specs.Releases.{ReleaseValue, first_release}
@@ -20,7 +20,8 @@ use Rattle.tb_endings.specs.declared.endings.Input.{Input}
 use Rattle.tb_endings.specs.declared.endings.Input.TheVariants as input
 use Rattle.tb_endings.specs.declared.endings.End.{End}
 use Rattle.tb_endings.specs.declared.endings.End.TheVariants as end
-use Rattle.tb_top.specs.declared.load.TheConstants.{MOST_BYTES}
+use Rattle.tb_top.specs.declared.load.TheConstants.{LARGE_BYTES, MOST_BYTES}
+use Rattle.tb_schema.specs.declared.limits.TheConstants.{MOST_UNSTATED}
 use Rattle.tb_script.specs.declared.limits.TheConstants.{MOST_SCRIPT_BYTES}
 use Rattle.tb_top.specs.declared.command.Command.{Command}
 use Rattle.tb_top.specs.declared.command.Command.TheVariants as command
@@ -50,11 +51,23 @@ most_bytes input.Dwellings = MOST_BYTES
 most_bytes input.Links = MOST_BYTES
 most_bytes input.Script = MOST_SCRIPT_BYTES
 
--- the bytes of a file, which may not be there or be too long
+-- the most bytes that one of a census's files may have, its persons, dwellings or links: more where
+-- the classification bounds the persons above what it does unstated
+abbrev pub census_bytes : SchemaValue → ℕ
+census_bytes schema = if nat_le schema.persons MOST_UNSTATED then MOST_BYTES else LARGE_BYTES
+
+-- the bytes of a file, which may not be there or have more than so many
+abbrev pub bytes_within : ℕ → Input → Option (List ℕ) → Result (List ℕ) End
+bytes_within most file None = Err (end.Unread file)
+bytes_within most file (Some bytes) =
+    if nat_lt most (length bytes) then Err (end.TooLong file) else Ok bytes
+
+-- the bytes of a file, and those of one of a census's
 abbrev pub bytes_in : Input → Option (List ℕ) → Result (List ℕ) End
-bytes_in file None = Err (end.Unread file)
-bytes_in file (Some bytes) =
-    if nat_lt (most_bytes file) (length bytes) then Err (end.TooLong file) else Ok bytes
+bytes_in file bytes = bytes_within (most_bytes file) file bytes
+
+abbrev pub census_bytes_in : SchemaValue → Input → Option (List ℕ) → Result (List ℕ) End
+census_bytes_in schema file bytes = bytes_within (census_bytes schema) file bytes
 
 -- what a reader gives, or the end for what it refuses
 abbrev pub or_end : {A E : Type 0} → (E → End) → Result A E → Result A End
@@ -82,7 +95,7 @@ perturbation_in keys contents =
 
 abbrev pub people_in : SchemaValue → Contents → Result (List Record) End
 people_in schema contents =
-    bytes_in input.People (contents input.People) >>= (λ bytes.
+    census_bytes_in schema input.People (contents input.People) >>= (λ bytes.
     or_end (file_end input.People people_name) (people_of schema bytes))
 
 abbrev pub script_in : Contents → Result ScriptValue End
@@ -90,15 +103,16 @@ script_in contents =
     bytes_in input.Script (contents input.Script) >>= (λ bytes.
     or_end end.BadLine (script_of bytes))
 
--- a census: the setup, the threshold of release 0 and the microdata's records
+-- a census: the setup, the limit and the threshold of release 0 and the microdata's records
 pub record CensusValue : Type 0 where
   pub setup : SetupValue
+  pub most : ℕ
   pub threshold : ℕ
   pub records : List Record
 
 -- release 0 of a census
 abbrev pub base_of : CensusValue → ReleaseValue
-base_of census = first_release census.threshold census.records
+base_of census = first_release census.most census.threshold census.records
 
 -- what the files of inputs hold
 abbrev pub census_in : Inputs → Contents → Result CensusValue End
@@ -108,16 +122,17 @@ census_in inputs contents =
     people_in schema contents >>= (λ records.
     Ok (record {
       setup = record { schema = schema; lines = table.lines; units = None };
+      most = schema.persons;
       threshold = inputs.threshold;
       records = records;
     }))))
 
 -- the dwellings and the links are both read before either is checked
-abbrev pub units_in : Keys → Contents → Result UnitsValue End
-units_in keys contents =
-    bytes_in input.Dwellings (contents input.Dwellings) >>= (λ dwellings.
-    bytes_in input.Links (contents input.Links) >>= (λ links.
-    or_end units_end (units_of keys dwellings links)))
+abbrev pub units_in : SchemaValue → Contents → Result UnitsValue End
+units_in schema contents =
+    census_bytes_in schema input.Dwellings (contents input.Dwellings) >>= (λ dwellings.
+    census_bytes_in schema input.Links (contents input.Links) >>= (λ links.
+    or_end units_end (units_of schema.persons schema.keys dwellings links)))
 
 -- a census with these dwellings
 abbrev pub with_units : CensusValue → UnitsValue → CensusValue
@@ -128,7 +143,7 @@ with_units census units =
 abbrev pub counted_in : Inputs → Contents → Result CensusValue End
 counted_in inputs contents =
     census_in inputs contents >>= (λ census.
-    units_in census.setup.schema.keys contents >>= (λ units. Ok (with_units census units)))
+    units_in census.setup.schema contents >>= (λ units. Ok (with_units census units)))
 
 -- what is asked for over a census: replies to the lines of a script, one after another, of its
 -- lanes at the same time, with a journal under a name, or by a follower; sessions, with a journal,

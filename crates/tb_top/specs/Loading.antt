@@ -79,7 +79,12 @@ Makes view defined (Err e) =
 -- the census of a setup and its release 0
 abbrev pub census_over : SetupValue → ReleaseValue → CensusValue
 census_over setup base =
-    record { setup = setup; threshold = base.rules.threshold; records = base.records }
+    record {
+      setup = setup;
+      most = base.most;
+      threshold = base.rules.threshold;
+      records = base.records;
+    }
 
 -- a census, a script over it, and what is asked for, as the definitions see them
 abbrev pub census_value : Census → CensusValue
@@ -100,9 +105,9 @@ asked_value (asked.Mirror census service) = Mirror (census_value census) service
 asked_value (asked.Serve census service) = Serve (census_value census) service
 asked_value (asked.Gen population census script) = Gen population (census_value census) script
 
--- a release is release 0 of its records, with its threshold and no other rules
+-- a release is release 0 of its records, with its limit, its threshold and no other rules
 abbrev pub IsBase : ReleaseValue → Type 0
-IsBase base = base ≡ first_release base.rules.threshold base.records
+IsBase base = base ≡ first_release base.most base.rules.threshold base.records
 
 -- a census begins at release 0 of its records, which fit its schema
 abbrev pub IsFirst : Census → Type 0

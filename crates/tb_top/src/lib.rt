@@ -32,7 +32,8 @@ mod told_text;
 mod top;
 
 pub use command::{Command, FileName, GENERATED_THRESHOLD, Inputs, read_command};
-pub use load::{Asked, Census, MOST_BYTES, most_bytes_of};
+pub use load::{Asked, Census, LARGE_BYTES, MOST_BYTES, most_bytes_of};
 pub use population::Population;
 pub use service::{MOST_PORT, MOST_SESSIONS, MOST_WORKERS, Service};
+pub use tb_gen::MOST_GENERATED;
 pub use top::tablebuilder;

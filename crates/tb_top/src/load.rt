@@ -9,13 +9,13 @@
 
 ghost use Rattle.std.specs.Prelude.{◌≡◌, ◌≤◌, ◌++◌, [], ◌∷◌, Some, true, length};
 ghost use Rattle.std.specs.Prelude.{IfErr, IfOk, flat_map, option_map};
-ghost use Rattle.tb_base.specs.declared.people.TheConstants.{MOST_PERSONS};
 ghost use Rattle.tb_base.specs.Persons.{AreDistinct};
 ghost use Rattle.tb_base.specs.Records.{AllFit};
 ghost use Rattle.tb_model.specs.Schemas.{shape_of};
 ghost use Rattle.tb_endings.specs.declared.endings.End.TheVariants as end;
 ghost use Rattle.tb_endings.specs.declared.endings.Input.TheVariants as input;
-ghost use Rattle.tb_top.specs.Asking.{asked_over, bytes_in, census_in, input_place, is_keep};
+ghost use Rattle.tb_top.specs.Asking.{asked_over, bytes_in, bytes_within, census_bytes, census_in};
+ghost use Rattle.tb_top.specs.Asking.{input_place, is_keep};
 ghost use Rattle.tb_top.specs.Asking.{host_in, is_service};
 ghost use Rattle.tb_top.specs.Asking.{most_bytes, people_in, perturbation_in, recodes_in};
 ghost use Rattle.tb_top.specs.Asking.{counted_in, counted_script_in, units_in};
@@ -40,13 +40,17 @@ use tb_io::{FileRead, Files};
 use tb_ptable::PTable;
 use tb_records::read_people_in_parts;
 use tb_release::Release;
-use tb_schema::Schema;
+use tb_schema::{MOST_UNSTATED, Schema};
 use tb_script::{MOST_SCRIPT_BYTES, Script, ScriptFault};
 use tb_text::Setup;
 use tb_units::Units;
 
 /// The most bytes that a file may have, the script apart: 256 MiB.
 pub const MOST_BYTES: u64 = 268_435_456;
+
+/// The most bytes that the persons, the dwellings and the links may have where the classification
+/// states a limit above `MOST_UNSTATED`: 32 GiB.
+pub const LARGE_BYTES: u64 = 34_359_738_368;
 
 /// A census: the setup, and release 0 of the microdata.
 #[derive(Drop)]
@@ -116,6 +120,41 @@ pub fn most_bytes_of(file: Input) -> u64
     }
 }
 
+// The most bytes that each of a census's files may have, its persons, dwellings and links.
+fn census_bytes_of(schema: &Schema) -> u64
+    ensures { result ≡ census_bytes schema.now }
+{
+    if schema.persons() <= MOST_UNSTATED {
+        MOST_BYTES
+    } else {
+        LARGE_BYTES
+    }
+}
+
+// The bytes of an input, whose file has this name, and so many at most.
+fn read_within<F: Files>(
+    alloc: Global,
+    files: &mut F,
+    most: u64,
+    file: Input,
+    name: &FileName<'_>,
+) -> Result<Vec<u8>, End>
+    ensures within { IfOk result (λ bytes. length bytes.items ≤ most) }
+    ensures loads { Loads
+        (reading F.content F.faults F.readings files.old files.new)
+        (input_place file)
+        (named file name.now ∷ [])
+        (λ bytes. bytes.items)
+        (λ contents. bytes_within most file (contents file)) result }
+{
+    match files.read(alloc, name.as_str(), most) {
+        FileRead::Bytes(bytes) => Ok(bytes),
+        FileRead::TooLong => Err(End::TooLong(file)),
+        FileRead::Failed => Err(End::Unread(file)),
+        FileRead::Memory => Err(End::Memory),
+    }
+}
+
 // The bytes of an input, whose file has this name.
 fn read_bytes<F: Files>(
     alloc: Global,
@@ -131,12 +170,8 @@ fn read_bytes<F: Files>(
         (λ bytes. bytes.items)
         (λ contents. bytes_in file (contents file)) result }
 {
-    match files.read(alloc, name.as_str(), most_bytes_of(file)) {
-        FileRead::Bytes(bytes) => Ok(bytes),
-        FileRead::TooLong => Err(End::TooLong(file)),
-        FileRead::Failed => Err(End::Unread(file)),
-        FileRead::Memory => Err(End::Memory),
-    }
+    let most = most_bytes_of(file);
+    read_within(alloc, files, most, file, name)
 }
 
 // The bytes of the recodes, where they are named.
@@ -214,7 +249,7 @@ fn load_people<F: Files, R: Threads + Sync>(
     ensures distinct { IfOk result (λ lists.
         AreDistinct (flat_map (λ list. list.items) lists.items)) }
     ensures few { IfOk result (λ lists.
-        length (flat_map (λ list. list.items) lists.items) ≤ MOST_PERSONS) }
+        length (flat_map (λ list. list.items) lists.items) ≤ schema.now.persons) }
     ensures fit { IfOk result (λ lists.
         AllFit (shape_of schema.now) (flat_map (λ list. list.items) lists.items)) }
     ensures loads { Loads
@@ -224,7 +259,8 @@ fn load_people<F: Files, R: Threads + Sync>(
         (λ lists. flat_map (λ list. list.items) lists.items)
         (people_in schema.now) result }
 {
-    let bytes = read_bytes(alloc, files, Input::People, name)?;
+    let most = census_bytes_of(schema);
+    let bytes = read_within(alloc, files, most, Input::People, name)?;
     match read_people_in_parts(rt, alloc, schema, &bytes) {
         Ok(people) => Ok(people),
         Err(fault) => Err(End::of(Input::People, fault)),
@@ -250,7 +286,8 @@ fn load_census<F: Files, R: Threads + Sync>(
     let ptable = load_ptable(alloc, files, &inputs.ptable, schema.keys())?;
     let people = load_people(rt, alloc, files, &inputs.people, &schema)?;
     let rules = Rules::new(alloc, inputs.threshold);
-    let release = Release::first_in_parts(rt, alloc, people, rules)?;
+    let most = schema.persons();
+    let release = Release::first_in_parts(rt, alloc, most, people, rules)?;
     let setup = Setup {
         schema,
         ptable,
@@ -263,7 +300,7 @@ fn load_census<F: Files, R: Threads + Sync>(
 fn load_units<F: Files>(
     alloc: Global,
     files: &mut F,
-    keys: Keys,
+    schema: &Schema,
     dwellings: &FileName<'_>,
     links: &FileName<'_>,
 ) -> Result<Units, End>
@@ -272,18 +309,12 @@ fn load_units<F: Files>(
         4
         (named input.Dwellings dwellings.now ∷ named input.Links links.now ∷ [])
         (λ units. units)
-        (units_in keys) result }
+        (units_in schema.now) result }
 {
-    let dwellings = read_bytes(alloc, files, Input::Dwellings, dwellings)?;
-    let links = read_bytes(alloc, files, Input::Links, links)?;
-    Ok(Units::read(alloc, keys, &dwellings, &links)?)
-}
-
-// The key range of a setup.
-fn keys_of(setup: &Setup) -> Keys
-    ensures { result ≡ setup.now.schema.keys }
-{
-    setup.schema.keys()
+    let most = census_bytes_of(schema);
+    let dwellings = read_within(alloc, files, most, Input::Dwellings, dwellings)?;
+    let links = read_within(alloc, files, most, Input::Links, links)?;
+    Ok(Units::read(alloc, schema.persons(), schema.keys(), &dwellings, &links)?)
 }
 
 // A census with these dwellings.
@@ -323,8 +354,7 @@ fn load_counted<F: Files, R: Threads + Sync>(
         (counted_in inputs.now) result }
 {
     let census = load_census(rt, alloc, files, inputs)?;
-    let keys = keys_of(&census.setup);
-    let units = load_units(alloc, files, keys, dwellings, links)?;
+    let units = load_units(alloc, files, &census.setup.schema, dwellings, links)?;
     Ok(with_units(census, units))
 }
 

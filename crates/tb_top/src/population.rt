@@ -5,7 +5,8 @@ ghost use Rattle.tb_top.specs.Populations.{HasPersons, population_named};
 
 use crate::numbers::read_within;
 use std::marker::Model;
-use tb_base::{MOST_PERSONS, read_number};
+use tb_base::read_number;
+use tb_gen::MOST_GENERATED;
 
 /// A generated population: how many persons it has, 1 to 1,000,000, and the state from which their
 /// numbers are drawn.
@@ -58,7 +59,7 @@ impl Population {
 pub fn read_population(persons: &str, start: &str) -> Option<Population>
     ensures { result ≡ population_named persons.now start.now }
 {
-    let persons = read_within(1, MOST_PERSONS as u32, persons)?;
+    let persons = read_within(1, MOST_GENERATED as u32, persons)?;
     let start = read_number(start.as_bytes())?;
     Some(Population { persons, start })
 }

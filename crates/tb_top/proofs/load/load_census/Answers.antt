@@ -9,9 +9,10 @@ use Rattle.tb_top.proofs.LoadSteps.{all_of, Loads-ends, Loads-fails, Loads-memor
 use Rattle.tb_top.proofs.load.load_census.Goals as goal
 
 -- release 0 by rules that are new
-made : (threshold : ℕ) (rules : RulesValue) (people : List Record) (release : ReleaseValue)
-    → rules ≡ first_rules threshold → release ≡ first_release rules.threshold people → release ≡ first_release threshold people
-made threshold rules people release new first = first ∙ ap (λ (r : RulesValue). first_release r.threshold people) new
+made : (most limit threshold : ℕ) (rules : RulesValue) (people : List Record) (release : ReleaseValue)
+    → most ≡ limit → rules ≡ first_rules threshold → release ≡ first_release most rules.threshold people → release ≡ first_release limit threshold people
+made most limit threshold rules people release is new first =
+    first ∙ ap (λ (m : ℕ). first_release m rules.threshold people) is ∙ ap (λ (r : RulesValue). first_release limit r.threshold people) new
 
 pub returns-in_err-schema-clause-loads : goal.returns-in_err-schema-clause-loads
 returns-in_err-schema-clause-loads g c =
@@ -51,7 +52,7 @@ returns-clause-loads g c =
     let inputs = c.args.inputs.now in
     let schema = c.in_ok-schema.schema in
     let table = c.in_ok-ptable.ptable in
-    let first = made inputs.threshold c.new-rules.result (all_of c.in_ok-people.people) _ c.new-rules.ensures c.in_ok-release.ensures in
+    let first = made c.persons-most.result schema.persons inputs.threshold c.new-rules.result (all_of c.in_ok-people.people) _ c.persons-most.ensures.limit c.new-rules.ensures c.in_ok-release.ensures in
     census-steps census_value inputs schema table _ refl refl refl refl refl refl c.in_ok-schema.ensures.loads (rw c.keys.ensures at c.in_ok-ptable.ensures.loads)
     (Loads-ends all_of census_value (people_in schema)
     (λ contents records. Ok (census_with inputs schema table records)) c.in_ok-people.people _
@@ -59,6 +60,6 @@ returns-clause-loads g c =
 
 pub returns-clause-first : goal.returns-clause-first
 returns-clause-first g c =
-    let first = made c.args.inputs.now.threshold c.new-rules.result (all_of c.in_ok-people.people) _ c.new-rules.ensures c.in_ok-release.ensures in
+    let first = made c.persons-most.result c.in_ok-schema.schema.persons c.args.inputs.now.threshold c.new-rules.result (all_of c.in_ok-people.people) _ c.persons-most.ensures.limit c.new-rules.ensures c.in_ok-release.ensures in
     let same : c.in_ok-release.release.records ≡ all_of c.in_ok-people.people = ap (λ r. r.records) first in
     (subst IsBase (sym first) refl, rw same c.in_ok-people.ensures.fit)

@@ -22,8 +22,8 @@ returns-in_err-units-clause-loads g c =
     let census = census_value c.in_ok-census.census in
     rw (p.1, p.2) (Loads-then census_value census_value (census_in inputs) after_census c.in_ok-census.census (Err _)
     (skips-census inputs 4 (omega arith)) (omega arith) refl refl refl c.in_ok-census.ensures.loads
-    (Loads-fails (λ units. units) census_value (units_in census.setup.schema.keys) (λ contents (units : UnitsValue). Ok (with_units census units))
-    (rw c.keys_of-keys.ensures at c.in_err-units.ensures.loads)))
+    (Loads-fails (λ units. units) census_value (units_in census.setup.schema) (λ contents (units : UnitsValue). Ok (with_units census units))
+    c.in_err-units.ensures.loads))
 
 pub returns-clause-loads : goal.returns-clause-loads
 returns-clause-loads g c =
@@ -31,5 +31,5 @@ returns-clause-loads g c =
     let census = census_value c.in_ok-census.census in
     Loads-then census_value census_value (census_in inputs) after_census c.in_ok-census.census _
     (skips-census inputs 4 (omega arith)) (omega arith) refl refl refl c.in_ok-census.ensures.loads
-    (Loads-ends (λ units. units) census_value (units_in census.setup.schema.keys) (λ contents (units : UnitsValue). Ok (with_units census units))
-    c.in_ok-units.units c.with_units.result (λ contents. ap Ok (sym c.with_units.ensures.census)) (rw c.keys_of-keys.ensures at c.in_ok-units.ensures.loads))
+    (Loads-ends (λ units. units) census_value (units_in census.setup.schema) (λ contents (units : UnitsValue). Ok (with_units census units))
+    c.in_ok-units.units c.with_units.result (λ contents. ap Ok (sym c.with_units.ensures.census)) c.in_ok-units.ensures.loads)
