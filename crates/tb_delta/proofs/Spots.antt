@@ -7,7 +7,7 @@ use Rattle.tb_base.specs.declared.records.Record.{Record}
 use Rattle.tb_model.specs.Releases.{ReleaseValue}
 use Rattle.tb_release.specs.declared.edits.Change.{Change}
 use Rattle.tb_release.specs.declared.edits.Edit.{Edit}
-use Rattle.tb_release.specs.declared.edits.Edit.TheVariants.{Add, Drop, Amend, Pvalue, Threshold}
+use Rattle.tb_release.specs.declared.edits.Edit.TheVariants.{Add, Drop, Amend, Pvalue, Threshold, Oldest}
 use Rattle.tb_release.specs.Releases.{IsSound}
 use Rattle.tb_release.specs.Edits.{amended, edited, is_of_rules}
 use Rattle.tb_release.specs.Possible.{IsPossible}
@@ -65,3 +65,4 @@ spot release (Amend person sets) of sound can =
     })
 spot release (Pvalue row key pvalue) of sound can = cc
 spot release (Threshold value) of sound can = cc
+spot release (Oldest oldest) of sound can = cc

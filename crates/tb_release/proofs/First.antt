@@ -56,9 +56,11 @@ first_kept records stock most rules first distinct few within = record {
   few = omega arith;
 }
 
-pub first_is : (most : ℕ) (rules : RulesValue) (records : List Record) (stock : Stock) → IsFirst records stock → rules.pvalues ≡ [] → stocked stock most 0 0 0 rules ≡ first_release most rules.threshold records
-first_is most rules records stock first none =
-    let alone : rules ≡ first_rules rules.threshold = ap (λ (ps : List SetPvalue). record { threshold = rules.threshold; pvalues = ps }) none in
+pub first_is : (most : ℕ) (rules : RulesValue) (records : List Record) (stock : Stock) → IsFirst records stock → rules.pvalues ≡ [] → rules.oldest ≡ 0 → stocked stock most 0 0 0 rules ≡ first_release most rules.threshold records
+first_is most rules records stock first none shown =
+    let alone : rules ≡ first_rules rules.threshold =
+    ap (λ (ps : List SetPvalue). record { threshold = rules.threshold; oldest = rules.oldest; pvalues = ps }) none
+    ∙ ap (λ (n : ℕ). record { threshold = rules.threshold; oldest = n; pvalues = [] }) shown in
     same_release (all_there records stock first) first.pages (first_keys records stock first) refl refl refl refl alone
 
 -- ---- a release is shared

@@ -16,7 +16,7 @@ use Rattle.tb_pages.specs.declared.register.Register.{Register}
 use Rattle.tb_pages.proofs.RoomLemmas.{few_pages, filled_changed}
 use Rattle.tb_release.specs.declared.edits.Change.{Change}
 use Rattle.tb_release.specs.declared.edits.Edit.{Edit}
-use Rattle.tb_release.specs.declared.edits.Edit.TheVariants.{Add, Drop, Amend, Pvalue, Threshold}
+use Rattle.tb_release.specs.declared.edits.Edit.TheVariants.{Add, Drop, Amend, Pvalue, Threshold, Oldest}
 use Rattle.tb_release.specs.declared.limits.TheConstants.{MOST_CHANGES}
 use Rattle.tb_release.specs.Releases.{IsShared, IsSound, registered}
 use Rattle.tb_release.specs.Edits.{amended, edited, edited_rules, is_of_rules, person_of}
@@ -73,6 +73,7 @@ can_edit release (Amend person sets) register of sound can same room =
     (sym s.own, subst (λ (rs : List Record). record_of rs person ≡ Some r.0) same r.1)
 can_edit release (Pvalue row key pvalue) register of sound can same room = cc
 can_edit release (Threshold value) register of sound can same room = cc
+can_edit release (Oldest oldest) register of sound can same room = cc
 
 -- a change leads from a register's release to another's, whatever the rules are
 led_by : (old new : Register) (most number changes edits stamp : ℕ) (rules : RulesValue) (change : Change) → stamp ≡ number + 1 → IsChanged stamp change old new
@@ -220,6 +221,10 @@ step_of release batch stamp change more register now (Pvalue row key pvalue ∷ 
 step_of release batch stamp change more register now (Threshold value ∷ edits) made next few sound possible theirs same all room leads =
     let rules : RulesValue = edited_rules now.rules (Threshold value) in
     step_of release batch stamp change more register (edited now (Threshold value)) edits made next few (sound_after now (Threshold value) possible.0 sound) possible.1 theirs
+    (same_ruled release now register rules same) all room (leads_ruled release now batch rules (change ∷ more) leads)
+step_of release batch stamp change more register now (Oldest oldest ∷ edits) made next few sound possible theirs same all room leads =
+    let rules : RulesValue = edited_rules now.rules (Oldest oldest) in
+    step_of release batch stamp change more register (edited now (Oldest oldest)) edits made next few (sound_after now (Oldest oldest) possible.0 sound) possible.1 theirs
     (same_ruled release now register rules same) all room (leads_ruled release now batch rules (change ∷ more) leads)
 
 -- the step at a place of the batch, whose changes stand in a list

@@ -19,7 +19,7 @@ use Rattle.tb_pages.specs.Fillings.{ArePlaced}
 use Rattle.tb_pages.specs.Registers.{IsRegister}
 use Rattle.tb_release.specs.declared.draft.Draft.{Draft}
 use Rattle.tb_release.specs.declared.edits.Edit.{Edit}
-use Rattle.tb_release.specs.declared.edits.Edit.TheVariants.{Add, Drop, Amend, Pvalue, Threshold}
+use Rattle.tb_release.specs.declared.edits.Edit.TheVariants.{Add, Drop, Amend, Pvalue, Threshold, Oldest}
 use Rattle.tb_release.specs.declared.edits.Change.{Change}
 use Rattle.tb_release.specs.declared.limits.TheConstants.{MOST_EDITS, MOST_RELEASES, MOST_CHANGES}
 use Rattle.tb_release.specs.Releases.{IsKept, IsShared, IsSound, stocked}
@@ -102,6 +102,7 @@ one_entry batch release (Drop person) es = one_change batch (change_of release (
 one_entry batch release (Amend person sets) es = one_change batch (change_of release (Amend person sets)) (changes_of (edited release (Amend person sets)) es) (rule_edits_of es)
 one_entry batch release (Pvalue row key pvalue) es = one_rule batch (Pvalue row key pvalue) (changes_of (edited release (Pvalue row key pvalue)) es) (rule_edits_of es)
 one_entry batch release (Threshold value) es = one_rule batch (Threshold value) (changes_of (edited release (Threshold value)) es) (rule_edits_of es)
+one_entry batch release (Oldest oldest) es = one_rule batch (Oldest oldest) (changes_of (edited release (Oldest oldest)) es) (rule_edits_of es)
 
 pub step_batch : (batch after : BatchValue) (entry : BatchEntry) (release next : ReleaseValue) (e : Edit) (es : List Edit) → next ≡ edited release e → entry ≡ entry_of release e
     → after ≡ with_entry batch entry → joined after (batch_of next es) ≡ joined batch (batch_of release (e ∷ es))
@@ -137,6 +138,7 @@ entry_in_range release e entry can made = subst IsEntry (sym made) (by e can)
     by (Amend person sets) can = tt
     by (Pvalue row key pvalue) can = can
     by (Threshold value) can = can
+    by (Oldest oldest) can = tt
 
 pub fits_at : (shape : List ℕ) (edits : List Edit) (i : ℕ) (e : Edit) → All (EditFits shape) edits → i < length edits → e ≡ get_or edits i e → EditFits shape e
 fits_at shape edits i e fits within here = subst (EditFits shape) (sym here) (fits i e within)
@@ -164,6 +166,7 @@ can_set shape release (Amend person sets) fit fits =
     (recursion_from_All (λ r. HaveVariables sets r.codes) release.records (All-weaker (Fits shape) (λ r. HaveVariables sets r.codes) (λ r. have_variables shape sets r fits) release.records fit))
 can_set shape release (Pvalue row key pvalue) fit fits = fits
 can_set shape release (Threshold value) fit fits = fits
+can_set shape release (Oldest oldest) fit fits = tt
 
 -- ---- the changes fit
 change_fits : (shape : List ℕ) (release : ReleaseValue) (e : Edit) → AllFit shape release.records → EditFits shape e → ChangeFits shape (change_of release e)

@@ -6,7 +6,7 @@ use Rattle.std.specs.Cmp.{nat_cmp_total}
 use Rattle.tb_model.specs.Releases.{ReleaseValue, first_release}
 use Rattle.tb_model.proofs.SmallSetup.{records, person}
 use Rattle.tb_release.specs.declared.edits.Edit.{Edit}
-use Rattle.tb_release.specs.declared.edits.Edit.TheVariants.{Add, Drop, Amend, Pvalue, Threshold}
+use Rattle.tb_release.specs.declared.edits.Edit.TheVariants.{Add, Drop, Amend, Pvalue, Threshold, Oldest}
 use Rattle.tb_release.specs.declared.fault.EditFaultKind.TheVariants as kind
 use Rattle.tb_release.specs.Edits.{edited_all}
 use Rattle.tb_release.specs.Batches.{batch_of, batch_refusal, changes_of, next_release}
@@ -77,7 +77,7 @@ of_both = Pvalue 3 64 (pos 5) ∷ Drop 101 ∷ Threshold 3 ∷ Pvalue 3 64 (negs
 both_can_follow : (t : ℕ) → batch_refusal (first_release 1000000 t records) of_both ≡ None
 both_can_follow t = refl
 
-rules_of_both : (t : ℕ) → (next_release (first_release 1000000 t records) of_both).rules ≡ record { threshold = 3; pvalues = ((3, 64), negsuc 2) ∷ [] }
+rules_of_both : (t : ℕ) → (next_release (first_release 1000000 t records) of_both).rules ≡ record { threshold = 3; oldest = 0; pvalues = ((3, 64), negsuc 2) ∷ [] }
 rules_of_both t = refl
 
 batch_of_both : (t : ℕ) → batch_of (first_release 1000000 t records) of_both ≡ record {
@@ -94,7 +94,7 @@ edits_of_both t = refl
 
 -- pvalues stand by row and then by cell key, whatever order they were set in
 pvalues_in_order : (t : ℕ) → (next_release (first_release 1000000 t records) (Pvalue 4 7 (pos 1) ∷ Pvalue 3 64 (pos 5) ∷ Pvalue 3 9 (pos 2) ∷ [])).rules
-    ≡ record { threshold = t; pvalues = ((3, 9), pos 2) ∷ ((3, 64), pos 5) ∷ ((4, 7), pos 1) ∷ [] }
+    ≡ record { threshold = t; oldest = 0; pvalues = ((3, 9), pos 2) ∷ ((3, 64), pos 5) ∷ ((4, 7), pos 1) ∷ [] }
 pvalues_in_order t = refl
 
 -- an edit of the rules touches no record and no page
@@ -121,3 +121,16 @@ record_after_drop t = simp (get-from_entries {X = ℕ} nat_cmp_total)
 
 limit_stays : (t : ℕ) → (next_release (full t) (Drop 104 ∷ Add 105 1 (0 ∷ 2 ∷ 0 ∷ []) ∷ [])).most ≡ 4
 limit_stays t = refl
+
+-- releases are taken back up to the next one, and none is shown again
+take_back : (t : ℕ) → batch_refusal (first_release 1000000 t records) (Oldest 1 ∷ []) ≡ None
+take_back t = refl
+
+taken_back : (t : ℕ) → (next_release (first_release 1000000 t records) (Oldest 1 ∷ [])).rules ≡ record { threshold = t; oldest = 1; pvalues = [] }
+taken_back t = refl
+
+no_later_release : (t : ℕ) → batch_refusal (first_release 1000000 t records) (Oldest 2 ∷ []) ≡ Some (kind.BadRelease, 1)
+no_later_release t = refl
+
+not_shown_again : (t : ℕ) → batch_refusal (first_release 1000000 t records) (Threshold 3 ∷ Oldest 1 ∷ Oldest 0 ∷ []) ≡ Some (kind.BadRelease, 3)
+not_shown_again t = refl

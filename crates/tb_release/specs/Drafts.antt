@@ -11,7 +11,8 @@ use Rattle.tb_pages.specs.Registers.{IsRegister}
 use Rattle.tb_pages.specs.Rooms.{AreFilledBy}
 use Rattle.tb_release.specs.declared.draft.Draft.{Draft}
 use Rattle.tb_release.specs.declared.edits.Edit.{Edit}
-use Rattle.tb_release.specs.declared.edits.Edit.TheVariants.{Add, Drop, Amend, Pvalue, Threshold}
+use Rattle.tb_release.specs.declared.edits.Edit.TheVariants.{Add, Drop, Amend, Pvalue}
+use Rattle.tb_release.specs.declared.edits.Edit.TheVariants.{Oldest, Threshold}
 use Rattle.tb_release.specs.declared.edits.BatchEntry.{BatchEntry}
 use Rattle.tb_release.specs.declared.limits.TheConstants.{MOST_RELEASES}
 use Rattle.tb_release.specs.Releases.{IsSound, registered}
@@ -68,3 +69,4 @@ CanSet release (Amend person sets) =
     ForSome (record_of release.records person) (λ r. HaveVariables sets r.codes)
 CanSet release (Pvalue row key pvalue) = MayBeSet row key pvalue
 CanSet release (Threshold value) = value ≤ MOST_THRESHOLD
+CanSet release (Oldest oldest) = Unit {0}

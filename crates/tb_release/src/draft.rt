@@ -14,7 +14,8 @@ ghost use Rattle.tb_release.specs.declared.limits.TheConstants.{MOST_RELEASES};
 ghost use Rattle.tb_release.specs.Drafts.{AreMade, CanSet, HaveVariables, IsDraft, IsDraftOf};
 ghost use Rattle.tb_release.specs.Drafts.{IsMade, release_of};
 ghost use Rattle.tb_release.specs.Laws.{EditFits};
-ghost use Rattle.tb_release.specs.Possible.{CanAdd, IsPossible, first_refusal, refusal};
+ghost use Rattle.tb_release.specs.Possible.{CanAdd, CanTakeBack, IsPossible, first_refusal};
+ghost use Rattle.tb_release.specs.Possible.{refusal};
 ghost use Rattle.tb_release.specs.Results.{IsWhy};
 
 use crate::batches::Batch;
@@ -133,6 +134,7 @@ impl Draft {
             Edit::Amend { person, sets: _ } => self.refusal_of_absent(*person),
             Edit::Pvalue { .. } => None,
             Edit::Threshold { .. } => None,
+            Edit::Oldest { release } => self.refusal_of_oldest(*release),
         }
     }
 
@@ -162,6 +164,16 @@ impl Draft {
         Some(EditFaultKind::NoSuchPerson)
     }
 
+    fn refusal_of_oldest(&self, release: u32) -> Option<EditFaultKind>
+        requires { IsDraft self.now }
+        ensures { result ≡ refusal (release_of self.now) (edits.Oldest release) }
+    {
+        if release < self.rules.oldest() || release > self.number + 1 {
+            return Some(EditFaultKind::BadRelease);
+        }
+        None
+    }
+
     // Makes an edit that is possible, and returns its entry in the batch.
     fn make(&mut self, alloc: Global, edit: &Edit) -> Result<BatchEntry, Memory>
         requires draft { IsDraft self.old }
@@ -176,6 +188,7 @@ impl Draft {
             Edit::Amend { person, sets } => self.amend(alloc, *person, sets),
             Edit::Pvalue { row, key, pvalue } => self.set_pvalue(*row, *key, *pvalue),
             Edit::Threshold { value } => self.set_threshold(*value),
+            Edit::Oldest { release } => self.set_oldest(*release),
         }
     }
 
@@ -198,6 +211,16 @@ impl Draft {
     {
         self.rules.set_threshold(value)?;
         Ok(BatchEntry::Rule(Edit::Threshold { value }))
+    }
+
+    // Takes back the releases before this one.
+    fn set_oldest(&mut self, release: u32) -> Result<BatchEntry, Memory>
+        requires draft { IsDraft self.old }
+        requires possible { CanTakeBack (release_of self.old) release }
+        ensures { IfOk result (λ entry. IsMade (edits.Oldest release) self.old self.new entry) }
+    {
+        self.rules.set_oldest(release)?;
+        Ok(BatchEntry::Rule(Edit::Oldest { release }))
     }
 
     // Puts a person's record last.

@@ -62,9 +62,10 @@ impl Release {
     }
 
     /// Release 0: these records, at most so many as there may be at any time, each put into the
-    /// pages after the other, no edit so far, and rules without a pvalue that was set. The list of
-    /// records is given up page by page, so that no second list of them all stands. It takes a
-    /// little memory for the pages, and to share the rules. One thread makes all pages.
+    /// pages after the other, no edit so far, and rules by which no release was taken back and no
+    /// pvalue set. The list of records is given up page by page, so that no second list of them all
+    /// stands. It takes a little memory for the pages, and to share the rules. One thread makes all
+    /// pages.
     pub fn first(
         alloc: Global,
         most: usize,
@@ -74,6 +75,7 @@ impl Release {
         requires few { length people ≤ most }
         requires within { most ≤ MOST_PERSONS }
         requires none_set { rules.pvalues ≡ [] }
+        requires all_shown { rules.oldest ≡ 0 }
         ensures { IfOk result (λ release. release ≡ first_release most rules.threshold people) }
     {
         let stock = Stock::first(alloc, people.into_list())?;
@@ -94,6 +96,7 @@ impl Release {
         requires few { length (flat_map (λ list. list.items) lists.items) ≤ most }
         requires within { most ≤ MOST_PERSONS }
         requires none_set { rules.pvalues ≡ [] }
+        requires all_shown { rules.oldest ≡ 0 }
         ensures { IfOk result (λ release. release
             ≡ first_release most rules.threshold (flat_map (λ list. list.items) lists.items)) }
     {

@@ -11,4 +11,4 @@ zero-requires g c =
 
 pub returns : goal.returns
 returns g c =
-    c.in_ok-first.ensures ∙ first_is c.args.most c.args.rules (flat_map (λ (list : Vec Record Global). list.items) c.args.lists.items) c.in_ok-stock.stock c.in_ok-stock.ensures c.requires.none_set
+    c.in_ok-first.ensures ∙ first_is c.args.most c.args.rules (flat_map (λ (list : Vec Record Global). list.items) c.args.lists.items) c.in_ok-stock.stock c.in_ok-stock.ensures c.requires.none_set c.requires.all_shown
