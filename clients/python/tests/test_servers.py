@@ -151,6 +151,7 @@ class Refusals(unittest.TestCase):
                 (lambda: session.set_pvalue(3, 64, -4), 2, "BadNumber"),
                 (lambda: session.set_pvalue(3, 256, 0), 2, "BadNumber"),
                 (lambda: session.set_threshold(1000001), 2, "BadNumber"),
+                (lambda: session.set_oldest(4294967296), 2, "BadNumber"),
             ]:
                 self.assertRefused(call, *fault)
 
@@ -254,6 +255,24 @@ class Custodians(unittest.TestCase):
             told = (caught.exception.number, caught.exception.word, caught.exception.position)
             self.assertEqual(told, (10, "NoSuchRelease", release + 2))
 
+    def test_a_release_that_is_taken_back(self):
+        with custodian() as session, analyst() as other:
+            release = session.stats().release
+            self.assertEqual(session.set_oldest(release + 1), 1)
+            self.assertEqual(other.table("SEX", at=release).counts, [1, 2])
+            self.assertEqual(session.publish(), release + 1)
+            with self.assertRaises(Refused) as caught:
+                other.table("SEX", at=release)
+            told = (caught.exception.number, caught.exception.word, caught.exception.position)
+            self.assertEqual(told, (11, "Withdrawn", release + 1))
+            table = other.table("SEX", at=release + 1)
+            self.assertEqual((table.release, table.counts), (release + 1, [1, 2]))
+            # None comes back.
+            session.set_oldest(release)
+            with self.assertRaises(Refused) as caught:
+                session.publish()
+            self.assertEqual((caught.exception.word, caught.exception.edit), ("BadRelease", 1))
+
     def test_kept_cubes(self):
         with custodian("NEW") as session, analyst("NEW") as other:
             session.cache(1)
@@ -336,8 +355,10 @@ class Descriptions(unittest.TestCase):
 
 class Scripts(unittest.TestCase):
     def test_the_command_writes_what_the_server_writes(self):
+        with custodian() as session:
+            release = session.stats().release
         lines = b"table SEX\n\n# none\ntable AREA by AGE2 with totals with labels\r\ntable FOO\n"
-        lines += b"at 0 table SEX where AGE in (0-15,16-64)\nat 9999 table SEX\ntable SEX"
+        lines += b"at %d table SEX where AGE in (0-15,16-64)\nat 9999 table SEX\ntable SEX" % release
         address = ("127.0.0.1", port_of("TWO_WORKERS") + 1)
         with socket.create_connection(address, 60) as session, session.makefile("rb") as replies:
             session.sendall(lines)

@@ -1,3 +1,6 @@
+// A page is copied where its count of references isn't 1; one that the draft copied is its own from
+// then on. No clause speaks of it.
+
 ghost use Rattle.std.specs.Prelude.{◌≡◌, ◌+◌, ◌<◌, ◌≤◌, ◌++◌, ◌∷◌, [], true, Some, IfOk, OnOk};
 ghost use Rattle.std.specs.Prelude.{flat_map, length, remove, slice_get, slice_index_or, slice_set};
 ghost use Rattle.std.specs.Arc.{arc_value};
@@ -17,7 +20,7 @@ use tb_base::{Memory, Piece, Record};
 use tb_model::PAGE_ROOM;
 
 /// How many pages have numbers.
-pub const PAGES: usize = 65_536;
+pub const PAGES: usize = 4_294_967_295;
 
 /// Records in pages that other lists of pages may share. A page keeps its number, from 0, and stays
 /// when it becomes empty.
@@ -177,12 +180,12 @@ impl Pages {
     }
 
     /// The number of the last page.
-    pub fn last(&self) -> u16
+    pub fn last(&self) -> u32
         requires some { 0 < length self.now }
         requires few { length self.now ≤ PAGES }
         ensures { length self.now ≡ result + 1 }
     {
-        (self.list.len() - 1) as u16
+        (self.list.len() - 1) as u32
     }
 
     /// The place in page `i` of the record of a person who has one there.

@@ -1,4 +1,7 @@
 // Whether records and edits fit a shape.
+//
+// A shape knows no key range: `next` takes an add with any key below the largest one. The text of
+// an edit is refused from the key range on, and the look-up reduces the sum.
 
 ghost use Rattle.std.specs.Prelude.{◌≡◌, ◌≤◌, ◌↔◌, ℕ, true, nat_le, nat_lt, All};
 ghost use Rattle.std.specs.List.{list_all};
@@ -65,6 +68,7 @@ pub fn edit_fits(shape: &Shape, edit: &Edit) -> bool
         Edit::Amend { person: _, sets } => sets_fit(shape, sets),
         Edit::Pvalue { row, key, pvalue } => may_be_set(*row, *key, *pvalue),
         Edit::Threshold { value } => is_threshold(*value),
+        Edit::Oldest { release: _ } => true,
     }
 }
 

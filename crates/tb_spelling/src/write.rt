@@ -1,4 +1,7 @@
 // Edits to bytes.
+//
+// That an edit's numbers fit their fields follows from their types, and is told as the elements are
+// read (`in_format`): so who calls `spell` need not show it.
 
 ghost use Rattle.std.specs.Prelude.{◌≡◌, ◌≤◌, ◌++◌, All, IfOk, OnOk, length};
 ghost use Rattle.std.specs.Int.{w16, to_be_bytes};
@@ -76,6 +79,11 @@ fn put_edit(out: &mut Vec<u8>, edit: &Edit) -> Result<(), Memory>
             out.extend_from_slice(&value.to_be_bytes())?;
             Ok(())
         }
+        Edit::Oldest { release } => {
+            out.push(6)?;
+            out.extend_from_slice(&release.to_be_bytes())?;
+            Ok(())
+        }
     }
 }
 
@@ -99,6 +107,7 @@ fn edit_len(edit: &Edit) -> usize
             pvalue: _,
         } => 7,
         Edit::Threshold { value: _ } => 5,
+        Edit::Oldest { release: _ } => 5,
     }
 }
 

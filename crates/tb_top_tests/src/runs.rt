@@ -8,7 +8,7 @@ use std::thread::Threads;
 use tb_base::Memory;
 use tb_small::{CLASSES, PEOPLE, PTABLE, WIDE_CLASSES};
 
-const SEX: &[u8] = b"release 0\nSEX,count\n1,1\n2,2\n.\n";
+pub const SEX: &[u8] = b"release 0\nSEX,count\n1,1\n2,2\n.\n";
 
 const USAGE: &[u8] = b"fault usage\n";
 
