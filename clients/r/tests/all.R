@@ -15,7 +15,11 @@ analyst <- function(server = "TWO_WORKERS", worker = 1) {
   tb_connect(port_of(server) + worker, timeout = 60)
 }
 custodian <- function(server = "TWO_WORKERS") tb_connect(port_of(server), timeout = 60)
-prepared <- function(timeout = 60) tb_connect(port_of("PREPARED"), timeout = timeout)
+prepared <- function(timeout = 60) {
+  # Each test has releases of its own.
+  tb_forget_releases()
+  tb_connect(port_of("PREPARED"), timeout = timeout)
+}
 older <- function() tb_connect(port_of("OLDER"), timeout = 60)
 
 expect <- function(got, wanted) {
@@ -374,6 +378,17 @@ server_tests <- list(
     fault_of("tb_memory", tb_table(session, "SEX"))
     expect(inherits(fault_of("tb_ended", tb_table(session, "WAIT")), "tb_busy"), FALSE)
   },
+  an_earlier_release_than_one_before = function() {
+    session <- prepared()
+    expect(attr(tb_table(session, "BACK"), "release"), 5)
+    fault <- fault_of("tb_older_release", tb_table(session, "BACK"))
+    expect(attr(fault$table, "release"), 4)
+    expect(fault$table$count, 2L)
+    expect(attr(tb_table(session, "BACK", at = 3), "release"), 3)
+    tb_forget_releases()
+    expect(attr(tb_table(session, "BACK"), "release"), 4)
+    tb_close(session)
+  },
   a_port_that_another_client_has = function() {
     session <- analyst()
     expect(tb_table(session, "SEX")$count, 1:2)
@@ -390,6 +405,7 @@ server_tests <- list(
     shuffled <- table[c(9, 4, 1, 7, 2, 8, 3, 6, 5), ]
     expect(shuffled[order(shuffled$AGE, shuffled$SEX), "count"], table$count)
     # Labels of which two are equal, and one is as the totals are.
+    tb_forget_releases()
     table <- tb_table(session, "AGE", totals = TRUE, labels = TRUE)
     expect(levels(table$AGE), c("same", "old", "Total"))
     expect(as.character(table$AGE), c("Total", "same", "same", "old", "Total"))
