@@ -343,7 +343,7 @@ def read_classes(path: str) -> Classes:
             codes.setdefault(variable, []).append(code)
         elif (number, code) == (1, "keys") and label in (str(SMALL_KEYS), str(LARGE_KEYS)):
             keys = int(label)
-        else:
+        elif code != "persons":  # which says how many persons there may be
             raise BadClasses(f"record {number} doesn't state the key range")
     return Classes(list(codes.items()), keys)
 

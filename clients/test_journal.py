@@ -21,7 +21,7 @@ PROGRAM = os.environ.get("TABLEBUILDER_PROGRAM")
 PORT = os.environ.get("TABLEBUILDER_NEW_PORT")
 
 CLASSES = b"variable,code,label\nSEX,1,Male\nSEX,2,Female\nAGE,0-15,a\nAGE,16-64,b\nAGE,65+,c\n"
-LARGE_CLASSES = CLASSES.replace(b"label\n", b"label\n*,keys,4096\n")
+LARGE_CLASSES = CLASSES.replace(b"label\n", b"label\n*,keys,4096\n*,persons,1000000\n")
 
 HEADER = bytes.fromhex("54 42 4a 4f 55 52 4e 31")
 GATE = bytes.fromhex("00")

@@ -13,22 +13,24 @@ use Rattle.tb_base.specs.declared.limits.TheConstants.{LEAST_PVALUE, MOST_PVALUE
 abbrev pub SetPvalue : Type 0
 SetPvalue = (ℕ × ℕ) × ℤ
 
--- the threshold, and the pvalues that were set, in ascending order of their places
+-- the threshold, the number of the oldest release that is shown, and the pvalues that were set, in
+-- ascending order of their places
 pub record RulesValue : Type 0 where
   pub threshold : ℕ
+  pub oldest : ℕ
   pub pvalues : List SetPvalue
 
--- rules with a threshold alone, and no pvalue that was set
+-- rules with a threshold alone: no release was taken back, and no pvalue set
 abbrev pub first_rules : ℕ → RulesValue
-first_rules threshold = record { threshold = threshold; pvalues = [] }
+first_rules threshold = record { threshold = threshold; oldest = 0; pvalues = [] }
 
 -- how rules are coded, for a type whose value holds them
 abbrev pub rules_code : Coded RulesValue
 rules_code =
-    code_by (ℕ × List SetPvalue)
-    (coded× coded_ℕ (coded_list (coded× (coded× coded_ℕ coded_ℕ) coded_ℤ)))
-    (λ r. (r.threshold, r.pvalues))
-    (λ p. record { threshold = p.0; pvalues = p.1 })
+    code_by (ℕ × (ℕ × List SetPvalue))
+    (coded× coded_ℕ (coded× coded_ℕ (coded_list (coded× (coded× coded_ℕ coded_ℕ) coded_ℤ))))
+    (λ r. (r.threshold, (r.oldest, r.pvalues)))
+    (λ p. record { threshold = p.0; oldest = p.1.0; pvalues = p.1.1 })
     (λ _. refl)
 
 -- a pvalue may be set at a row and a cell key: all three are in range, and it leaves no count
@@ -64,6 +66,10 @@ with_pvalue rules row key pvalue =
 -- rules with another threshold
 abbrev pub with_threshold : RulesValue → ℕ → RulesValue
 with_threshold rules value = record rules { threshold = value }
+
+-- rules by which the releases before this one are taken back
+abbrev pub with_oldest : RulesValue → ℕ → RulesValue
+with_oldest rules oldest = record rules { oldest = oldest }
 
 -- the test of what may be set: whether a pvalue may be set at a row and a cell key
 abbrev pub can_be_set : ℕ → ℕ → ℤ → Bool

@@ -3,7 +3,7 @@ ghost use Rattle.std.specs.List.Sorted.{IsStrictlySortedBy};
 ghost use Rattle.std.specs.Map.{keys_of};
 ghost use Rattle.tb_base.specs.declared.limits.TheConstants.{MOST_THRESHOLD};
 ghost use Rattle.tb_base.specs.Rules.{MayBeSet, can_be_set, first_rules, place_order};
-ghost use Rattle.tb_base.specs.Rules.{pvalue_set, with_pvalue, with_threshold};
+ghost use Rattle.tb_base.specs.Rules.{pvalue_set, with_oldest, with_pvalue, with_threshold};
 
 use crate::keys::MOST_KEYS;
 use crate::limits::{LAST_ROW, LEAST_PVALUE, MOST_PVALUE};
@@ -13,13 +13,15 @@ use std::collections::BTreeMap;
 use std::marker::Model;
 
 /// The rules by which a release is shown: the threshold, below which no perturbed count is shown,
-/// and the pvalues that were set, each at a row and a cell key, in ascending order of these.
+/// the number of the oldest release that is shown, and the pvalues that were set, each at a row and
+/// a cell key, in ascending order of these.
 ///
-/// They are seen as both. A row is 1 to `LAST_ROW`, a cell key is below `MOST_KEYS`, and a pvalue
-/// is `LEAST_PVALUE` to `MOST_PVALUE` and leaves no count negative.
+/// They are seen as these three. A row is 1 to `LAST_ROW`, a cell key is below `MOST_KEYS`, and a
+/// pvalue is `LEAST_PVALUE` to `MOST_PVALUE` and leaves no count negative.
 #[derive(Drop)]
 pub struct Rules {
     threshold: u32,
+    oldest: u32,
     pvalues: BTreeMap<(u16, u16), i16>,
 }
 
@@ -31,18 +33,20 @@ impl Model for Rules {
 
     ghost coded = { rules_code };
 
-    ghost view = { λ r. record { threshold = r.threshold; pvalues = r.pvalues.entries } };
+    ghost view = { λ r.
+        record { threshold = r.threshold; oldest = r.oldest; pvalues = r.pvalues.entries } };
 
     ghost invariant = { λ r. AreSet r.pvalues.entries };
 }
 
 impl Rules {
-    /// Rules with this threshold, and no pvalue that was set. It takes no memory.
+    /// Rules with this threshold: no release was taken back, and no pvalue set. It takes no memory.
     pub fn new(alloc: Global, threshold: u32) -> Rules
         ensures { result ≡ first_rules threshold }
     {
         Rules {
             threshold,
+            oldest: 0,
             pvalues: BTreeMap::new(alloc),
         }
     }
@@ -52,6 +56,14 @@ impl Rules {
         ensures { result ≡ self.now.threshold }
     {
         self.threshold
+    }
+
+    /// The number of the oldest release that is shown: those before it were taken back. It takes no
+    /// memory.
+    pub fn oldest(&self) -> u32
+        ensures { result ≡ self.now.oldest }
+    {
+        self.oldest
     }
 
     /// The pvalue that was set at a row and a cell key, if one was. It takes no memory.
@@ -89,12 +101,20 @@ impl Rules {
         self.threshold = value;
     }
 
+    /// Takes back the releases before this one. It takes no memory.
+    pub fn set_oldest(&mut self, oldest: u32)
+        ensures { self.new ≡ with_oldest self.old oldest }
+    {
+        self.oldest = oldest;
+    }
+
     /// Equal rules. It takes memory for each pvalue.
     pub fn copy(&self) -> Result<Rules, Memory>
         ensures { IfOk result (λ rules. rules ≡ self.now) }
     {
         Ok(Rules {
             threshold: self.threshold,
+            oldest: self.oldest,
             pvalues: self.pvalues.clone()?,
         })
     }

@@ -27,6 +27,7 @@ blank_start =
         records = [];
         pages = [];
         key_book = finmap.from_entries [];
+        most = 0;
         number = 0;
         changes = 0;
         edits = 0;

@@ -93,7 +93,7 @@ pub(crate) fn first(alloc: Global, schema: &Schema, people: People) -> Result<Re
     if people.len() > MOST_PERSONS {
         return Err(Memory);
     }
-    let release = Release::first(alloc, people, Rules::new(alloc, 0))?;
+    let release = Release::first(alloc, MOST_PERSONS, people, Rules::new(alloc, 0))?;
     Ok(release)
 }
 

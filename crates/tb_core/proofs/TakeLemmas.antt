@@ -18,6 +18,7 @@ use Rattle.tb_model.specs.Cubes.{cube_of}
 use Rattle.tb_model.specs.Releases.{ReleaseValue}
 use Rattle.tb_release.specs.Batches.{BatchValue}
 use Rattle.tb_release.specs.Chains.{change_count, release_after}
+use Rattle.tb_release.proofs.FewRecords.{few_persons}
 use Rattle.tb_core.specs.Advancing.{CanAdvanceAlong}
 use Rattle.tb_core.specs.Desks.{DeskValue, HasCube, IsCubeAt, IsSound, current_of, release_at}
 use Rattle.tb_core.specs.Got.{is_new, is_own}
@@ -127,7 +128,7 @@ module _ (shape : List ℕ) (base : ReleaseValue) (chain : List BatchValue) (var
       let records : List Record = (release_at base chain hit.number).records in
       let fit = subst (λ (c : CubeValue). AllFit c.shape records) (sym same) (fit_found hit is) in
       let held = subst (λ (c : CubeValue). Holds c records) (sym same) (held_found hit is) in
-      (records, fit, held, (release_found hit is).sound.few)
+      (records, fit, held, few_persons (release_at base chain hit.number) (release_found hit is).sound)
 
   pub few_cells : (hit : Hit) (cube : CubeValue) → taken.hit ≡ Some hit → cube ≡ arc_value hit.cube → HasCube shape vars → cell_count cube.shape vars ≤ MOST_CELLS
   few_cells hit cube is same has = subst (λ (s : List ℕ). cell_count s vars ≤ MOST_CELLS) (sym (ap (λ (c : CubeValue). c.shape) same ∙ shape_found hit is)) has.few

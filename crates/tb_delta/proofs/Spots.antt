@@ -7,12 +7,13 @@ use Rattle.tb_base.specs.declared.records.Record.{Record}
 use Rattle.tb_model.specs.Releases.{ReleaseValue}
 use Rattle.tb_release.specs.declared.edits.Change.{Change}
 use Rattle.tb_release.specs.declared.edits.Edit.{Edit}
-use Rattle.tb_release.specs.declared.edits.Edit.TheVariants.{Add, Drop, Amend, Pvalue, Threshold}
+use Rattle.tb_release.specs.declared.edits.Edit.TheVariants.{Add, Drop, Amend, Pvalue, Threshold, Oldest}
 use Rattle.tb_release.specs.Releases.{IsSound}
 use Rattle.tb_release.specs.Edits.{amended, edited, is_of_rules}
 use Rattle.tb_release.specs.Possible.{IsPossible}
 use Rattle.tb_release.specs.Batches.{change_of}
 use Rattle.tb_release.proofs.Persons.{Stands, stands, found, dropped, replaced}
+use Rattle.tb_release.proofs.FewRecords.{few_persons, room_for_one}
 use Rattle.tb_release.proofs.Edited.{change_of-add, change_of-drop, change_of-amend}
 
 -- the record after a change stands in the place of the one before it, and there is room for it
@@ -41,7 +42,7 @@ fewer {person} {records} {r} s few =
 pub spot : (release : ReleaseValue) (edit : Edit) → is_of_rules edit ≡ false → IsSound release → IsPossible release edit → Spot release.records (edited release edit).records (change_of release edit)
 spot release (Add person key codes) of sound can =
     let new : Record = record { person = person; key = key; codes = codes } in
-    subst (Spot release.records (release.records ++ new ∷ [])) (sym (change_of-add release person key codes can.new)) (added person new release.records can.room)
+    subst (Spot release.records (release.records ++ new ∷ [])) (sym (change_of-add release person key codes can.new)) (added person new release.records (room_for_one release person key sound can))
 spot release (Drop person) of sound can =
     let r = found person release.records can in
     let s = stands person release.records r.0 sound.distinct r.1 in
@@ -50,7 +51,7 @@ spot release (Drop person) of sound can =
       rest = s.after;
       before = s.split;
       after = dropped s;
-      few = fewer s sound.few;
+      few = fewer s (few_persons release sound);
     })
 spot release (Amend person sets) of sound can =
     let r = found person release.records can in
@@ -60,7 +61,8 @@ spot release (Amend person sets) of sound can =
       rest = s.after;
       before = s.split;
       after = replaced (amended sets) s;
-      few = fewer s sound.few;
+      few = fewer s (few_persons release sound);
     })
 spot release (Pvalue row key pvalue) of sound can = cc
 spot release (Threshold value) of sound can = cc
+spot release (Oldest oldest) of sound can = cc

@@ -6,7 +6,7 @@ use Rattle.tb_model.specs.Releases.{ReleaseValue}
 use Rattle.tb_cube.specs.Cubes.{cube_over, CubeValue}
 use Rattle.tb_release.specs.declared.edits.Change.{Change}
 use Rattle.tb_release.specs.declared.edits.Edit.{Edit}
-use Rattle.tb_release.specs.declared.edits.Edit.TheVariants.{Add, Drop, Amend, Pvalue, Threshold}
+use Rattle.tb_release.specs.declared.edits.Edit.TheVariants.{Add, Drop, Amend, Pvalue, Threshold, Oldest}
 use Rattle.tb_release.specs.Releases.{IsSound}
 use Rattle.tb_release.specs.Edits.{edited, edited_rules, is_of_rules}
 use Rattle.tb_release.specs.Possible.{ArePossible}
@@ -93,6 +93,9 @@ step_of start release batch change more cube now (Pvalue row key pvalue ∷ edit
 step_of start release batch change more cube now (Threshold value ∷ edits) there fits sound possible theirs are leads =
     step_of start release batch change more cube (edited now (Threshold value)) edits there fits (sound_after now (Threshold value) possible.0 sound) possible.1 theirs are
     (same_records now (edited_rules now.rules (Threshold value)) (change ∷ more) ∙ leads)
+step_of start release batch change more cube now (Oldest oldest ∷ edits) there fits sound possible theirs are leads =
+    step_of start release batch change more cube (edited now (Oldest oldest)) edits there fits (sound_after now (Oldest oldest) possible.0 sound) possible.1 theirs are
+    (same_records now (edited_rules now.rules (Oldest oldest)) (change ∷ more) ∙ leads)
 
 -- the step at a place of the batch, whose changes stand in a list
 pub step : (start : CubeValue) (release : ReleaseValue) (batch : BatchValue) (list : List Change) (i : ℕ) (change : Change) (cube : CubeValue)

@@ -2,7 +2,6 @@
 
 ghost use Rattle.std.specs.Prelude.{◌≤◌, flat_map, length};
 ghost use Rattle.tb_base.specs.Persons.{AreDistinct};
-ghost use Rattle.tb_base.specs.declared.people.TheConstants.{MOST_PERSONS};
 
 use crate::accepted::{Person, are_people};
 use crate::faults::{ACCEPTED, Told, people_fault};
@@ -325,12 +324,14 @@ fn parts_of_long_files(rt: HostRuntime) {
 fn first_in(
     rt: &(impl Threads + Sync),
     alloc: Global,
+    schema: &Schema,
     lists: Vec<Vec<Record>>,
 ) -> Result<(usize, usize), PeopleFault>
     requires distinct { AreDistinct (flat_map (λ list. list.items) lists.items) }
-    requires few { length (flat_map (λ list. list.items) lists.items) ≤ MOST_PERSONS }
+    requires few { length (flat_map (λ list. list.items) lists.items) ≤ schema.now.persons }
 {
-    let release = Release::first_in_parts(rt, alloc, lists, Rules::new(alloc, 0))?;
+    let most = schema.persons();
+    let release = Release::first_in_parts(rt, alloc, most, lists, Rules::new(alloc, 0))?;
     Ok((release.len(), release.pages()))
 }
 
@@ -343,7 +344,7 @@ fn first_over(
     parts: usize,
 ) -> Result<(usize, usize), PeopleFault> {
     let lists = read_people_in(rt, alloc, schema, file, parts)?;
-    first_in(rt, alloc, lists)
+    first_in(rt, alloc, schema, lists)
 }
 
 // How many records and pages release 0 has of a file that is read in at most so many parts.

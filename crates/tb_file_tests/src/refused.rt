@@ -87,6 +87,68 @@ static KEY_ROWS: [Row; 11] = [
     ),
 ];
 
+// The record that states the limit of persons: no number, none from 1 to the most, twice, behind a
+// category, without a label; another code; and accepted ones before a later fault.
+static PERSON_ROWS: [Row; 15] = [
+    (File::Classes, b"*,persons,0\n", 14, "BadPersons", 1),
+    (File::Classes, b"*,persons,100000001\n", 14, "BadPersons", 1),
+    (File::Classes, b"*,persons,x\n", 14, "BadPersons", 1),
+    (File::Classes, b"*,persons,\n", 14, "BadPersons", 1),
+    (File::Classes, b"*,persons, 4\n", 14, "BadPersons", 1),
+    (
+        File::Classes,
+        b"*,persons,4\n*,persons,4\n",
+        14,
+        "BadPersons",
+        2,
+    ),
+    (
+        File::Classes,
+        b"*,keys,256\n*,persons,0\n",
+        14,
+        "BadPersons",
+        2,
+    ),
+    (
+        File::Classes,
+        b"A,1,a\n*,persons,4\n",
+        14,
+        "BadPersons",
+        2,
+    ),
+    (
+        File::Classes,
+        b"*,persons,4\n*,keys,256\n",
+        13,
+        "BadKeys",
+        2,
+    ),
+    (File::Classes, b"*,Persons,4\n", 13, "BadKeys", 1),
+    (File::Classes, b"*,persons\n", 10, "BadCsv", 1),
+    (File::Classes, b"**,persons,4\n", 2, "BadName", 1),
+    (
+        File::Classes,
+        b"*,persons,1\nby,1,b\n",
+        2,
+        "BadName",
+        2,
+    ),
+    (
+        File::Classes,
+        b"*,persons,100000000\nby,1,b\n",
+        2,
+        "BadName",
+        2,
+    ),
+    (
+        File::Classes,
+        b"*,keys,4096\n*,persons,0000000100\nby,1,b\n",
+        2,
+        "BadName",
+        3,
+    ),
+];
+
 static RECODE_ROWS: [Row; 14] = [
     (
         File::Recodes,
@@ -261,6 +323,10 @@ fn key_rows() -> &'static [Row] {
     &KEY_ROWS
 }
 
+fn person_rows() -> &'static [Row] {
+    &PERSON_ROWS
+}
+
 fn recode_rows() -> &'static [Row] {
     &RECODE_ROWS
 }
@@ -300,6 +366,7 @@ fn first_faults(rt: HostRuntime) -> Result<(), Fail> {
     let tables = [
         class_rows(),
         key_rows(),
+        person_rows(),
         recode_rows(),
         ptable_rows(),
         people_rows(),

@@ -19,7 +19,7 @@ shape = 2 ∷ 3 ∷ 2 ∷ []
 
 -- a follower at release 0 with a threshold
 abbrev at_first : ℕ → FollowerValue
-at_first t = at_base shape (first_release t records)
+at_first t = at_base shape (first_release 1000000 t records)
 
 abbrev message : ℕ → Edit → Message
 message number edit = record { number = number; edits = edit ∷ [] }
@@ -33,7 +33,7 @@ two = message 2 (Add 105 30 (1 ∷ 0 ∷ 1 ∷ []))
 
 -- that of release 2 comes first, and waits; that of release 1 leads to both
 abbrev waiting : ℕ → FollowerValue
-waiting t = follower (first_chain shape (first_release t records)) (two ∷ [])
+waiting t = follower (first_chain shape (first_release 1000000 t records)) (two ∷ [])
 
 two_waits : (t : ℕ) → given 2 (at_first t) two ≡ record { follower = waiting t; answer = delivered.Kept 0 }
 two_waits t = refl
@@ -78,7 +78,7 @@ abbrev batch : BatchValue
 batch = record { changes = []; rule_edits = [] }
 
 abbrev at_two : ℕ → List Message → FollowerValue
-at_two t window = follower (record { shape = shape; base = first_release t records; batches = batch ∷ batch ∷ [] }) window
+at_two t window = follower (record { shape = shape; base = first_release 1000000 t records; batches = batch ∷ batch ∷ [] }) window
 
 one_is_old : (t : ℕ) → given 2 (at_two t []) one ≡ record { follower = at_two t []; answer = delivered.Old 2 }
 one_is_old t = refl

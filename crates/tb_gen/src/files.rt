@@ -1,7 +1,7 @@
 // The generated files.
 
 ghost use Rattle.std.specs.Prelude.{◌≡◌, ◌≤◌, IfOk};
-ghost use Rattle.tb_base.specs.declared.people.TheConstants.{MOST_PERSONS};
+ghost use Rattle.tb_gen.specs.declared.limits.TheConstants.{MOST_GENERATED};
 ghost use Rattle.tb_gen.specs.Generated.{generated_classes, generated_recodes};
 ghost use Rattle.tb_gen.specs.Generated.{generated_ptable, generated_people, generated_script};
 
@@ -31,7 +31,7 @@ pub struct GenFiles {
 /// same two numbers give the same bytes. It takes the memory of the files, some 24 bytes a person
 /// and 2 MiB.
 pub fn files_of(alloc: Global, n: u32, start: u32) -> Result<GenFiles, Memory>
-    requires { (1 ≤ n) × (n ≤ MOST_PERSONS) }
+    requires { (1 ≤ n) × (n ≤ MOST_GENERATED) }
     ensures classes { IfOk result (λ files. files.classes.items ≡ generated_classes) }
     ensures recodes { IfOk result (λ files. files.recodes.items ≡ generated_recodes) }
     ensures ptable { IfOk result (λ files. files.ptable.items ≡ generated_ptable start) }

@@ -15,6 +15,7 @@ mod classes;
 mod draws;
 mod files;
 mod heading;
+mod limits;
 mod line;
 mod people;
 mod ptable;
@@ -22,4 +23,5 @@ mod script;
 mod variables;
 
 pub use files::{GenFiles, files_of};
+pub use limits::MOST_GENERATED;
 pub use variables::Variable;

@@ -1,7 +1,7 @@
 // The microdata.
 
 ghost use Rattle.std.specs.Prelude.{◌≡◌, ◌≤◌, ◌++◌, IfOk, OnOk};
-ghost use Rattle.tb_base.specs.declared.people.TheConstants.{MOST_PERSONS};
+ghost use Rattle.tb_gen.specs.declared.limits.TheConstants.{MOST_GENERATED};
 ghost use Rattle.tb_gen.specs.Draws.{after};
 ghost use Rattle.tb_gen.specs.Generated.{person_line, generated_people};
 
@@ -44,7 +44,7 @@ fn add_person(file: &mut Vec<u8>, person: u32, draws: &mut Draws) -> Result<(), 
 
 /// The microdata of so many persons.
 pub(crate) fn people_file(alloc: Global, n: u32, start: u32) -> Result<Vec<u8>, Memory>
-    requires { n ≤ MOST_PERSONS }
+    requires { n ≤ MOST_GENERATED }
     ensures { IfOk result (λ file. file.items ≡ generated_people n start) }
 {
     let mut file = headed(alloc, HEADER, HEADER.len() + n as usize * LONGEST)?;

@@ -1,7 +1,7 @@
 // The script.
 
 ghost use Rattle.std.specs.Prelude.{◌≡◌, ◌≤◌, ◌<◌, ◌++◌, IfOk, OnOk};
-ghost use Rattle.tb_base.specs.declared.people.TheConstants.{MOST_PERSONS};
+ghost use Rattle.tb_gen.specs.declared.limits.TheConstants.{MOST_GENERATED};
 ghost use Rattle.tb_gen.specs.Draws.{after};
 ghost use Rattle.tb_gen.specs.Generated.{amend_line, amend_lines, round_lines};
 ghost use Rattle.tb_gen.specs.Generated.{generated_script};
@@ -27,7 +27,7 @@ const LONGEST: usize = 33;
 
 // Adds a line that amends one of n persons.
 fn add_amend(file: &mut Vec<u8>, n: u32, draws: &mut Draws) -> Result<(), Memory>
-    requires { (1 ≤ n) × (n ≤ MOST_PERSONS) }
+    requires { (1 ≤ n) × (n ≤ MOST_GENERATED) }
     ensures line { OnOk result (file.new.items ≡ file.old.items ++ amend_line n draws.old) }
     ensures draws { draws.new ≡ after 2 draws.old }
 {
@@ -43,7 +43,7 @@ fn add_amend(file: &mut Vec<u8>, n: u32, draws: &mut Draws) -> Result<(), Memory
 
 // Adds the lines of so many amends.
 fn add_amends(file: &mut Vec<u8>, n: u32, draws: &mut Draws) -> Result<(), Memory>
-    requires { (1 ≤ n) × (n ≤ MOST_PERSONS) }
+    requires { (1 ≤ n) × (n ≤ MOST_GENERATED) }
     ensures lines { OnOk result (file.new.items ≡ file.old.items ++ amend_lines n draws.old) }
     ensures draws { OnOk result (draws.new ≡ after 100 draws.old) }
 {
@@ -55,7 +55,7 @@ fn add_amends(file: &mut Vec<u8>, n: u32, draws: &mut Draws) -> Result<(), Memor
 
 // Adds the lines of a round.
 fn add_round(file: &mut Vec<u8>, n: u32, draws: &mut Draws) -> Result<(), Memory>
-    requires { (1 ≤ n) × (n ≤ MOST_PERSONS) }
+    requires { (1 ≤ n) × (n ≤ MOST_GENERATED) }
     ensures lines { OnOk result (file.new.items ≡ file.old.items ++ round_lines n draws.old) }
     ensures draws { OnOk result (draws.new ≡ after 100 draws.old) }
 {
@@ -67,7 +67,7 @@ fn add_round(file: &mut Vec<u8>, n: u32, draws: &mut Draws) -> Result<(), Memory
 
 /// The script over so many persons.
 pub(crate) fn script_file(alloc: Global, n: u32, start: u32) -> Result<Vec<u8>, Memory>
-    requires { (1 ≤ n) × (n ≤ MOST_PERSONS) }
+    requires { (1 ≤ n) × (n ≤ MOST_GENERATED) }
     ensures { IfOk result (λ file. file.items ≡ generated_script n start) }
 {
     let longest_round = TABLES.len() + AMENDS as usize * LONGEST + PUBLISH.len();

@@ -14,6 +14,7 @@ use Rattle.tb_gen_laws.specs.Classification.{IsGeneratedSchema, codes_of, variab
 use Rattle.tb_gen_laws.specs.Ranges.{list_below}
 use Rattle.tb_model.specs.Schemas.{CategoryValue, RecodeValue, SchemaValue, VariableValue}
 use Rattle.tb_schema.specs.Classes.{classes_of}
+use Rattle.tb_schema.specs.declared.limits.TheConstants.{MOST_UNSTATED}
 use Rattle.tb_rows.specs.Formats.{and_then}
 use Rattle.tb_schema.specs.Recodes.{recodes_of, schema_of, with_recodes_of}
 
@@ -43,10 +44,10 @@ decades = record {
 
 -- without recodes, and with them
 abbrev plain_schema : SchemaValue
-plain_schema = record { keys = K256; variables = said; recodes = [] }
+plain_schema = record { keys = K256; persons = MOST_UNSTATED; variables = said; recodes = [] }
 
 abbrev pub whole_schema : SchemaValue
-whole_schema = record { keys = K256; variables = said; recodes = decades ∷ [] }
+whole_schema = record { keys = K256; persons = MOST_UNSTATED; variables = said; recodes = decades ∷ [] }
 
 classes-say : classes_of generated_classes ≡ Ok plain_schema
 unfolding texts_on_literals
@@ -63,7 +64,7 @@ schema-said =
 
 pub schema-is : IsGeneratedSchema whole_schema
 unfolding list_below digits
-schema-is = record { key_range = refl; name_list = refl; code_lists = refl }
+schema-is = record { key_range = refl; limit = refl; name_list = refl; code_lists = refl }
 
 pub classes-short : length generated_classes ≡ 2363
 unfolding texts_on_literals

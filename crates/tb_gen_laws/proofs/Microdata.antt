@@ -6,7 +6,7 @@ use Rattle.std.proofs.lemmas.List.FromFn.{length-map-range_with_len}
 use Rattle.tb_base.specs.Lists.{all_some}
 use Rattle.tb_base.specs.Persons.{AreDistinct, has_person}
 use Rattle.tb_base.specs.declared.keys.Keys.TheVariants.{K256}
-use Rattle.tb_base.specs.declared.people.TheConstants.{MOST_PERSONS}
+use Rattle.tb_gen.specs.declared.limits.TheConstants.{MOST_GENERATED}
 use Rattle.tb_base.specs.declared.records.Record.{Record}
 use Rattle.tb_gen.specs.Draws.{after, draw}
 use Rattle.tb_gen.specs.Generated.{generated_people, person_line}
@@ -119,7 +119,7 @@ distinct : (start a n : ℕ) → AreDistinct (map (record_at start) (range_with_
 distinct start a zero = tt
 distinct start a (suc n) = (later start (a + 1) (a + 1) n (omega arith), distinct start (a + 1) n)
 
-module _ (n start : ℕ) (few : n ≤ MOST_PERSONS) where
+module _ (n start : ℕ) (few : n ≤ MOST_GENERATED) where
   lines : AreLines (each_below n (λ i. person_line (i + 1) (after (5 * i) start))) (row_each n (row_of start))
   lines = line-each n (row_of start) (λ i below. is-row (i + 1) (after (5 * i) start) (omega (arith, below, few)))
 
@@ -132,11 +132,11 @@ module _ (n start : ℕ) (few : n ≤ MOST_PERSONS) where
   unfolding row_each list_below
   people-accepted schema is =
       let file : IsFile (people_file schema) (generated_people n start) 6 indices (row_each n (row_of start)) = (header, records-are, refl, columns-found schema is) in
-      let are : AreAccepted (people_file schema) ArePeople 6 indices (row_each n (row_of start)) (generated_records n start) (generated_records n start) = record {
+      let are : AreAccepted (people_file schema) (ArePeople schema.persons) 6 indices (row_each n (row_of start)) (generated_records n start) (generated_records n start) = record {
         each = each-read schema is start 0 n (omega (arith, few));
-        together = ((distinct start 0 n, omega (arith, few, length-map-range_with_len (record_at start) 0 n)), refl);
+        together = ((distinct start 0 n, omega (arith, few, is.limit, length-map-range_with_len (record_at start) 0 n)), refl);
       } in
-      (accepted_where (people_file schema) ArePeople (are_people schema) (generated_people n start) (generated_records n start)).1
+      (accepted_where (people_file schema) (ArePeople schema.persons) (are_people schema) (generated_people n start) (generated_records n start)).1
       (6, indices, row_each n (row_of start), generated_records n start, generated_records n start, file, are, refl)
 
   -- 1,000,000 lines of 73 bytes, and the header

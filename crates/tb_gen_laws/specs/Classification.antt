@@ -6,6 +6,7 @@ use Rattle.tb_gen.specs.declared.variables.Variable.{Variable}
 use Rattle.tb_gen.specs.declared.variables.Variable.TheVariants.{Area, Age, Sex, Tenure}
 use Rattle.tb_gen_laws.specs.Ranges.{list_below}
 use Rattle.tb_model.specs.Schemas.{SchemaValue}
+use Rattle.tb_schema.specs.declared.limits.TheConstants.{MOST_UNSTATED}
 use Rattle.tb_schema.specs.Names.{category_codes, variable_names}
 
 -- the variables, in their order
@@ -20,5 +21,6 @@ codes_of variable = list_below (categories_of variable) (code_of variable)
 -- categories' codes in their order. Labels and recodes may be any.
 pub record IsGeneratedSchema (schema : SchemaValue) : Type 0 where
   pub key_range : schema.keys ≡ K256
+  pub limit : schema.persons ≡ MOST_UNSTATED
   pub name_list : variable_names schema.variables ≡ map name_of variables
   pub code_lists : map category_codes schema.variables ≡ map codes_of variables

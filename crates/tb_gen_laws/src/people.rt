@@ -2,7 +2,7 @@
 //! law.
 
 ghost use Rattle.std.specs.Prelude.{◌≡◌, ◌≤◌, ℕ, Ok, length};
-ghost use Rattle.tb_base.specs.declared.people.TheConstants.{MOST_PERSONS};
+ghost use Rattle.tb_gen.specs.declared.limits.TheConstants.{MOST_GENERATED};
 ghost use Rattle.tb_gen.specs.Generated.{generated_people};
 ghost use Rattle.tb_gen_laws.specs.Classification.{IsGeneratedSchema};
 ghost use Rattle.tb_gen_laws.specs.People.{generated_records};
@@ -13,8 +13,8 @@ ghost use Rattle.tb_records.specs.People.{people_of};
 /// person, by its draws. It is no longer than a file may be (`MOST_BYTES` of `tb_top`).
 pub fn generated_people_are_accepted()
     ensures accepted { (schema : SchemaValue) (n start : ℕ) →
-        IsGeneratedSchema schema → n ≤ MOST_PERSONS →
+        IsGeneratedSchema schema → n ≤ MOST_GENERATED →
         people_of schema (generated_people n start) ≡ Ok (generated_records n start) }
     ensures short { (n start : ℕ) →
-        n ≤ MOST_PERSONS → length (generated_people n start) ≤ 268435456 }
+        n ≤ MOST_GENERATED → length (generated_people n start) ≤ 268435456 }
 {}

@@ -7,7 +7,7 @@ use Rattle.std.proofs.lemmas.List.Elements.{All-from_recursion, recursion_from_A
 use Rattle.tb_base.specs.declared.keys.Keys.{Keys}
 use Rattle.tb_base.specs.Keys.{key_range}
 use Rattle.tb_release.specs.declared.edits.Edit.{Edit}
-use Rattle.tb_release.specs.declared.edits.Edit.TheVariants.{Add, Drop, Amend, Pvalue, Threshold}
+use Rattle.tb_release.specs.declared.edits.Edit.TheVariants.{Add, Drop, Amend, Pvalue, Threshold, Oldest}
 use Rattle.tb_release.specs.Fitting.{edits_fit}
 use Rattle.tb_release.proofs.FitTests.{all_back, all_told, fit_is_told}
 use Rattle.tb_journal.specs.Fitting.{FitsSetup, IsInRange, is_in_range}
@@ -20,6 +20,7 @@ range-told keys (Drop person) h = ltb-true 0 person h
 range-told keys (Amend person sets) h = ltb-true 0 person h
 range-told keys (Pvalue row key pvalue) h = ltb-true key (key_range keys) h
 range-told keys (Threshold value) h = tt
+range-told keys (Oldest oldest) h = tt
 
 range-back : (keys : Keys) (e : Edit) → IsInRange keys e → is_in_range keys e ≡ true
 range-back keys (Add person key codes) h = and_from (nat_lt 0 person) (nat_lt key (key_range keys)) (lt-ltb 0 person h.0) (lt-ltb key (key_range keys) h.1)
@@ -27,6 +28,7 @@ range-back keys (Drop person) h = lt-ltb 0 person h
 range-back keys (Amend person sets) h = lt-ltb 0 person h
 range-back keys (Pvalue row key pvalue) h = lt-ltb key (key_range keys) h
 range-back keys (Threshold value) h = refl
+range-back keys (Oldest oldest) h = refl
 
 -- both tests of edits, and what they tell
 pub fits-told : (shape : List ℕ) (keys : Keys) (edits : List Edit) → edits_fit shape edits ≡ true → list_all (is_in_range keys) edits ≡ true → All (FitsSetup shape keys) edits

@@ -45,5 +45,6 @@ fn is_in_range(keys: Keys, edit: &Edit) -> bool
             pvalue: _,
         } => *key < keys.size(),
         Edit::Threshold { value: _ } => true,
+        Edit::Oldest { release: _ } => true,
     }
 }

@@ -13,7 +13,7 @@ use Rattle.tb_release.specs.declared.edits.Edit.{Edit}
 use Rattle.tb_revise.specs.declared.fault.EditTextFault.{EditTextFault}
 use Rattle.tb_revise.specs.declared.fault.EditTextFault.TheVariants as faults
 use Rattle.tb_revise.specs.Faults.{Reads, has_bad_number, has_unknown_code, has_unknown_name, refusal, sets_twice, settings_refusal}
-use Rattle.tb_revise.specs.Grammar.{HasEnough, HasSome, NamedSetting, NamedEdit, NamedAdd, NamedDrop, NamedAmend, NamedPvalue, NamedThreshold}
+use Rattle.tb_revise.specs.Grammar.{HasEnough, HasSome, NamedSetting, NamedEdit, NamedAdd, NamedDrop, NamedAmend, NamedPvalue, NamedThreshold, NamedOldest}
 use Rattle.tb_revise.specs.Meanings.{category_set, edit_meant, sets_meant}
 use Rattle.tb_revise.proofs.Fitting.{read_edits_fit}
 use Rattle.tb_spelling.specs.declared.limits.TheConstants.{MOST_PARTS}
@@ -84,6 +84,7 @@ meant-writable schema (NamedAmend person ss) few h enough fits =
     )
 meant-writable schema (NamedPvalue row key pvalue) few h enough fits = tt
 meant-writable schema (NamedThreshold value) few h enough fits = tt
+meant-writable schema (NamedOldest release) few h enough fits = tt
 
 pub can_be_written : (schema : SchemaValue) (line : List ℕ) (edit : Edit) → length schema.variables ≤ MOST_PARTS → Reads schema line edit → CanBeWritten edit
 can_be_written schema line edit few h =

@@ -21,6 +21,7 @@ person number key codes' = record { person = number; key = key; codes = codes' }
 abbrev pub schema : SchemaValue
 schema = record {
   keys = K256;
+  persons = 1000000;
   variables =
       record { name = codes "SEX"; categories = category (codes "1") (codes "Male") ∷ category (codes "2") (codes "Female") ∷ [] }
       ∷ record { name = codes "AGE"; categories = category (codes "0-15") (codes "Under 16") ∷ category (codes "16-64") (codes "Working age") ∷ category (codes "65+") (codes "65 and over") ∷ [] }

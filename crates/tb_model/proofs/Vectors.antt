@@ -13,7 +13,7 @@ use Rattle.tb_model.proofs.OnLiterals.{tables_on_literals}
 
 -- the table at release 0, above a threshold
 abbrev printed : ℕ → QueryValue → List ℕ
-printed threshold query = table_text (setup lines) (first_release threshold records) query
+printed threshold query = table_text (setup lines) (first_release 1000000 threshold records) query
 
 one_variable : printed 0 (table (sex ∷ [])) ≡ codes "release 0\nSEX,count\n1,1\n2,2\n.\n"
 unfolding tables_on_literals
@@ -43,17 +43,17 @@ labels_with_commas : printed 0 (with_labels (with_totals (table (area ∷ sex �
 unfolding tables_on_literals
 labels_with_commas = refl
 
-no_records : table_text (setup lines) (first_release 0 []) (table (sex ∷ [])) ≡ codes "release 0\nSEX,count\n1,0\n2,0\n.\n"
+no_records : table_text (setup lines) (first_release 1000000 0 []) (table (sex ∷ [])) ≡ codes "release 0\nSEX,count\n1,0\n2,0\n.\n"
 unfolding tables_on_literals
 no_records = refl
 
-no_records_below_threshold : table_text (setup lines) (first_release 10 []) (table (sex ∷ [])) ≡ codes "release 0\nSEX,count\n1,c\n2,c\n.\n"
+no_records_below_threshold : table_text (setup lines) (first_release 1000000 10 []) (table (sex ∷ [])) ≡ codes "release 0\nSEX,count\n1,c\n2,c\n.\n"
 unfolding tables_on_literals
 no_records_below_threshold = refl
 
 -- the table at release 1, where a pvalue and the threshold were set
 rules_of_a_release : table_text (setup lines)
-    (record (first_release 0 records) { number = 1; edits = 2; rules = with_threshold (with_pvalue (first_rules 0) 3 64 (pos 5)) 3 }) (table (sex ∷ []))
+    (record (first_release 1000000 0 records) { number = 1; edits = 2; rules = with_threshold (with_pvalue (first_rules 0) 3 64 (pos 5)) 3 }) (table (sex ∷ []))
     ≡ codes "release 1\nSEX,count\n1,8\n2,c\n.\n"
 unfolding tables_on_literals
 rules_of_a_release = refl
@@ -76,7 +76,7 @@ crowd n = map (λ i. person i 1 (0 ∷ 0 ∷ 0 ∷ [])) (range_with_len 1 n)
 
 -- their table, with one line of the perturbation table
 abbrev printed_of : PerturbationLine → ℕ → List ℕ
-printed_of listed n = table_text (setup (listed ∷ [])) (first_release 0 (crowd n)) (table (sex ∷ []))
+printed_of listed n = table_text (setup (listed ∷ [])) (first_release 1000000 0 (crowd n)) (table (sex ∷ []))
 
 shown_at_750 : printed_of (line 750 238 (pos 3)) 750 ≡ codes "release 0\nSEX,count\n1,753\n2,0\n.\n"
 unfolding tables_on_literals
@@ -96,7 +96,7 @@ shown_at_1001 = refl
 
 -- the table by SEX of some persons, with the key range 4096 and one more line of the perturbation table
 abbrev printed_wide : PerturbationLine → List Record → List ℕ
-printed_wide listed people = table_text (wide_setup (lines ++ listed ∷ [])) (first_release 0 people) (table (sex ∷ []))
+printed_wide listed people = table_text (wide_setup (lines ++ listed ∷ [])) (first_release 1000000 0 people) (table (sex ∷ []))
 
 key_range_of_the_classification : printed_wide (line 3 320 (negsuc 0)) records ≡ codes "release 0\nSEX,count\n1,2\n2,2\n.\n"
 unfolding tables_on_literals

@@ -23,10 +23,11 @@ pub record RecodeValue : Type 0 where
   pub groups : List (List ℕ)
   pub group_of : List ℕ
 
--- the key range, and the variables and the recodes, each in the order of first appearance in its
--- file
+-- the key range, how many persons there may be at most, and the variables and the recodes, each in
+-- the order of first appearance in its file
 pub record SchemaValue : Type 0 where
   pub keys : Keys
+  pub persons : ℕ
   pub variables : List VariableValue
   pub recodes : List RecodeValue
 

@@ -11,3 +11,4 @@ pub mod Changed
 pub mod RoomLemmas
 pub mod StampLemmas
 pub mod LentLemmas
+pub mod NumberLemmas

@@ -27,8 +27,8 @@ ChangesFill =
 abbrev pub RecordsFill : Type 0
 RecordsFill = (records : List Record) → AreFilledBy (cut records) (length records)
 
--- two million adds leave fewer pages than there are numbers
+-- 101 million adds leave fewer pages than there are numbers
 abbrev pub FewPages : Type 0
 FewPages =
-    (pages : List PageValue) (adds : ℕ) → AreFilledBy pages adds → adds ≤ 2000000
+    (pages : List PageValue) (adds : ℕ) → AreFilledBy pages adds → adds ≤ 101000000
     → length pages < PAGES

@@ -1,6 +1,6 @@
 // The key book of pages.
 
-ghost use Rattle.std.specs.Prelude.{◌≡◌, ◌≤◌, All, None, IfOk, OnOk, length};
+ghost use Rattle.std.specs.Prelude.{◌≡◌, ◌<◌, ◌≤◌, All, None, IfOk, OnOk, length};
 ghost use Rattle.std.specs.FinMap.{get};
 ghost use Rattle.tb_base.specs.Persons.{AreDistinct};
 ghost use Rattle.tb_model.specs.Pages.{records_in};
@@ -9,21 +9,23 @@ ghost use Rattle.tb_pages.specs.Fillings.{AreBooked, with_entries};
 
 use crate::book::Book;
 use crate::lists::Lists;
+use crate::number::PageNumber;
 use crate::pages::Pages;
 use crate::shard::Entry;
 use std::alloc::Global;
 use tb_base::{Memory, Record};
 
 // Adds the entries of a page's records, whose persons have none.
-fn note(lists: &mut Lists, page: u16, records: &[Record]) -> Result<(), Memory>
+fn note(lists: &mut Lists, page: u32, records: &[Record]) -> Result<(), Memory>
     requires distinct { AreDistinct records.now }
     requires new { All (λ r. get lists.old r.person ≡ None) records.now }
+    requires numbered { page < PAGES }
     ensures { OnOk result (lists.new ≡ with_entries page records.now lists.old) }
 {
     for i in 0..records.len() {
         let one = &records[i];
         let (person, key) = (one.person, one.key);
-        let page = Some(page);
+        let page = PageNumber::of(page);
         lists.push(Entry { person, key, page })?;
     }
     Ok(())
@@ -37,7 +39,7 @@ pub(crate) fn book_for(alloc: Global, pages: &Pages) -> Result<Book, Memory>
 {
     let mut lists = Lists::with_room(alloc, pages)?;
     for i in 0..pages.len() {
-        note(&mut lists, i as u16, pages.page(i))?;
+        note(&mut lists, i as u32, pages.page(i))?;
     }
     let book = lists.finish(alloc)?;
     Ok(book)

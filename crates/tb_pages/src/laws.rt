@@ -27,7 +27,8 @@ pub fn records_fill()
     ensures { RecordsFill }
 {}
 
-/// Two million adds leave fewer pages than there are numbers for them.
+/// 101 million adds, one for each of the most persons and the most edits of a chain, leave fewer
+/// pages than there are numbers for them.
 pub fn few_pages()
     ensures { FewPages }
 {}

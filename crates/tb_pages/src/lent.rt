@@ -14,7 +14,7 @@ use tb_base::{Memory, Piece, Record};
 #[derive(Drop)]
 pub struct Lent<'a> {
     pages: &'a Pages,
-    places: &'a [u16],
+    places: &'a [u32],
 }
 
 impl<'a> Model for Lent<'a> {
@@ -30,7 +30,7 @@ impl<'a> Model for Lent<'a> {
 }
 
 // Notes a number last, where the page has some records.
-fn note_if(places: &mut Vec<u16>, number: u16, has_some: bool) -> Result<(), Memory>
+fn note_if(places: &mut Vec<u32>, number: u32, has_some: bool) -> Result<(), Memory>
     ensures { OnOk result (places.new.items
         ≡ places.old.items ++ (if has_some then number ∷ [] else [])) }
 {
@@ -41,21 +41,21 @@ fn note_if(places: &mut Vec<u16>, number: u16, has_some: bool) -> Result<(), Mem
 }
 
 /// The numbers of the pages that aren't empty.
-pub fn filled_places(alloc: Global, pages: &Pages) -> Result<Vec<u16>, Memory>
+pub fn filled_places(alloc: Global, pages: &Pages) -> Result<Vec<u32>, Memory>
     requires { length pages.now ≤ PAGES }
     ensures { IfOk result (λ places. places.items ≡ filled_from 0 pages.now) }
 {
     let count = pages.len();
     let mut places = Vec::with_capacity(alloc, count)?;
     for i in 0..count {
-        note_if(&mut places, i as u16, pages.page(i).len() > 0)?;
+        note_if(&mut places, i as u32, pages.page(i).len() > 0)?;
     }
     Ok(places)
 }
 
 impl<'a> Lent<'a> {
     /// The pages with the numbers of those that aren't empty. It takes no memory.
-    pub fn of(pages: &'a Pages, places: &'a [u16]) -> Lent<'a>
+    pub fn of(pages: &'a Pages, places: &'a [u32]) -> Lent<'a>
         requires { places.now ≡ filled_from 0 pages.now }
         ensures pieces { result ≡ pieces_of pages.now }
         ensures records { flat_map (λ piece. piece) result ≡ records_in pages.now }

@@ -17,7 +17,7 @@ use tb_base::{Memory, Piece, Record};
 use tb_model::PAGE_ROOM;
 
 /// How many pages have numbers.
-pub const PAGES: usize = 65_536;
+pub const PAGES: usize = 4_294_967_295;
 
 /// Records in pages that other lists of pages may share. A page keeps its number, from 0, and stays
 /// when it becomes empty.
@@ -177,12 +177,12 @@ impl Pages {
     }
 
     /// The number of the last page.
-    pub fn last(&self) -> u16
+    pub fn last(&self) -> u32
         requires some { 0 < length self.now }
         requires few { length self.now ≤ PAGES }
         ensures { length self.now ≡ result + 1 }
     {
-        (self.list.len() - 1) as u16
+        (self.list.len() - 1) as u32
     }
 
     /// The place in page `i` of the record of a person who has one there.

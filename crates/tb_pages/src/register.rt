@@ -9,6 +9,7 @@ ghost use Rattle.tb_pages.specs.Pages.{page_number, record_of};
 ghost use Rattle.tb_pages.specs.Registers.{IsAdded, IsRegister, IsReplaced, IsSpot, IsTaken};
 
 use crate::book::Book;
+use crate::number::PageNumber;
 use crate::pages::Pages;
 use crate::shard::Entry;
 use std::alloc::Global;
@@ -83,7 +84,8 @@ impl Register {
     {
         let (person, key) = (one.person, one.key);
         self.pages.add(alloc, stamp, one)?;
-        let page = Some(self.pages.last());
+        let at = self.pages.last();
+        let page = PageNumber::of(at);
         self.book.set(alloc, Entry { person, key, page })?;
         self.living += 1;
         Ok(())
@@ -103,7 +105,7 @@ impl Register {
     {
         let before = self.pages.take_out(alloc, stamp, spot.page, spot.place)?;
         let key = self.book.get(person).unwrap().key;
-        let page = None;
+        let page = PageNumber::none();
         self.book.set(alloc, Entry { person, key, page })?;
         self.living -= 1;
         Ok(before)
@@ -128,12 +130,12 @@ impl Register {
     }
 
     // The number of the page with a person's record.
-    fn page_of(&self, person: u32) -> Option<u16>
+    fn page_of(&self, person: u32) -> Option<u32>
         requires { IsRegister self.now }
         ensures { result ≡ page_number self.now.pages person }
     {
         match self.book.get(person) {
-            Some(entry) => entry.page,
+            Some(entry) => entry.page.get(),
             None => None,
         }
     }

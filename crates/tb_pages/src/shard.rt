@@ -2,6 +2,7 @@ ghost use Rattle.std.specs.Prelude.{◌≡◌, IfErr, IfOk, OnErr, OnOk};
 ghost use Rattle.std.specs.List.Sorted.{IsNonDecreasingBy, IsPermutation};
 ghost use Rattle.tb_pages.specs.Books.{AreApart, HoldSame, IsAt, IsBetween, Rise, Sets, held_in};
 
+use crate::number::PageNumber;
 use std::alloc::Global;
 use std::marker::Model;
 use tb_base::Memory;
@@ -11,7 +12,7 @@ use tb_base::Memory;
 pub struct Entry {
     pub person: u32,
     pub key: u16,
-    pub page: Option<u16>,
+    pub page: PageNumber,
 }
 
 /// Entries that ascend by their persons.

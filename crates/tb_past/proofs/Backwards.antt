@@ -10,7 +10,7 @@ use Rattle.tb_delta.proofs.Making.{makes, of-held, Makes}
 use Rattle.tb_model.specs.Releases.{ReleaseValue}
 use Rattle.tb_release.specs.declared.edits.Change.{Change}
 use Rattle.tb_release.specs.declared.edits.Edit.{Edit}
-use Rattle.tb_release.specs.declared.edits.Edit.TheVariants.{Add, Drop, Amend, Pvalue, Threshold}
+use Rattle.tb_release.specs.declared.edits.Edit.TheVariants.{Add, Drop, Amend, Pvalue, Threshold, Oldest}
 use Rattle.tb_release.specs.Releases.{IsSound}
 use Rattle.tb_release.specs.Edits.{edited, edited_rules, is_of_rules}
 use Rattle.tb_release.specs.Possible.{ArePossible}
@@ -78,6 +78,9 @@ have_spots release (Pvalue row key pvalue ∷ edits) sound possible =
     spots_rule release (edited_rules release.rules edit) (changes_of (edited release edit) edits) (have_spots (edited release edit) edits (sound_after release edit possible.0 sound) possible.1)
 have_spots release (Threshold value ∷ edits) sound possible =
     let edit : Edit = Threshold value in
+    spots_rule release (edited_rules release.rules edit) (changes_of (edited release edit) edits) (have_spots (edited release edit) edits (sound_after release edit possible.0 sound) possible.1)
+have_spots release (Oldest oldest ∷ edits) sound possible =
+    let edit : Edit = Oldest oldest in
     spots_rule release (edited_rules release.rules edit) (changes_of (edited release edit) edits) (have_spots (edited release edit) edits (sound_after release edit possible.0 sound) possible.1)
 
 -- a change stands in its place the other way round too

@@ -10,7 +10,6 @@ use Rattle.tb_base.specs.Keys.{key_range}
 use Rattle.tb_base.specs.Numbers.{number_of}
 use Rattle.tb_base.specs.Records.{AllFit, Fits}
 use Rattle.tb_base.specs.declared.keys.Keys.{Keys}
-use Rattle.tb_base.specs.declared.people.TheConstants.{MOST_PERSONS}
 use Rattle.tb_base.specs.declared.records.Record.{Record}
 use Rattle.tb_model.specs.Schemas.{CategoryValue, SchemaValue, VariableValue, shape_of}
 use Rattle.tb_base.specs.Lists.{all_some}
@@ -89,9 +88,9 @@ module _ (schema : SchemaValue) (width : ℕ) (indices : List ℕ) (long : lengt
       All-cons (Fits (shape_of schema)) one people (record-fits schema (fields_at indices fields) one wide (as_wide schema _ (fields_at indices fields) one first)) (records-fit records people others)
 
 -- the records of a file fit, and are not too many
-pub people-fit : (schema : SchemaValue) (bytes : List ℕ) (people : List Record) → people_of schema bytes ≡ Ok people → AllFit (shape_of schema) people × (length people ≤ MOST_PERSONS)
+pub people-fit : (schema : SchemaValue) (bytes : List ℕ) (people : List Record) → people_of schema bytes ≡ Ok people → AllFit (shape_of schema) people × (length people ≤ schema.persons)
 people-fit schema bytes people h =
-    let (width, indices, records, lines, v, (header, r, wide, c), are, end) = (accepted_where (people_file schema) ArePeople (are_people schema) bytes people).0 h in
+    let (width, indices, records, lines, v, (header, r, wide, c), are, end) = (accepted_where (people_file schema) (ArePeople schema.persons) (are_people schema) bytes people).0 h in
     let same : lines ≡ people = cc (are.together.1, end) in
     let long : length indices ≡ length schema.variables + 2 =
     length-all_some (map (λ name. only_index name header) (people_file schema).columns) indices c ∙ length-map (people_file schema).columns (λ name. only_index name header)

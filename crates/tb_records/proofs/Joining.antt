@@ -35,9 +35,9 @@ lines-joined {Z} schema header (part ∷ parts) (list ∷ lists) h =
 pub people-joined : {Z : Type 0} (schema : SchemaValue) (bytes : List ℕ) (header : HeaderValue) (parts : List (Bor (List ℕ))) (lists : List (Vec Record Z)) (people : List Record)
     → IsFile (people_file schema) bytes header.width header.indices (all_records parts)
     → AllZip (λ (part : Bor (List ℕ)) (list : Vec Record Z). AreLines schema header part.now list.items) parts lists
-    → people ≡ flat_map (λ (list : Vec Record Z). list.items) lists → MayStand people → people_of schema bytes ≡ Ok people
+    → people ≡ flat_map (λ (list : Vec Record Z). list.items) lists → MayStand schema.persons people → people_of schema bytes ≡ Ok people
 people-joined schema bytes header parts lists people file each all stand =
-    (accepted_where (people_file schema) ArePeople (are_people schema) bytes people).1 (
+    (accepted_where (people_file schema) (ArePeople schema.persons) (are_people schema) bytes people).1 (
       header.width,
       header.indices,
       all_records parts,

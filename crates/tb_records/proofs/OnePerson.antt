@@ -12,7 +12,6 @@ use Rattle.std.proofs.lemmas.List.Sorted.{IsPermutation-sym, ranks_by, sorted_fa
 use Rattle.std.proofs.lemmas.Map.Keys.{IsDistinct-IsPermutation, IsDistinct-from_apart, IsStrictlyIncreasing-from_distinct, below_from_sorted, ge_from_not_lt, sorted_from_strictly_increasing}
 use Rattle.tb_base.specs.declared.records.Record.{Record}
 use Rattle.tb_base.specs.Persons.{AreDistinct, has_person}
-use Rattle.tb_base.specs.declared.people.TheConstants.{MOST_PERSONS}
 use Rattle.tb_records.specs.WholeFiles.{MayStand}
 
 abbrev pub persons : List Record → List ℕ
@@ -66,14 +65,14 @@ distinct-sorted : (rs : List Record) (sorted : List ℕ) (b : Bool) → IsPermut
 distinct-sorted rs sorted true same up h = from_list rs (IsDistinct-IsPermutation eqb eqb-flips sorted (persons rs) (IsPermutation-sym (persons rs) sorted same) (risen sorted h))
 distinct-sorted rs sorted false same up h = λ distinct. h (IsStrictlyIncreasing-from_distinct sorted (not-falling sorted up) (IsDistinct-IsPermutation eqb eqb-flips (persons rs) sorted same (listed rs distinct)))
 
-and-few : (rs : List Record) (b : Bool) → length rs ≤ MOST_PERSONS → MatchBool b (AreDistinct rs) (AreDistinct rs → ⊥) → MatchBool b (MayStand rs) (MayStand rs → ⊥)
-and-few rs true few distinct = (distinct, few)
-and-few rs false few not = λ stand. not stand.0
+and-few : (most : ℕ) (rs : List Record) (b : Bool) → length rs ≤ most → MatchBool b (AreDistinct rs) (AreDistinct rs → ⊥) → MatchBool b (MayStand most rs) (MayStand most rs → ⊥)
+and-few most rs true few distinct = (distinct, few)
+and-few most rs false few not = λ stand. not stand.0
 
-pub stand-sorted : (rs : List Record) (ps sorted : List ℕ) (b : Bool) → ps ≡ persons rs → length rs ≤ MOST_PERSONS → IsPermutation ps sorted → IsSorted nat_cmp sorted
-    → MatchBool b (IsStrictlyIncreasing sorted) (IsStrictlyIncreasing sorted → ⊥) → MatchBool b (MayStand rs) (MayStand rs → ⊥)
-stand-sorted rs ps sorted b are few same up rising =
-    and-few rs b few (distinct-sorted rs sorted b (subst (λ (ns : List ℕ). IsPermutation ns sorted) are same) up rising)
+pub stand-sorted : (most : ℕ) (rs : List Record) (ps sorted : List ℕ) (b : Bool) → ps ≡ persons rs → length rs ≤ most → IsPermutation ps sorted → IsSorted nat_cmp sorted
+    → MatchBool b (IsStrictlyIncreasing sorted) (IsStrictlyIncreasing sorted → ⊥) → MatchBool b (MayStand most rs) (MayStand most rs → ⊥)
+stand-sorted most rs ps sorted b are few same up rising =
+    and-few most rs b few (distinct-sorted rs sorted b (subst (λ (ns : List ℕ). IsPermutation ns sorted) are same) up rising)
 
 -- a list whose numbers were all written anew
 pub written-anew : (old new : List ℕ) (len : ℕ) → len ≡ length old → length new ≡ length old → take len (new ++ drop (length new) old) ≡ new

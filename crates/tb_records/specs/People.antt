@@ -5,7 +5,6 @@ use Rattle.tb_base.specs.Lists.{all_some}
 use Rattle.tb_base.specs.Numbers.{number_of}
 use Rattle.tb_base.specs.Persons.{has_person}
 use Rattle.tb_base.specs.declared.keys.Keys.{Keys}
-use Rattle.tb_base.specs.declared.people.TheConstants.{MOST_PERSONS}
 use Rattle.tb_base.specs.declared.records.Record.{Record}
 use Rattle.tb_model.specs.Schemas.{SchemaValue, VariableValue}
 use Rattle.tb_rows.specs.Formats.{Format, value_of}
@@ -46,11 +45,11 @@ record_in schema fields =
     record_of (person_of (get_or fields 0 [])) (key_of schema.keys (get_or fields 1 []))
     (categories_under schema (drop 2 fields))
 
--- the records with one more, or its fault beside those before it
-abbrev pub and_record : List Record → Record → Result (List Record) PeopleKind
-and_record people one =
+-- the records with one more, or its fault beside those before it and the limit
+abbrev pub and_record : ℕ → List Record → Record → Result (List Record) PeopleKind
+and_record most people one =
     if has_person people one.person then Err PersonTwice
-    else if nat_le MOST_PERSONS (length people) then Err TooMany
+    else if nat_le most (length people) then Err TooMany
     else Ok (people ++ one ∷ [])
 
 -- how microdata over a classification is read
@@ -59,7 +58,7 @@ people_file schema = record {
   columns = codes "person" ∷ codes "record_key" ∷ map (λ v. v.name) schema.variables;
   line_in = record_in schema;
   start = [];
-  add = λ _ people one. and_record people one;
+  add = λ _ people one. and_record schema.persons people one;
   finish = λ people. Ok people;
   bad_header = BadHeader;
   bad_csv = BadCsv;

@@ -10,17 +10,17 @@ ghost use Rattle.tb_records.specs.WholeFiles.{MayStand};
 use rayon::prelude::par_sort;
 use std::alloc::Global;
 use std::thread::Threads;
-use tb_base::{MOST_PERSONS, Memory, Record};
+use tb_base::{Memory, Record};
 
-// Whether there are no more than may be.
-fn are_few(lists: &[Vec<Record>]) -> bool
+// Whether there are at most so many.
+fn are_few(lists: &[Vec<Record>], most: usize) -> bool
     ensures { MatchBool result
-        (length (flat_map (λ list. list.items) lists.now) ≤ MOST_PERSONS)
-        (MOST_PERSONS < length (flat_map (λ list. list.items) lists.now)) }
+        (length (flat_map (λ list. list.items) lists.now) ≤ most)
+        (most < length (flat_map (λ list. list.items) lists.now)) }
 {
     let mut count = 0;
     for list in lists {
-        if list.len() > MOST_PERSONS - count {
+        if list.len() > most - count {
             return false;
         }
         count += list.len();
@@ -70,12 +70,22 @@ fn add_persons(persons: &mut Vec<u32>, records: &[Record]) -> Result<(), Memory>
     Ok(())
 }
 
+// How many records the lists have together, so that the list of their persons needn't grow. No
+// clause speaks of it.
+fn room_for_persons(lists: &[Vec<Record>]) -> usize {
+    let mut room = 0;
+    for list in lists {
+        room = usize::saturating_add(room, list.len());
+    }
+    room
+}
+
 // The persons of the records of all lists, in order.
 fn persons_of(alloc: Global, lists: &[Vec<Record>]) -> Result<Vec<u32>, Memory>
     ensures { IfOk result (λ persons.
         persons.items ≡ map (λ r. r.person) (flat_map (λ list. list.items) lists.now)) }
 {
-    let mut persons = Vec::with_capacity(alloc, MOST_PERSONS)?;
+    let mut persons = Vec::with_capacity(alloc, room_for_persons(lists))?;
     for list in lists {
         add_persons(&mut persons, list)?;
     }
@@ -95,18 +105,19 @@ fn rise(numbers: &[u32]) -> bool
     )
 }
 
-/// Whether the records of all lists may stand together. Where their persons don't ascend, as many
-/// threads as there are processors sort a list of them, for which it takes memory.
+/// Whether the records of all lists may stand together, so many at most. Where their persons don't
+/// ascend, as many threads as there are processors sort a list of them, for which it takes memory.
 pub fn may_stand(
     rt: &(impl Threads + Sync),
     alloc: Global,
     lists: &[Vec<Record>],
+    most: usize,
 ) -> Result<bool, Memory>
     ensures { IfOk result (λ may. MatchBool may
-        (MayStand (flat_map (λ list. list.items) lists.now))
-        (MayStand (flat_map (λ list. list.items) lists.now) → ⊥)) }
+        (MayStand most (flat_map (λ list. list.items) lists.now))
+        (MayStand most (flat_map (λ list. list.items) lists.now) → ⊥)) }
 {
-    if !are_few(lists) {
+    if !are_few(lists, most) {
         return Ok(false);
     }
     if ascend(lists) {

@@ -11,7 +11,7 @@ use crate::format::room_for;
 use crate::record::{fault_at, read_record};
 use csv::ByteRecord;
 use std::alloc::Global;
-use tb_base::{MOST_PERSONS, Memory, Record};
+use tb_base::{Memory, Record};
 use tb_rows::{CsvRecords, Header};
 use tb_schema::Schema;
 
@@ -52,8 +52,9 @@ fn push_to(lines: &mut Vec<Record>, one: Record) -> Result<(), Memory>
     Ok(())
 }
 
-/// The records that a part of a file says under its header, if each says one and they are at most
-/// `MOST_PERSONS`. It takes memory for one record at a time and for all that it returns.
+/// The records that a part of a file says under its header, if each says one and they are no more
+/// than the classification's limit. It takes memory for one record at a time and for all that it
+/// returns.
 pub fn read_lines(
     alloc: Global,
     schema: &Schema,
@@ -68,7 +69,7 @@ pub fn read_lines(
     let mut lines = list_for(alloc, room_for(schema, part.len()))?;
     let mut categories = Vec::new(alloc);
     'lines: while to_come.read(&mut buffer)? {
-        if lines.len() >= MOST_PERSONS {
+        if lines.len() >= schema.persons() {
             return Err(fault_at(PeopleKind::TooMany, UNKNOWN));
         }
         let one = read_line(schema, header, &buffer, &mut categories)?;

@@ -61,13 +61,13 @@ pub fn people_in_parts(
     ensures ok { IfOk result (λ o. IfSome o (λ lists.
         people_of schema.now file.now ≡ Ok (flat_map (λ list. list.items) lists.items))) }
     ensures stand { IfOk result (λ o. IfSome o (λ lists.
-        MayStand (flat_map (λ list. list.items) lists.items))) }
+        MayStand schema.now.persons (flat_map (λ list. list.items) lists.items))) }
 {
     let Some(cut) = cut_file(alloc, &PeopleFile { schema }, file, parts)? else {
         return Ok(None);
     };
     let lists = lists_of(rt, alloc, schema, &cut.header, &cut.parts)?;
-    if may_stand(rt, alloc, &lists)? {
+    if may_stand(rt, alloc, &lists, schema.persons())? {
         Ok(Some(lists))
     } else {
         Ok(None)

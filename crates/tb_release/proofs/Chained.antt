@@ -8,7 +8,7 @@ use Rattle.tb_base.specs.Rules.{RulesValue}
 use Rattle.tb_model.specs.Releases.{ReleaseValue}
 use Rattle.tb_release.specs.declared.edits.Change.{Change}
 use Rattle.tb_release.specs.declared.edits.Edit.{Edit}
-use Rattle.tb_release.specs.declared.edits.Edit.TheVariants.{Add, Drop, Amend, Pvalue, Threshold}
+use Rattle.tb_release.specs.declared.edits.Edit.TheVariants.{Add, Drop, Amend, Pvalue, Threshold, Oldest}
 use Rattle.tb_release.specs.declared.fault.EditFaultKind.{EditFaultKind}
 use Rattle.tb_release.specs.declared.fault.EditFaultKind.TheVariants as kind
 use Rattle.tb_release.specs.declared.limits.TheConstants.{MOST_EDITS, MOST_RELEASES, MOST_CHANGES}
@@ -18,7 +18,7 @@ use Rattle.tb_release.specs.Possible.{ArePossible, refusal, first_refusal}
 use Rattle.tb_release.specs.Batches.{BatchValue, CanFollow, Follows, batch_of, batch_length, batch_refusal, change_of, changes_of, next_release, rule_edits_of}
 use Rattle.tb_release.specs.Chains.{changed, after_batch, release_after, change_count, edit_count, IsChain}
 use Rattle.tb_release.specs.Laws.{KeepsKeys, ChainFacts}
-use Rattle.tb_release.proofs.Edited.{possible_of, none_of, sound_after, key_stays, changed-change_of, rules_stay}
+use Rattle.tb_release.proofs.Edited.{possible_of, none_of, sound_after, key_stays, changed-change_of, oldest_rises, rules_stay}
 
 -- ---- edits are possible exactly where there is no refusal
 both_none : (number : ℕ) (o : Option EditFaultKind) (rest : Option (EditFaultKind × ℕ)) → option_map_or (λ why. Some (why, number)) o rest ≡ None → (o ≡ None) × (rest ≡ None)
@@ -90,6 +90,7 @@ rules_alone release (Drop person) of = cc
 rules_alone release (Amend person sets) of = cc
 rules_alone release (Pvalue row key pvalue) of = refl
 rules_alone release (Threshold value) of = refl
+rules_alone release (Oldest oldest) of = refl
 
 -- the changes of an edit and of those after it
 pub changes_of-rule : (release : ReleaseValue) (e : Edit) (es : List Edit) → is_of_rules e ≡ true → changes_of release (e ∷ es) ≡ changes_of (edited release e) es
@@ -161,25 +162,39 @@ batches_lead_on release edits s can =
       rules = x;
     }) (rules_after release edits)
 
+-- and show no release again that was taken back
+pub oldest_stays : (release : ReleaseValue) (edits : List Edit) → ArePossible release edits → release.rules.oldest ≤ (edited_all release edits).rules.oldest
+oldest_stays release [] can = omega arith
+oldest_stays release (e ∷ es) can = omega (arith, oldest_rises release e can.0, oldest_stays (edited release e) es can.1)
+
 -- ---- chains
+-- changes leave the limit
+pub same_limit : (release : ReleaseValue) (changes : List Change) → (fold changed release changes).most ≡ release.most
+same_limit release [] = refl
+same_limit release (c ∷ cs) = same_limit (changed release c) cs
+
 after_follows : (release : ReleaseValue) (batch : BatchValue) (f : Follows release batch) → IsSound release → after_batch release batch ≡ next_release release f.edits
 after_follows release batch f s =
     ap (after_batch release) f.theirs ∙ batches_lead_on release f.edits s f.can.possible
 
 next_sound : (release : ReleaseValue) (edits : List Edit) → ArePossible release edits → IsSound release → IsSound (next_release release edits)
 next_sound release edits can s =
-    let h = stay_sound release edits can s in record { distinct = h.distinct; in_book = h.in_book; few = h.few; in_pages = h.in_pages }
+    let h = stay_sound release edits can s in record { distinct = h.distinct; in_book = h.in_book; few = h.few; most = h.most; in_pages = h.in_pages }
 
 pub chains_hold : (release : ReleaseValue) (chain : List BatchValue) → IsSound release → IsChain release chain → ChainFacts release chain
-chains_hold release [] s is = record { sound = s; keys = λ q k at. at; number = omega arith; changes = omega arith; edits = omega arith }
+chains_hold release [] s is = record { sound = s; keys = λ q k at. at; most = refl; oldest = omega arith; number = omega arith; changes = omega arith; edits = omega arith }
 chains_hold release (batch ∷ chain) s is =
     let next = after_follows release batch is.0 s in
     let sound : IsSound (after_batch release batch) = subst IsSound (sym next) (next_sound release is.0.edits is.0.can.possible s) in
     let keys : KeepsKeys release.key_book (after_batch release batch).key_book =
     subst (λ (r : ReleaseValue). KeepsKeys release.key_book r.key_book) (sym next) (keys_stay release is.0.edits is.0.can.possible) in
+    let shown : release.rules.oldest ≤ (after_batch release batch).rules.oldest =
+    subst (λ (r : ReleaseValue). release.rules.oldest ≤ r.rules.oldest) (sym next) (oldest_stays release is.0.edits is.0.can.possible) in
     let rest = chains_hold (after_batch release batch) chain sound is.1 in record {
       sound = rest.sound;
       keys = λ q k at. rest.keys q k (keys q k at);
+      most = rest.most ∙ same_limit release batch.changes;
+      oldest = omega (arith, shown, rest.oldest);
       number = let number = rest.number in omega arith;
       changes = let more : change_count (batch ∷ chain) ≡ length batch.changes + change_count chain = sum_by-cons (λ (b : BatchValue). length b.changes) batch chain in
           let changes = rest.changes in omega arith;

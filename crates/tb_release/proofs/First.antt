@@ -28,13 +28,14 @@ all_there records stock first = ap records_in first.pages ∙ records_in-cut rec
 first_keys : (records : List Record) (stock : Stock) → IsFirst records stock → keys_of stock ≡ keys_of_records records
 first_keys records stock first = ap (λ b. keys_with b stock.pages) first.book ∙ ap keys_of_records (all_there records stock first)
 
-first_sound : (records : List Record) (stock : Stock) → IsFirst records stock → AreDistinct records → length records ≤ MOST_PERSONS → (rules : RulesValue) → IsSound (stocked stock 0 0 0 rules)
-first_sound records stock first distinct few rules =
+first_sound : (records : List Record) (stock : Stock) (most : ℕ) → IsFirst records stock → AreDistinct records → length records ≤ most → most ≤ MOST_PERSONS → (rules : RulesValue) → IsSound (stocked stock most 0 0 0 rules)
+first_sound records stock most first distinct few within rules =
     let all = all_there records stock first in
     let keys : All (HasKeyOf (keys_of_records records)) records = λ k d within. key_at records k d distinct within in record {
       distinct = subst AreDistinct (sym all) distinct;
       in_book = subst (All (HasKeyOf (keys_of stock))) (sym all) (subst (λ (b : KeyBook). All (HasKeyOf b) records) (sym (first_keys records stock first)) keys);
-      few = subst (λ (rs : List Record). length rs ≤ MOST_PERSONS) (sym all) few;
+      few = subst (λ (rs : List Record). length rs ≤ most) (sym all) few;
+      most = within;
       in_pages = refl;
     }
 
@@ -46,33 +47,35 @@ first_whole records stock first distinct =
       distinct = subst AreDistinct (sym all) distinct;
     }
 
-pub first_kept : (records : List Record) (stock : Stock) (rules : RulesValue) → IsFirst records stock → AreDistinct records → length records ≤ MOST_PERSONS → IsKept stock 0 0 0 rules
-first_kept records stock rules first distinct few = record {
+pub first_kept : (records : List Record) (stock : Stock) (most : ℕ) (rules : RulesValue) → IsFirst records stock → AreDistinct records → length records ≤ most → most ≤ MOST_PERSONS → IsKept stock most 0 0 0 rules
+first_kept records stock most rules first distinct few within = record {
   whole = first_whole records stock first distinct;
-  sound = first_sound records stock first distinct few rules;
+  sound = first_sound records stock most first distinct few within rules;
   room = subst (λ (ps : List PageValue). AreFilledBy ps (MOST_PERSONS + 0)) (sym first.pages) (let h = records_fill records in omega arith);
   fewer = omega arith;
   few = omega arith;
 }
 
-pub first_is : (rules : RulesValue) (records : List Record) (stock : Stock) → IsFirst records stock → rules.pvalues ≡ [] → stocked stock 0 0 0 rules ≡ first_release rules.threshold records
-first_is rules records stock first none =
-    let alone : rules ≡ first_rules rules.threshold = ap (λ (ps : List SetPvalue). record { threshold = rules.threshold; pvalues = ps }) none in
-    same_release (all_there records stock first) first.pages (first_keys records stock first) refl refl refl alone
+pub first_is : (most : ℕ) (rules : RulesValue) (records : List Record) (stock : Stock) → IsFirst records stock → rules.pvalues ≡ [] → rules.oldest ≡ 0 → stocked stock most 0 0 0 rules ≡ first_release most rules.threshold records
+first_is most rules records stock first none shown =
+    let alone : rules ≡ first_rules rules.threshold =
+    ap (λ (ps : List SetPvalue). record { threshold = rules.threshold; oldest = rules.oldest; pvalues = ps }) none
+    ∙ ap (λ (n : ℕ). record { threshold = rules.threshold; oldest = n; pvalues = [] }) shown in
+    same_release (all_there records stock first) first.pages (first_keys records stock first) refl refl refl refl alone
 
 -- ---- a release is shared
-pub few_pages_kept : (stock : Stock) (number changes edits : ℕ) (rules : RulesValue) → IsKept stock number changes edits rules → length stock.pages ≤ PAGES
-few_pages_kept stock number changes edits rules kept =
+pub few_pages_kept : (stock : Stock) (most number changes edits : ℕ) (rules : RulesValue) → IsKept stock most number changes edits rules → length stock.pages ≤ PAGES
+few_pages_kept stock most number changes edits rules kept =
     let few = kept.few in
     let fewer = kept.fewer in
     let below = few_pages stock.pages (MOST_PERSONS + changes) kept.room (omega arith) in omega arith
 
-pub shared : (stock : Stock) (number changes edits : ℕ) (rules : RulesValue) (release : ReleaseValue) (register : Register) → IsKept stock number changes edits rules
-    → stocked stock number changes edits rules ≡ release
+pub shared : (stock : Stock) (most number changes edits : ℕ) (rules : RulesValue) (release : ReleaseValue) (register : Register) → IsKept stock most number changes edits rules
+    → stocked stock most number changes edits rules ≡ release
     → register.pages ≡ stock.pages → keys_in register.book ≡ keys_of stock → IsRegister register → IsShared release register
-shared stock number changes edits rules release register kept seen pages keys whole =
+shared stock most number changes edits rules release register kept seen pages keys whole =
     subst (λ (r : ReleaseValue). IsShared r register) seen (record {
-      same = same_release (ap records_in (sym pages)) (sym pages) (sym keys) refl refl refl refl;
+      same = same_release (ap records_in (sym pages)) (sym pages) (sym keys) refl refl refl refl refl;
       whole = whole;
       sound = kept.sound;
       room = subst (λ (ps : List PageValue). AreFilledBy ps (MOST_PERSONS + changes)) (sym pages) kept.room;

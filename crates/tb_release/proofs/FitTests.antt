@@ -12,7 +12,7 @@ use Rattle.tb_base.specs.Records.{Fits}
 use Rattle.tb_base.specs.declared.limits.TheConstants.{MOST_THRESHOLD}
 use Rattle.tb_base.proofs.Setting.{can_told, can_back}
 use Rattle.tb_release.specs.declared.edits.Edit.{Edit}
-use Rattle.tb_release.specs.declared.edits.Edit.TheVariants.{Add, Drop, Amend, Pvalue, Threshold}
+use Rattle.tb_release.specs.declared.edits.Edit.TheVariants.{Add, Drop, Amend, Pvalue, Threshold, Oldest}
 use Rattle.tb_release.specs.Fitting.{codes_fit, edit_fits, edits_fit, record_fits, setting_fits}
 use Rattle.tb_release.specs.Laws.{EditFits}
 
@@ -125,6 +125,7 @@ one_told shape (Drop person) h = tt
 one_told shape (Amend person sets) h = sets_told shape sets h
 one_told shape (Pvalue row key pvalue) h = can_told row key pvalue h
 one_told shape (Threshold value) h = leb-true value MOST_THRESHOLD h
+one_told shape (Oldest oldest) h = tt
 
 one_back : (shape : List ℕ) (e : Edit) → EditFits shape e → edit_fits shape e ≡ true
 one_back shape (Add person key codes) fits = record_back shape (record { person = person; key = key; codes = codes }) fits
@@ -132,6 +133,7 @@ one_back shape (Drop person) fits = refl
 one_back shape (Amend person sets) fits = all_back (setting_fits shape) (Set shape) (setting_back shape) sets fits
 one_back shape (Pvalue row key pvalue) fits = can_back row key pvalue fits
 one_back shape (Threshold value) fits = le-leb value MOST_THRESHOLD fits
+one_back shape (Oldest oldest) fits = refl
 
 pub fits_all : (shape : List ℕ) (edits : List Edit) → edits_fit shape edits ≡ true → All (EditFits shape) edits
 fits_all shape edits h = All-from_recursion (EditFits shape) edits (all_told (edit_fits shape) (EditFits shape) (one_told shape) edits h)

@@ -10,7 +10,7 @@ use Rattle.tb_base.specs.Records.{Fits, AllFit}
 use Rattle.tb_model.specs.Releases.{ReleaseValue}
 use Rattle.tb_pages.specs.Pages.{is_of}
 use Rattle.tb_release.specs.declared.edits.Edit.{Edit}
-use Rattle.tb_release.specs.declared.edits.Edit.TheVariants.{Add, Drop, Amend, Pvalue, Threshold}
+use Rattle.tb_release.specs.declared.edits.Edit.TheVariants.{Add, Drop, Amend, Pvalue, Threshold, Oldest}
 use Rattle.tb_release.specs.Edits.{edited, edited_all, amended}
 use Rattle.tb_release.specs.Laws.{EditFits}
 
@@ -46,6 +46,7 @@ fit_after shape release (Amend person sets) fit fits =
     (All-weaker (Fits shape) (λ r. Fits shape (if is_of person r then amended sets r else r)) (λ r h. fit_if (is_of person r) shape sets r fits h) release.records fit)
 fit_after shape release (Pvalue row key pvalue) fit fits = fit
 fit_after shape release (Threshold value) fit fits = fit
+fit_after shape release (Oldest oldest) fit fits = fit
 
 pub stay_fitting : (shape : List ℕ) (release : ReleaseValue) (edits : List Edit) → AllFit shape release.records → AllByRecursion (EditFits shape) edits → AllFit shape (edited_all release edits).records
 stay_fitting shape release [] fit fits = fit

@@ -1,4 +1,5 @@
 mod Vectors
+pub mod FewRecords
 pub mod Persons
 pub mod Books
 pub mod Edited

@@ -38,16 +38,16 @@ pub key_changed : (draft : Draft) (person key : ℕ) → has_person (records_in 
 key_changed draft person key none other = rw (none, other) refl
 
 pub too_many : (draft : Draft) (person key : ℕ) → IsDraft draft → has_person (records_in draft.register.pages) person ≡ false
-    → has_other_key (keys_in draft.register.book) person key ≡ false → MOST_PERSONS ≤ draft.register.living → Some kind.TooMany ≡ refusal (release_of draft) (Add person key [])
+    → has_other_key (keys_in draft.register.book) person key ≡ false → draft.most ≤ draft.register.living → Some kind.TooMany ≡ refusal (release_of draft) (Add person key [])
 too_many draft person key d none same full =
-    let many : MOST_PERSONS ≤ length (records_in draft.register.pages) = rw (← d.whole.living) full in
-    rw (none, same, le-leb MOST_PERSONS (length (records_in draft.register.pages)) many) refl
+    let many : draft.most ≤ length (records_in draft.register.pages) = rw (← d.whole.living) full in
+    rw (none, same, le-leb draft.most (length (records_in draft.register.pages)) many) refl
 
 pub may_add : (draft : Draft) (person key : ℕ) → IsDraft draft → has_person (records_in draft.register.pages) person ≡ false
-    → has_other_key (keys_in draft.register.book) person key ≡ false → draft.register.living < MOST_PERSONS → None ≡ refusal (release_of draft) (Add person key [])
+    → has_other_key (keys_in draft.register.book) person key ≡ false → draft.register.living < draft.most → None ≡ refusal (release_of draft) (Add person key [])
 may_add draft person key d none same room =
-    let few : length (records_in draft.register.pages) < MOST_PERSONS = rw (← d.whole.living) room in
-    rw (none, same, lt-leb MOST_PERSONS (length (records_in draft.register.pages)) few) refl
+    let few : length (records_in draft.register.pages) < draft.most = rw (← d.whole.living) room in
+    rw (none, same, lt-leb draft.most (length (records_in draft.register.pages)) few) refl
 
 pub present : (draft : Draft) (person : ℕ) → has_person (records_in draft.register.pages) person ≡ true → None ≡ refusal (release_of draft) (Drop person)
 present draft person there = rw there refl
@@ -75,14 +75,14 @@ made_so : (old new : Draft) (edit : Edit) (before after : Option Record) → IsD
     → change_of (release_of old) edit ≡ record { person = person_of edit; before = before; after = after }
     → new.register.pages ≡ changed_pages (old.number + 1) old.register.pages (person_of edit) before after
     → keys_in new.register.book ≡ edited_book (keys_in old.register.book) edit → IsRegister new.register
-    → new.made ≡ old.made + 1 → new.number ≡ old.number → new.changes ≡ old.changes → new.edits ≡ old.edits → new.rules ≡ old.rules
+    → new.made ≡ old.made + 1 → new.most ≡ old.most → new.number ≡ old.number → new.changes ≡ old.changes → new.edits ≡ old.edits → new.rules ≡ old.rules
     → IsMade edit old new (entry.Record (record { person = person_of edit; before = before; after = after }))
-made_so old new edit before after is can of one change pages keys whole made number changes edits rules =
+made_so old new edit before after is can of one change pages keys whole made most number changes edits rules =
     let pages_are : new.register.pages ≡ edited_pages (release_of old) edit =
     pages ∙ sym (ap (λ (c : Change). changed_pages (old.number + 1) old.register.pages (person_of edit) c.before c.after) change) ∙ leads_pages (release_of old) edit of in
     let records : records_in new.register.pages ≡ edited_records (records_in old.register.pages) edit =
     ap records_in pages_are ∙ sym (edited_in_pages (release_of old) edit is.sound.distinct can refl) in
-    let release : release_of new ≡ edited (release_of old) edit = same_release records pages_are keys number changes edits (rules ∙ sym (rules_stay old.rules edit of)) in record {
+    let release : release_of new ≡ edited (release_of old) edit = same_release records pages_are keys most number changes edits (rules ∙ sym (rules_stay old.rules edit of)) in record {
       leaves = release;
       makes = ap entry.Record (sym change) ∙ sym one;
       count = made;
@@ -102,12 +102,12 @@ same_codes person key a b e = rw e refl
 pub add_made : (old new : Draft) (person key : ℕ) (codes copied : List ℕ) (after : Record) → IsDraft old → CanAdd (release_of old) person key → copied ≡ codes
     → after ≡ record { person = person; key = key; codes = copied }
     → IsAdded (old.number + 1) (record { person = person; key = key; codes = copied }) old.register new.register
-    → new.made ≡ old.made + 1 → new.number ≡ old.number → new.changes ≡ old.changes → new.edits ≡ old.edits → new.rules ≡ old.rules
+    → new.made ≡ old.made + 1 → new.most ≡ old.most → new.number ≡ old.number → new.changes ≡ old.changes → new.edits ≡ old.edits → new.rules ≡ old.rules
     → IsMade (Add person key codes) old new (entry.Record (record { person = person; before = None; after = Some after }))
-add_made old new person key codes copied after is can same is_after added made number changes edits rules =
+add_made old new person key codes copied after is can same is_after added made most number changes edits rules =
     made_so old new (Add person key codes) None (Some after) is can refl refl
     (change_of-add (release_of old) person key codes can.new ∙ same_add person (record { person = person; key = key; codes = codes }) after (sym (is_after ∙ same_codes person key copied codes same)))
-    (added.pages ∙ ap (λ r. changed_pages (old.number + 1) old.register.pages person None (Some r)) (sym is_after)) added.keys added.whole made number changes edits rules
+    (added.pages ∙ ap (λ r. changed_pages (old.number + 1) old.register.pages person None (Some r)) (sym is_after)) added.keys added.whole made most number changes edits rules
   where
     same_add : (person : ℕ) (a b : Record) → a ≡ b → ◌≡◌ {A = Change} (record { person = person; before = None; after = Some a }) (record { person = person; before = None; after = Some b })
     same_add person a b e = rw e refl
@@ -115,11 +115,11 @@ add_made old new person key codes copied after is can same is_after added made n
 -- ---- a drop
 pub drop_made : (old new : Draft) (person : ℕ) (before : Record) → IsDraft old → has_person (records_in old.register.pages) person ≡ true
     → IsTaken (old.number + 1) person old.register new.register before
-    → new.made ≡ old.made + 1 → new.number ≡ old.number → new.changes ≡ old.changes → new.edits ≡ old.edits → new.rules ≡ old.rules
+    → new.made ≡ old.made + 1 → new.most ≡ old.most → new.number ≡ old.number → new.changes ≡ old.changes → new.edits ≡ old.edits → new.rules ≡ old.rules
     → IsMade (Drop person) old new (entry.Record (record { person = person; before = Some before; after = None }))
-drop_made old new person before is there taken made number changes edits rules =
+drop_made old new person before is there taken made most number changes edits rules =
     made_so old new (Drop person) (Some before) None is there refl refl (change_of-drop (release_of old) person before is.sound.distinct taken.found)
-    taken.pages taken.keys taken.whole made number changes edits rules
+    taken.pages taken.keys taken.whole made most number changes edits rules
 
 -- ---- an amend
 pub amended_own : (draft : Draft) (person : ℕ) (sets : List (ℕ × ℕ)) (was kept : Record) → IsDraft draft → record_of (records_in draft.register.pages) person ≡ Some was → kept ≡ amended sets was
@@ -130,16 +130,16 @@ amended_own draft person sets was kept is found is_kept =
 pub amend_made : (old new : Draft) (person : ℕ) (sets : List (ℕ × ℕ)) (was before kept after : Record) → IsDraft old → has_person (records_in old.register.pages) person ≡ true
     → record_of (records_in old.register.pages) person ≡ Some was → kept ≡ amended sets was → after ≡ kept
     → IsReplaced (old.number + 1) kept old.register new.register before
-    → new.made ≡ old.made + 1 → new.number ≡ old.number → new.changes ≡ old.changes → new.edits ≡ old.edits → new.rules ≡ old.rules
+    → new.made ≡ old.made + 1 → new.most ≡ old.most → new.number ≡ old.number → new.changes ≡ old.changes → new.edits ≡ old.edits → new.rules ≡ old.rules
     → IsMade (Amend person sets) old new (entry.Record (record { person = person; before = Some before; after = Some after }))
-amend_made old new person sets was before kept after is there found is_kept is_after replaced made number changes edits rules =
+amend_made old new person sets was before kept after is there found is_kept is_after replaced made most number changes edits rules =
     let own = amended_own old person sets was kept is found is_kept in
     let pages = old.register.pages in
     let same : before ≡ was = let both : Some before ≡ Some was = sym replaced.found ∙ ap (record_of (records_in pages)) own ∙ found in cc in
     made_so old new (Amend person sets) (Some before) (Some after) is there refl refl
     (change_of-amend (release_of old) person sets was is.sound.distinct found ∙ same_change person was before (amended sets was) after (sym same) (sym (is_after ∙ is_kept)))
     (replaced.pages ∙ ap (λ q. changed_pages (old.number + 1) pages q (Some before) (Some kept)) own
-    ∙ ap (λ r. changed_pages (old.number + 1) pages person (Some before) (Some r)) (sym is_after)) replaced.keys replaced.whole made number changes edits rules
+    ∙ ap (λ r. changed_pages (old.number + 1) pages person (Some before) (Some r)) (sym is_after)) replaced.keys replaced.whole made most number changes edits rules
   where
     same_change : (person : ℕ) (a b c d : Record) → a ≡ b → c ≡ d
         → ◌≡◌ {A = Change} (record { person = person; before = Some a; after = Some c }) (record { person = person; before = Some b; after = Some d })

@@ -14,7 +14,7 @@ use Rattle.tb_release.specs.Batches.{BatchValue, Follows, batch_length}
 use Rattle.tb_release.specs.Chains.{after_batch, change_count}
 use Rattle.tb_release.specs.Replays.{CanReplay, IsLed, IsReached, IsReachedFrom, release_reached}
 use Rattle.tb_release.specs.Revised.{release_at}
-use Rattle.tb_release.proofs.Chained.{length-batch_of}
+use Rattle.tb_release.proofs.Chained.{length-batch_of, same_limit}
 use Rattle.tb_release.proofs.Edited.{same_release}
 use Rattle.tb_release.proofs.Replayed.{few_changes}
 use Rattle.tb_release.proofs.RevisedChains.{StandsAt, count_le}
@@ -26,10 +26,10 @@ none_left rules [] none = refl
 none_left rules (e ∷ es) none = absurd (omega arith)
 
 -- ---- at first
-pub reached_first : (release : ReleaseValue) (reached : Reached) → IsShared release reached.register → reached.number ≡ release.number → reached.changes ≡ release.changes
+pub reached_first : (release : ReleaseValue) (reached : Reached) → IsShared release reached.register → reached.most ≡ release.most → reached.number ≡ release.number → reached.changes ≡ release.changes
     → reached.edits ≡ release.edits → reached.rules ≡ release.rules → release.edits ≤ MOST_CHANGES → IsReachedFrom release reached
-reached_first release reached shared number changes edits rules few =
-    let same : release_reached reached ≡ release = same_release refl refl refl number changes edits rules ∙ sym shared.same in record {
+reached_first release reached shared most number changes edits rules few =
+    let same : release_reached reached ≡ release = same_release refl refl refl most number changes edits rules ∙ sym shared.same in record {
       same = same;
       whole = record {
         shared = subst (λ (r : ReleaseValue). IsShared r reached.register) (sym same) shared;
@@ -60,15 +60,15 @@ can_replay reached batch is follows = record { shared = is.shared; follows = fol
 pub same_sum : (n : ℕ) {a b : ℕ} → a ≡ b → n + a ≡ n + b
 same_sum n same = ap (λ m. n + m) same
 
-same_registered : (register : Register) {number number' changes changes' edits edits' : ℕ} {rules rules' : RulesValue} → number ≡ number' → changes ≡ changes' → edits ≡ edits' → rules ≡ rules'
-    → registered register number changes edits rules ≡ registered register number' changes' edits' rules'
-same_registered register number changes edits rules = same_release refl refl refl number changes edits rules
+same_registered : (register : Register) {most most' number number' changes changes' edits edits' : ℕ} {rules rules' : RulesValue} → most ≡ most' → number ≡ number' → changes ≡ changes' → edits ≡ edits' → rules ≡ rules'
+    → registered register most number changes edits rules ≡ registered register most' number' changes' edits' rules'
+same_registered register most number changes edits rules = same_release refl refl refl most number changes edits rules
 
 pub led : (old new : Reached) (batch : BatchValue) → IsReached old → Follows (release_reached old) batch → IsShared (after_batch (release_reached old) batch) new.register
-    → new.number ≡ old.number + 1 → new.changes ≡ old.changes + length batch.changes → new.edits ≡ old.edits + (length batch.changes + length batch.rule_edits)
+    → new.most ≡ old.most → new.number ≡ old.number + 1 → new.changes ≡ old.changes + length batch.changes → new.edits ≡ old.edits + (length batch.changes + length batch.rule_edits)
     → new.rules ≡ fold edited_rules old.rules batch.rule_edits → IsLed batch old new
-led old new batch is follows shared number changes edits rules =
-    let leads : release_reached new ≡ after_batch (release_reached old) batch = same_registered new.register number changes edits rules ∙ sym shared.same in record {
+led old new batch is follows shared most number changes edits rules =
+    let leads : release_reached new ≡ after_batch (release_reached old) batch = same_registered new.register (most ∙ sym (same_limit (release_reached old) batch.changes)) number changes edits rules ∙ sym shared.same in record {
       leads = leads;
       whole = record {
         shared = subst (λ (r : ReleaseValue). IsShared r new.register) (sym leads) shared;
@@ -92,7 +92,7 @@ price_within base chain i n batch old so_far new at below was is =
     let low = count_le chain (i + 1) n (omega arith) in (omega (arith, count, was, is), omega (arith, count, low, was, is))
 
 -- ---- what was reached serves as a release
-kept_so : (reached : Reached) → IsReached reached → IsKept (stock_of reached.register) reached.number reached.changes reached.edits reached.rules
+kept_so : (reached : Reached) → IsReached reached → IsKept (stock_of reached.register) reached.most reached.number reached.changes reached.edits reached.rules
 kept_so reached is = record {
   whole = record { placed = placed_there reached.register (Some reached.register.book) refl is.shared.whole; living = is.shared.whole.living; distinct = is.shared.whole.distinct };
   sound = is.shared.sound;
@@ -102,12 +102,12 @@ kept_so reached is = record {
 }
 
 pub kept : (reached : Reached) (stock : Stock) (rules : RulesValue) → stock ≡ stock_of reached.register → rules ≡ reached.rules → IsReached reached
-    → IsKept stock reached.number reached.changes reached.edits rules
+    → IsKept stock reached.most reached.number reached.changes reached.edits rules
 kept reached stock rules is same whole =
-    subst (λ (s : Stock). IsKept s reached.number reached.changes reached.edits rules) (sym is)
-    (subst (λ (rs : RulesValue). IsKept (stock_of reached.register) reached.number reached.changes reached.edits rs) (sym same) (kept_so reached whole))
+    subst (λ (s : Stock). IsKept s reached.most reached.number reached.changes reached.edits rules) (sym is)
+    (subst (λ (rs : RulesValue). IsKept (stock_of reached.register) reached.most reached.number reached.changes reached.edits rs) (sym same) (kept_so reached whole))
 
 pub stocked_so : (reached : Reached) (stock : Stock) (rules : RulesValue) (release : ReleaseValue) → stock ≡ stock_of reached.register → rules ≡ reached.rules
-    → release ≡ stocked stock reached.number reached.changes reached.edits rules → release ≡ release_reached reached
+    → release ≡ stocked stock reached.most reached.number reached.changes reached.edits rules → release ≡ release_reached reached
 stocked_so reached stock rules release is same made =
-    made ∙ ap (λ (s : Stock). stocked s reached.number reached.changes reached.edits rules) is ∙ ap (stocked (stock_of reached.register) reached.number reached.changes reached.edits) same
+    made ∙ ap (λ (s : Stock). stocked s reached.most reached.number reached.changes reached.edits rules) is ∙ ap (stocked (stock_of reached.register) reached.most reached.number reached.changes reached.edits) same

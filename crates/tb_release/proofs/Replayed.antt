@@ -16,7 +16,7 @@ use Rattle.tb_pages.specs.declared.register.Register.{Register}
 use Rattle.tb_pages.proofs.RoomLemmas.{few_pages, filled_changed}
 use Rattle.tb_release.specs.declared.edits.Change.{Change}
 use Rattle.tb_release.specs.declared.edits.Edit.{Edit}
-use Rattle.tb_release.specs.declared.edits.Edit.TheVariants.{Add, Drop, Amend, Pvalue, Threshold}
+use Rattle.tb_release.specs.declared.edits.Edit.TheVariants.{Add, Drop, Amend, Pvalue, Threshold, Oldest}
 use Rattle.tb_release.specs.declared.limits.TheConstants.{MOST_CHANGES}
 use Rattle.tb_release.specs.Releases.{IsShared, IsSound, registered}
 use Rattle.tb_release.specs.Edits.{amended, edited, edited_rules, is_of_rules, person_of}
@@ -26,7 +26,8 @@ use Rattle.tb_release.specs.Chains.{after_batch, changed}
 use Rattle.tb_release.specs.Replays.{CanChange, CanReplay, IsChanged}
 use Rattle.tb_release.proofs.Persons.{found, none_found, stands}
 use Rattle.tb_release.proofs.Edited.{change_of-add, change_of-amend, change_of-drop, changed-change_of, records_in-changed, same_release, sound_after}
-use Rattle.tb_release.proofs.Chained.{changes_of-record, length-batch_of, with_rules}
+use Rattle.tb_release.proofs.Chained.{changes_of-record, length-batch_of, same_limit, with_rules}
+use Rattle.tb_release.proofs.FewRecords.{room_for_one}
 use Rattle.tb_release.proofs.Runs.{left_at}
 
 -- ---- whose record stands there
@@ -58,7 +59,7 @@ can_edit release (Add person key codes) register of sound can same room =
     subst (λ (c : Change). CanChange c.person c.before c.after register) (sym (change_of-add release person key codes can.new)) (record {
       own = refl;
       none = subst (λ (rs : List Record). has_person rs person ≡ false) same can.new;
-      few = subst (λ (rs : List Record). length rs < MOST_PERSONS) same can.room;
+      few = subst (λ (rs : List Record). length rs < MOST_PERSONS) same (room_for_one release person key sound can);
       room = room;
     })
 can_edit release (Drop person) register of sound can same room =
@@ -72,14 +73,15 @@ can_edit release (Amend person sets) register of sound can same room =
     (sym s.own, subst (λ (rs : List Record). record_of rs person ≡ Some r.0) same r.1)
 can_edit release (Pvalue row key pvalue) register of sound can same room = cc
 can_edit release (Threshold value) register of sound can same room = cc
+can_edit release (Oldest oldest) register of sound can same room = cc
 
 -- a change leads from a register's release to another's, whatever the rules are
-led_by : (old new : Register) (number changes edits stamp : ℕ) (rules : RulesValue) (change : Change) → stamp ≡ number + 1 → IsChanged stamp change old new
-    → changed (registered old number changes edits rules) change ≡ registered new number changes edits rules
-led_by old new number changes edits stamp rules change next is =
+led_by : (old new : Register) (most number changes edits stamp : ℕ) (rules : RulesValue) (change : Change) → stamp ≡ number + 1 → IsChanged stamp change old new
+    → changed (registered old most number changes edits rules) change ≡ registered new most number changes edits rules
+led_by old new most number changes edits stamp rules change next is =
     let pages : new.pages ≡ changed_pages (number + 1) old.pages change.person change.before change.after =
     is.pages ∙ ap (λ n. changed_pages n old.pages change.person change.before change.after) next in
-    same_release (sym (records_in-changed (number + 1) old.pages change.person change.before change.after) ∙ ap records_in (sym pages)) (sym pages) (sym is.keys) refl refl refl refl
+    same_release (sym (records_in-changed (number + 1) old.pages change.person change.before change.after) ∙ ap records_in (sym pages)) (sym pages) (sym is.keys) refl refl refl refl refl
 
 -- ---- some changes of a batch were made, and these are left
 -- the release so far has the rules that the batch's edits so far leave; the register knows of none
@@ -89,7 +91,7 @@ pub record IsHalfway (release : ReleaseValue) (batch : BatchValue) (rest : List 
   pub sound : IsSound now
   pub possible : ArePossible now edits
   pub theirs : rest ≡ changes_of now edits
-  pub same : now ≡ registered register release.number release.changes release.edits now.rules
+  pub same : now ≡ registered register release.most release.number release.changes release.edits now.rules
   pub whole : IsRegister register
   pub made : ℕ
   pub all : made + length rest ≡ length batch.changes
@@ -156,7 +158,7 @@ led_first change now edit of this sound possible = ap (changed now) this ∙ cha
 -- where the first edit that is left is of a record
 step_record : (release : ReleaseValue) (batch : BatchValue) (stamp : ℕ) (change : Change) (more : List Change) (register : Register) (now : ReleaseValue) (edit : Edit) (edits : List Edit) (made : ℕ)
     → is_of_rules edit ≡ false → stamp ≡ release.number + 1 → release.changes + length batch.changes ≤ MOST_CHANGES
-    → IsSound now → ArePossible now (edit ∷ edits) → change ∷ more ≡ changes_of now (edit ∷ edits) → now ≡ registered register release.number release.changes release.edits now.rules
+    → IsSound now → ArePossible now (edit ∷ edits) → change ∷ more ≡ changes_of now (edit ∷ edits) → now ≡ registered register release.most release.number release.changes release.edits now.rules
     → made + length (change ∷ more) ≡ length batch.changes → AreFilledBy register.pages (MOST_PERSONS + (release.changes + made))
     → record (fold changed now (change ∷ more)) { rules = release.rules } ≡ fold changed release batch.changes → Step release batch stamp change more register
 step_record release batch stamp change more register now edit edits made of next few sound possible theirs same all room leads =
@@ -174,8 +176,8 @@ step_record release batch stamp change more register now edit edits made of next
         possible = possible.1;
         theirs = both.1;
         same =
-            sym led ∙ ap (λ (r : ReleaseValue). changed r change) same ∙ led_by register new release.number release.changes release.edits stamp now.rules change next is
-            ∙ ap (registered new release.number release.changes release.edits) rules;
+            sym led ∙ ap (λ (r : ReleaseValue). changed r change) same ∙ led_by register new release.most release.number release.changes release.edits stamp now.rules change next is
+            ∙ ap (registered new release.most release.number release.changes release.edits) rules;
         whole = is.whole;
         made = made + 1;
         all = counts.0;
@@ -192,14 +194,14 @@ leads_ruled : (release now : ReleaseValue) (batch : BatchValue) (rules : RulesVa
     → record (fold changed (record now { rules = rules }) rest) { rules = release.rules } ≡ fold changed release batch.changes
 leads_ruled release now batch rules rest leads = ap (λ (r : ReleaseValue). record r { rules = release.rules }) (with_rules now rules rest) ∙ leads
 
-same_ruled : (release now : ReleaseValue) (register : Register) (rules : RulesValue) → now ≡ registered register release.number release.changes release.edits now.rules
-    → record now { rules = rules } ≡ registered register release.number release.changes release.edits rules
+same_ruled : (release now : ReleaseValue) (register : Register) (rules : RulesValue) → now ≡ registered register release.most release.number release.changes release.edits now.rules
+    → record now { rules = rules } ≡ registered register release.most release.number release.changes release.edits rules
 same_ruled release now register rules same = ap (λ (r : ReleaseValue). record r { rules = rules }) same
 
 -- edits of the rules before it are passed over
 step_of : (release : ReleaseValue) (batch : BatchValue) (stamp : ℕ) (change : Change) (more : List Change) (register : Register) (now : ReleaseValue) (edits : List Edit) (made : ℕ)
     → stamp ≡ release.number + 1 → release.changes + length batch.changes ≤ MOST_CHANGES
-    → IsSound now → ArePossible now edits → change ∷ more ≡ changes_of now edits → now ≡ registered register release.number release.changes release.edits now.rules
+    → IsSound now → ArePossible now edits → change ∷ more ≡ changes_of now edits → now ≡ registered register release.most release.number release.changes release.edits now.rules
     → made + length (change ∷ more) ≡ length batch.changes → AreFilledBy register.pages (MOST_PERSONS + (release.changes + made))
     → record (fold changed now (change ∷ more)) { rules = release.rules } ≡ fold changed release batch.changes → Step release batch stamp change more register
 step_of release batch stamp change more register now [] made next few sound possible theirs same all room leads = nothing_left change more now theirs
@@ -220,6 +222,10 @@ step_of release batch stamp change more register now (Threshold value ∷ edits)
     let rules : RulesValue = edited_rules now.rules (Threshold value) in
     step_of release batch stamp change more register (edited now (Threshold value)) edits made next few (sound_after now (Threshold value) possible.0 sound) possible.1 theirs
     (same_ruled release now register rules same) all room (leads_ruled release now batch rules (change ∷ more) leads)
+step_of release batch stamp change more register now (Oldest oldest ∷ edits) made next few sound possible theirs same all room leads =
+    let rules : RulesValue = edited_rules now.rules (Oldest oldest) in
+    step_of release batch stamp change more register (edited now (Oldest oldest)) edits made next few (sound_after now (Oldest oldest) possible.0 sound) possible.1 theirs
+    (same_ruled release now register rules same) all room (leads_ruled release now batch rules (change ∷ more) leads)
 
 -- the step at a place of the batch, whose changes stand in a list
 pub step : (release : ReleaseValue) (batch : BatchValue) (stamp : ℕ) (list : List Change) (i : ℕ) (change : Change) (first register : Register)
@@ -237,7 +243,7 @@ pub ends : (release : ReleaseValue) (batch : BatchValue) (rest : List Change) (r
     → IsShared (after_batch release batch) register
 ends release batch rest register way none fewer =
     let last : record way.now { rules = release.rules } ≡ fold changed release batch.changes = ap (λ cs. record (fold changed way.now cs) { rules = release.rules }) (sym none) ∙ way.leads in
-    let with_old : IsSound (record way.now { rules = release.rules }) = let s = way.sound in record { distinct = s.distinct; in_book = s.in_book; few = s.few; in_pages = s.in_pages } in
+    let with_old : IsSound (record way.now { rules = release.rules }) = let s = way.sound in record { distinct = s.distinct; in_book = s.in_book; few = s.few; most = s.most; in_pages = s.in_pages } in
     let sound : IsSound (fold changed release batch.changes) = subst IsSound last with_old in
     let no_more : length rest ≡ 0 = ap length none in
     let all : way.made ≡ length batch.changes = let h = way.all in omega arith in record {
@@ -246,9 +252,11 @@ ends release batch rest register way none fewer =
         changes = release.changes + length batch.changes;
         edits = release.edits + batch_length batch;
         rules = fold edited_rules release.rules batch.rule_edits;
-      }) (sym last ∙ same_ruled release way.now register release.rules way.same);
+      }) (sym last ∙ same_ruled release way.now register release.rules way.same)
+      ∙ ap (λ (m : ℕ). registered register m (release.number + 1) (release.changes + length batch.changes) (release.edits + batch_length batch) (fold edited_rules release.rules batch.rule_edits))
+          (sym (same_limit release batch.changes));
       whole = way.whole;
-      sound = record { distinct = sound.distinct; in_book = sound.in_book; few = sound.few; in_pages = sound.in_pages };
+      sound = record { distinct = sound.distinct; in_book = sound.in_book; few = sound.few; most = sound.most; in_pages = sound.in_pages };
       room = subst (λ n. AreFilledBy register.pages (MOST_PERSONS + (release.changes + n))) all way.room;
       fewer = omega (arith, fewer);
     }

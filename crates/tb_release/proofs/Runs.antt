@@ -19,7 +19,7 @@ use Rattle.tb_pages.specs.Fillings.{ArePlaced}
 use Rattle.tb_pages.specs.Registers.{IsRegister}
 use Rattle.tb_release.specs.declared.draft.Draft.{Draft}
 use Rattle.tb_release.specs.declared.edits.Edit.{Edit}
-use Rattle.tb_release.specs.declared.edits.Edit.TheVariants.{Add, Drop, Amend, Pvalue, Threshold}
+use Rattle.tb_release.specs.declared.edits.Edit.TheVariants.{Add, Drop, Amend, Pvalue, Threshold, Oldest}
 use Rattle.tb_release.specs.declared.edits.Change.{Change}
 use Rattle.tb_release.specs.declared.limits.TheConstants.{MOST_EDITS, MOST_RELEASES, MOST_CHANGES}
 use Rattle.tb_release.specs.Releases.{IsKept, IsShared, IsSound, stocked}
@@ -39,10 +39,10 @@ use Rattle.tb_release.proofs.Fitting.{fit_after, stay_fitting}
 
 -- ---- the beginning and the end of a draft
 pub draft_of : (draft : Draft) (release : ReleaseValue) → IsShared release draft.register
-    → draft.number ≡ release.number → draft.changes ≡ release.changes → draft.edits ≡ release.edits → draft.rules ≡ release.rules → draft.made ≡ 0
+    → draft.most ≡ release.most → draft.number ≡ release.number → draft.changes ≡ release.changes → draft.edits ≡ release.edits → draft.rules ≡ release.rules → draft.made ≡ 0
     → release.number < MOST_RELEASES → IsDraftOf release draft
-draft_of draft release shared number changes edits rules none more =
-    let same : release_of draft ≡ release = same_release refl refl refl number changes edits rules ∙ sym shared.same in record {
+draft_of draft release shared most number changes edits rules none more =
+    let same : release_of draft ≡ release = same_release refl refl refl most number changes edits rules ∙ sym shared.same in record {
       whole = record {
         whole = shared.whole;
         sound = subst IsSound (sym same) shared.sound;
@@ -64,19 +64,19 @@ pub placed_there : (register : Register) (o : Option Book) → o ≡ Some regist
 placed_there register o is whole = λ b there. (let same : register.book ≡ b = cc in subst (λ (x : Book). ArePlaced x register.pages) same whole.placed)
 
 pub draft_kept : (draft : Draft) (count : ℕ) (stock : Stock) → stock ≡ stock_of draft.register → IsDraft draft → draft.made ≤ count → draft.edits + count ≤ MOST_CHANGES
-    → IsKept stock (draft.number + 1) (draft.changes + draft.made) (draft.edits + count) draft.rules
-draft_kept draft count stock is d less few = subst (λ (s : Stock). IsKept s (draft.number + 1) (draft.changes + draft.made) (draft.edits + count) draft.rules) (sym is) (record {
+    → IsKept stock draft.most (draft.number + 1) (draft.changes + draft.made) (draft.edits + count) draft.rules
+draft_kept draft count stock is d less few = subst (λ (s : Stock). IsKept s draft.most (draft.number + 1) (draft.changes + draft.made) (draft.edits + count) draft.rules) (sym is) (record {
   whole = record { placed = placed_there draft.register (Some draft.register.book) refl d.whole; living = d.whole.living; distinct = d.whole.distinct };
-  sound = record { distinct = d.sound.distinct; in_book = d.sound.in_book; few = d.sound.few; in_pages = d.sound.in_pages };
+  sound = record { distinct = d.sound.distinct; in_book = d.sound.in_book; few = d.sound.few; most = d.sound.most; in_pages = d.sound.in_pages };
   room = d.room;
   fewer = let fewer = d.fewer in omega arith;
   few = few;
 })
 
 -- the next release is that of the draft
-pub draft_stocked : (draft : Draft) (stock : Stock) (next : ReleaseValue) (number changes edits : ℕ) → stock ≡ stock_of draft.register → next ≡ stocked stock number changes edits draft.rules
+pub draft_stocked : (draft : Draft) (stock : Stock) (next : ReleaseValue) (number changes edits : ℕ) → stock ≡ stock_of draft.register → next ≡ stocked stock draft.most number changes edits draft.rules
     → next ≡ record (release_of draft) { number = number; changes = changes; edits = edits }
-draft_stocked draft stock next number changes edits is same = same ∙ ap (λ s. stocked s number changes edits draft.rules) is
+draft_stocked draft stock next number changes edits is same = same ∙ ap (λ s. stocked s draft.most number changes edits draft.rules) is
 
 -- ---- the loop
 pub left_at : {X : Type 0} (xs : List X) (i : ℕ) (x : X) → i < length xs → x ≡ get_or xs i x → drop i xs ≡ x ∷ drop (i + 1) xs
@@ -102,6 +102,7 @@ one_entry batch release (Drop person) es = one_change batch (change_of release (
 one_entry batch release (Amend person sets) es = one_change batch (change_of release (Amend person sets)) (changes_of (edited release (Amend person sets)) es) (rule_edits_of es)
 one_entry batch release (Pvalue row key pvalue) es = one_rule batch (Pvalue row key pvalue) (changes_of (edited release (Pvalue row key pvalue)) es) (rule_edits_of es)
 one_entry batch release (Threshold value) es = one_rule batch (Threshold value) (changes_of (edited release (Threshold value)) es) (rule_edits_of es)
+one_entry batch release (Oldest oldest) es = one_rule batch (Oldest oldest) (changes_of (edited release (Oldest oldest)) es) (rule_edits_of es)
 
 pub step_batch : (batch after : BatchValue) (entry : BatchEntry) (release next : ReleaseValue) (e : Edit) (es : List Edit) → next ≡ edited release e → entry ≡ entry_of release e
     → after ≡ with_entry batch entry → joined after (batch_of next es) ≡ joined batch (batch_of release (e ∷ es))
@@ -137,6 +138,7 @@ entry_in_range release e entry can made = subst IsEntry (sym made) (by e can)
     by (Amend person sets) can = tt
     by (Pvalue row key pvalue) can = can
     by (Threshold value) can = can
+    by (Oldest oldest) can = tt
 
 pub fits_at : (shape : List ℕ) (edits : List Edit) (i : ℕ) (e : Edit) → All (EditFits shape) edits → i < length edits → e ≡ get_or edits i e → EditFits shape e
 fits_at shape edits i e fits within here = subst (EditFits shape) (sym here) (fits i e within)
@@ -164,6 +166,7 @@ can_set shape release (Amend person sets) fit fits =
     (recursion_from_All (λ r. HaveVariables sets r.codes) release.records (All-weaker (Fits shape) (λ r. HaveVariables sets r.codes) (λ r. have_variables shape sets r fits) release.records fit))
 can_set shape release (Pvalue row key pvalue) fit fits = fits
 can_set shape release (Threshold value) fit fits = fits
+can_set shape release (Oldest oldest) fit fits = tt
 
 -- ---- the changes fit
 change_fits : (shape : List ℕ) (release : ReleaseValue) (e : Edit) → AllFit shape release.records → EditFits shape e → ChangeFits shape (change_of release e)

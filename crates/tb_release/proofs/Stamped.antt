@@ -67,8 +67,8 @@ keeps base chain start n =
     ]
 
 pub stamps_tell : StampsTell
-stamps_tell threshold people chain i within =
-    let base = first_release threshold people in
+stamps_tell most threshold people chain i within =
+    let base = first_release most threshold people in
     let whole : take (length chain) chain ≡ chain = take_all (length chain) chain (omega arith) in
     let now : pages_at base chain (length chain) ≡ (release_after base chain).pages = ap (λ (cs : List BatchValue). (release_after base cs).pages) whole in
     subst (λ (ps : List PageValue). let stamp = (get_or ps i no_page).stamp in (stamp ≤ length chain) × (get_or ps i no_page ≡ get_or (pages_at base chain stamp) i no_page)) now

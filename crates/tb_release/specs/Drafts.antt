@@ -11,7 +11,8 @@ use Rattle.tb_pages.specs.Registers.{IsRegister}
 use Rattle.tb_pages.specs.Rooms.{AreFilledBy}
 use Rattle.tb_release.specs.declared.draft.Draft.{Draft}
 use Rattle.tb_release.specs.declared.edits.Edit.{Edit}
-use Rattle.tb_release.specs.declared.edits.Edit.TheVariants.{Add, Drop, Amend, Pvalue, Threshold}
+use Rattle.tb_release.specs.declared.edits.Edit.TheVariants.{Add, Drop, Amend, Pvalue}
+use Rattle.tb_release.specs.declared.edits.Edit.TheVariants.{Oldest, Threshold}
 use Rattle.tb_release.specs.declared.edits.BatchEntry.{BatchEntry}
 use Rattle.tb_release.specs.declared.limits.TheConstants.{MOST_RELEASES}
 use Rattle.tb_release.specs.Releases.{IsSound, registered}
@@ -22,7 +23,8 @@ use Rattle.tb_release.specs.Entries.{changes_in, entry_of}
 
 -- the release for which a draft stands
 abbrev pub release_of : Draft → ReleaseValue
-release_of draft = registered draft.register draft.number draft.changes draft.edits draft.rules
+release_of draft =
+    registered draft.register draft.most draft.number draft.changes draft.edits draft.rules
 
 -- persons are found on their pages, the release is sound, there are no more pages than the changes
 -- so far and those made suffice for, no more changes than edits, and another release may come
@@ -67,3 +69,4 @@ CanSet release (Amend person sets) =
     ForSome (record_of release.records person) (λ r. HaveVariables sets r.codes)
 CanSet release (Pvalue row key pvalue) = MayBeSet row key pvalue
 CanSet release (Threshold value) = value ≤ MOST_THRESHOLD
+CanSet release (Oldest oldest) = Unit {0}

@@ -3,12 +3,13 @@ use Rattle.std.specs.Prelude.{ℕ, ◌+◌, Bool, true, false, not, if◌then◌
 use Rattle.std.specs.Prelude.{map, filter, fold, slice_set}
 use Rattle.std.specs.FinMap as finmap
 use Rattle.tb_base.specs.declared.records.Record.{Record}
-use Rattle.tb_base.specs.Rules.{RulesValue, with_pvalue, with_threshold}
+use Rattle.tb_base.specs.Rules.{RulesValue, with_oldest, with_pvalue, with_threshold}
 use Rattle.tb_model.specs.Pages.{PageValue}
 use Rattle.tb_model.specs.Releases.{KeyBook, ReleaseValue}
 use Rattle.tb_pages.specs.Pages.{changed_pages, is_of, record_of}
 use Rattle.tb_release.specs.declared.edits.Edit.{Edit}
-use Rattle.tb_release.specs.declared.edits.Edit.TheVariants.{Add, Drop, Amend, Pvalue, Threshold}
+use Rattle.tb_release.specs.declared.edits.Edit.TheVariants.{Add, Drop, Amend, Pvalue}
+use Rattle.tb_release.specs.declared.edits.Edit.TheVariants.{Oldest, Threshold}
 
 -- whether an edit is one of the rules, and not of a record
 abbrev pub is_of_rules : Edit → Bool
@@ -17,6 +18,7 @@ is_of_rules (Drop person) = false
 is_of_rules (Amend person sets) = false
 is_of_rules (Pvalue row key pvalue) = true
 is_of_rules (Threshold value) = true
+is_of_rules (Oldest oldest) = true
 
 -- the person of an edit of a record; an edit of the rules has none
 abbrev pub person_of : Edit → ℕ
@@ -25,6 +27,7 @@ person_of (Drop person) = person
 person_of (Amend person sets) = person
 person_of (Pvalue row key pvalue) = 0
 person_of (Threshold value) = 0
+person_of (Oldest oldest) = 0
 
 -- a record with the settings made in their order
 abbrev pub amended : List (ℕ × ℕ) → Record → Record
@@ -40,6 +43,7 @@ edited_records records (Amend person sets) =
     map (λ r. if is_of person r then amended sets r else r) records
 edited_records records (Pvalue row key pvalue) = records
 edited_records records (Threshold value) = records
+edited_records records (Oldest oldest) = records
 
 -- the key book that an edit leaves: an added person stands in it from then on
 abbrev pub edited_book : KeyBook → Edit → KeyBook
@@ -48,6 +52,7 @@ edited_book book (Drop person) = book
 edited_book book (Amend person sets) = book
 edited_book book (Pvalue row key pvalue) = book
 edited_book book (Threshold value) = book
+edited_book book (Oldest oldest) = book
 
 -- the rules that an edit leaves
 abbrev pub edited_rules : RulesValue → Edit → RulesValue
@@ -56,6 +61,7 @@ edited_rules rules (Drop person) = rules
 edited_rules rules (Amend person sets) = rules
 edited_rules rules (Pvalue row key pvalue) = with_pvalue rules row key pvalue
 edited_rules rules (Threshold value) = with_threshold rules value
+edited_rules rules (Oldest oldest) = with_oldest rules oldest
 
 -- the pages that an edit leaves: its person's record before it is replaced by the one after it, and
 -- the page where that is has the number of the next release as its stamp; an edit of the rules

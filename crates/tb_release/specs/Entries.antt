@@ -4,7 +4,8 @@ use Rattle.tb_model.specs.Releases.{ReleaseValue}
 use Rattle.tb_release.specs.declared.edits.BatchEntry.{BatchEntry}
 use Rattle.tb_release.specs.declared.edits.BatchEntry.TheVariants as entry
 use Rattle.tb_release.specs.declared.edits.Edit.{Edit}
-use Rattle.tb_release.specs.declared.edits.Edit.TheVariants.{Add, Drop, Amend, Pvalue, Threshold}
+use Rattle.tb_release.specs.declared.edits.Edit.TheVariants.{Add, Drop, Amend, Pvalue}
+use Rattle.tb_release.specs.declared.edits.Edit.TheVariants.{Oldest, Threshold}
 use Rattle.tb_release.specs.Batches.{BatchValue, change_of}
 use Rattle.tb_release.specs.RuleEdits.{IsRuleEdit}
 
@@ -15,6 +16,7 @@ entry_of release (Drop person) = entry.Record (change_of release (Drop person))
 entry_of release (Amend person sets) = entry.Record (change_of release (Amend person sets))
 entry_of release (Pvalue row key pvalue) = entry.Rule (Pvalue row key pvalue)
 entry_of release (Threshold value) = entry.Rule (Threshold value)
+entry_of release (Oldest oldest) = entry.Rule (Oldest oldest)
 
 -- how many changes an entry is
 abbrev pub changes_in : BatchEntry → ℕ

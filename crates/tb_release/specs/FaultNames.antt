@@ -11,3 +11,4 @@ fault_name kind.NoSuchPerson = record { number = 2; word = codes "NoSuchPerson" 
 fault_name kind.KeyChanged = record { number = 3; word = codes "KeyChanged" }
 fault_name kind.TooMany = record { number = 4; word = codes "TooMany" }
 fault_name kind.Nothing = record { number = 5; word = codes "Nothing" }
+fault_name kind.BadRelease = record { number = 6; word = codes "BadRelease" }

@@ -6,7 +6,8 @@ use Rattle.tb_base.specs.declared.keys.TheConstants.{MOST_KEYS}
 use Rattle.tb_base.specs.declared.limits.TheConstants.{MOST_THRESHOLD}
 use Rattle.tb_base.specs.Rules.{can_be_set}
 use Rattle.tb_release.specs.declared.edits.Edit.{Edit}
-use Rattle.tb_release.specs.declared.edits.Edit.TheVariants.{Add, Drop, Amend, Pvalue, Threshold}
+use Rattle.tb_release.specs.declared.edits.Edit.TheVariants.{Add, Drop, Amend, Pvalue}
+use Rattle.tb_release.specs.declared.edits.Edit.TheVariants.{Oldest, Threshold}
 
 -- whether there is one category of each variable, and one that the variable has
 abbrev pub codes_fit : List ℕ → List ℕ → Bool
@@ -30,6 +31,7 @@ edit_fits shape (Drop person) = true
 edit_fits shape (Amend person sets) = list_all (setting_fits shape) sets
 edit_fits shape (Pvalue row key pvalue) = can_be_set row key pvalue
 edit_fits shape (Threshold value) = nat_le value MOST_THRESHOLD
+edit_fits shape (Oldest oldest) = true
 
 -- whether that of each edit does
 abbrev pub edits_fit : List ℕ → List Edit → Bool

@@ -11,7 +11,8 @@ use Rattle.tb_model.specs.Releases.{KeyBook, ReleaseValue, first_release}
 use Rattle.tb_pages.specs.Pages.{no_page}
 use Rattle.tb_pages.specs.Stamps.{KeepsPages}
 use Rattle.tb_release.specs.declared.edits.Edit.{Edit}
-use Rattle.tb_release.specs.declared.edits.Edit.TheVariants.{Add, Drop, Amend, Pvalue, Threshold}
+use Rattle.tb_release.specs.declared.edits.Edit.TheVariants.{Add, Drop, Amend, Pvalue}
+use Rattle.tb_release.specs.declared.edits.Edit.TheVariants.{Oldest, Threshold}
 use Rattle.tb_release.specs.declared.limits.TheConstants.{MOST_EDITS}
 use Rattle.tb_release.specs.Releases.{IsSound}
 use Rattle.tb_release.specs.Edits.{edited_all}
@@ -53,6 +54,7 @@ EditFits shape (Amend person sets) =
     AllByRecursion (λ s. (s.0 < length shape) × (s.1 < slice_index shape s.0)) sets
 EditFits shape (Pvalue row key pvalue) = MayBeSet row key pvalue
 EditFits shape (Threshold value) = value ≤ MOST_THRESHOLD
+EditFits shape (Oldest oldest) = Unit {0}
 
 -- the test of edits is true exactly where what each adds or sets fits
 abbrev pub FitIsTold : Type 0
@@ -72,11 +74,13 @@ BatchesLeadOn =
     (release : ReleaseValue) (edits : List Edit) → IsSound release → ArePossible release edits
     → after_batch release (batch_of release edits) ≡ next_release release edits
 
--- the release after a chain is sound, has the keys from before, and counts batches, changes and
--- edits
+-- the release after a chain is sound, has the keys and the limit from before, shows no release
+-- again that was taken back, and counts batches, changes and edits
 pub record ChainFacts (release : ReleaseValue) (chain : List BatchValue) : Type 0 where
   pub sound : IsSound (release_after release chain)
   pub keys : KeepsKeys release.key_book (release_after release chain).key_book
+  pub most : (release_after release chain).most ≡ release.most
+  pub oldest : release.rules.oldest ≤ (release_after release chain).rules.oldest
   pub number : (release_after release chain).number ≡ release.number + length chain
   pub changes : (release_after release chain).changes ≡ release.changes + change_count chain
   pub edits : (release_after release chain).edits ≡ release.edits + edit_count chain
@@ -110,8 +114,8 @@ BatchesKeepPages =
 -- as the page's stamp says
 abbrev pub StampsTell : Type 0
 StampsTell =
-    (threshold : ℕ) (people : List Record) (chain : List BatchValue) (i : ℕ)
-    → let base = first_release threshold people in
+    (most threshold : ℕ) (people : List Record) (chain : List BatchValue) (i : ℕ)
+    → let base = first_release most threshold people in
     let last = release_after base chain in
     let stamp = (slice_index_or last.pages i no_page).stamp in
     i < length last.pages

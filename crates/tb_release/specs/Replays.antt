@@ -60,7 +60,8 @@ pub record CanReplay (release : ReleaseValue) (batch : BatchValue) (stamp : ℕ)
 -- the release that was reached
 abbrev pub release_reached : Reached → ReleaseValue
 release_reached reached =
-    registered reached.register reached.number reached.changes reached.edits reached.rules
+    registered reached.register reached.most reached.number reached.changes reached.edits
+    reached.rules
 
 -- what was reached serves as a release, and edits led to it that aren't too many
 pub record IsReached (reached : Reached) : Type 0 where

@@ -14,7 +14,8 @@ ghost use Rattle.tb_release.specs.declared.limits.TheConstants.{MOST_RELEASES};
 ghost use Rattle.tb_release.specs.Drafts.{AreMade, CanSet, HaveVariables, IsDraft, IsDraftOf};
 ghost use Rattle.tb_release.specs.Drafts.{IsMade, release_of};
 ghost use Rattle.tb_release.specs.Laws.{EditFits};
-ghost use Rattle.tb_release.specs.Possible.{CanAdd, IsPossible, first_refusal, refusal};
+ghost use Rattle.tb_release.specs.Possible.{CanAdd, CanTakeBack, IsPossible, first_refusal};
+ghost use Rattle.tb_release.specs.Possible.{refusal};
 ghost use Rattle.tb_release.specs.Results.{IsWhy};
 
 use crate::batches::Batch;
@@ -24,7 +25,7 @@ use crate::fault::{EditFault, EditFaultKind};
 use crate::parts::amended_record;
 use crate::release::Release;
 use std::alloc::Global;
-use tb_base::{Codes, MOST_PERSONS, Memory, Record, Shape};
+use tb_base::{Codes, Memory, Record, Shape};
 use tb_pages::{Register, Stock};
 
 /// A release while it is edited. Its pages, shards and rules are those of the old one until an edit
@@ -32,6 +33,7 @@ use tb_pages::{Register, Stock};
 #[derive(Drop)]
 pub(crate) struct Draft {
     register: Register,
+    most: usize,
     number: u32,
     changes: u32,
     edits: u32,
@@ -50,6 +52,7 @@ impl Draft {
         let rules = DraftRules::of(shared);
         Ok(Draft {
             register,
+            most: old.most(),
             number: old.number(),
             changes: old.record_changes(),
             edits: old.changes(),
@@ -101,6 +104,7 @@ impl Draft {
     {
         let Draft {
             register,
+            most,
             number,
             changes,
             edits,
@@ -111,7 +115,7 @@ impl Draft {
         let changes = changes + made as u32;
         let edits = edits + count as u32;
         let rules = rules.finish(alloc)?;
-        let next = Release::of(alloc, stock, number + 1, changes, edits, rules)?;
+        let next = Release::of(alloc, stock, most, number + 1, changes, edits, rules)?;
         Ok(next)
     }
 
@@ -130,6 +134,7 @@ impl Draft {
             Edit::Amend { person, sets: _ } => self.refusal_of_absent(*person),
             Edit::Pvalue { .. } => None,
             Edit::Threshold { .. } => None,
+            Edit::Oldest { release } => self.refusal_of_oldest(*release),
         }
     }
 
@@ -143,7 +148,7 @@ impl Draft {
         if is_other(self.register.key_of(person), key) {
             return Some(EditFaultKind::KeyChanged);
         }
-        if self.register.living >= MOST_PERSONS {
+        if self.register.living >= self.most {
             return Some(EditFaultKind::TooMany);
         }
         None
@@ -157,6 +162,16 @@ impl Draft {
             return None;
         }
         Some(EditFaultKind::NoSuchPerson)
+    }
+
+    fn refusal_of_oldest(&self, release: u32) -> Option<EditFaultKind>
+        requires { IsDraft self.now }
+        ensures { result ≡ refusal (release_of self.now) (edits.Oldest release) }
+    {
+        if release < self.rules.oldest() || release > self.number + 1 {
+            return Some(EditFaultKind::BadRelease);
+        }
+        None
     }
 
     // Makes an edit that is possible, and returns its entry in the batch.
@@ -173,6 +188,7 @@ impl Draft {
             Edit::Amend { person, sets } => self.amend(alloc, *person, sets),
             Edit::Pvalue { row, key, pvalue } => self.set_pvalue(*row, *key, *pvalue),
             Edit::Threshold { value } => self.set_threshold(*value),
+            Edit::Oldest { release } => self.set_oldest(*release),
         }
     }
 
@@ -195,6 +211,16 @@ impl Draft {
     {
         self.rules.set_threshold(value)?;
         Ok(BatchEntry::Rule(Edit::Threshold { value }))
+    }
+
+    // Takes back the releases before this one.
+    fn set_oldest(&mut self, release: u32) -> Result<BatchEntry, Memory>
+        requires draft { IsDraft self.old }
+        requires possible { CanTakeBack (release_of self.old) release }
+        ensures { IfOk result (λ entry. IsMade (edits.Oldest release) self.old self.new entry) }
+    {
+        self.rules.set_oldest(release)?;
+        Ok(BatchEntry::Rule(Edit::Oldest { release }))
     }
 
     // Puts a person's record last.

@@ -3,7 +3,7 @@
 ghost use Rattle.std.specs.Prelude.{◌≡◌, ◌≤◌, IfOk, OnOk, fold};
 ghost use Rattle.std.specs.Arc.{arc_value};
 ghost use Rattle.tb_base.specs.declared.limits.TheConstants.{MOST_THRESHOLD};
-ghost use Rattle.tb_base.specs.Rules.{MayBeSet, with_pvalue, with_threshold};
+ghost use Rattle.tb_base.specs.Rules.{MayBeSet, with_oldest, with_pvalue, with_threshold};
 ghost use Rattle.tb_release.specs.Edits.{edited_rules};
 
 use crate::batches::Batch;
@@ -59,6 +59,26 @@ impl DraftRules {
     {
         let mut edited = self.take_own()?;
         edited.set_threshold(value);
+        self.own = Some(edited);
+        Ok(())
+    }
+
+    /// The number of the oldest release that is shown.
+    pub(crate) fn oldest(&self) -> u32
+        ensures { result ≡ self.now.oldest }
+    {
+        match &self.own {
+            Some(edited) => edited.oldest(),
+            None => self.shared.oldest(),
+        }
+    }
+
+    /// Takes back the releases before this one.
+    pub(crate) fn set_oldest(&mut self, oldest: u32) -> Result<(), Memory>
+        ensures { OnOk result (self.new ≡ with_oldest self.old oldest) }
+    {
+        let mut edited = self.take_own()?;
+        edited.set_oldest(oldest);
         self.own = Some(edited);
         Ok(())
     }

@@ -49,7 +49,8 @@ impl Sets {
 }
 
 /// What is asked for one person: to add the person's record, to drop it, or to replace categories
-/// in it; or of the rules: to set the pvalue at a row and a cell key, or to set the threshold.
+/// in it; or of the rules: to set the pvalue at a row and a cell key, to set the threshold, or to
+/// take back the releases before one.
 #[derive(Debug, Drop)]
 pub enum Edit {
     Add { person: u32, key: u16, codes: Codes },
@@ -57,6 +58,7 @@ pub enum Edit {
     Amend { person: u32, sets: Sets },
     Pvalue { row: u16, key: u16, pvalue: i16 },
     Threshold { value: u32 },
+    Oldest { release: u32 },
 }
 
 /// What an edit of a record changed: the person's record before it, if there was one, and after it,

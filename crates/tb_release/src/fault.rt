@@ -8,9 +8,9 @@ use tb_base::Memory;
 use tb_rows::FaultName;
 use thiserror::Error;
 
-/// Why an edit isn't possible, or why some edits make no batch. `PersonThere`, `NoSuchPerson` and
-/// `KeyChanged` are an edit's alone; `TooMany` may be an edit's or that of all together; and there
-/// is `Nothing` where there is no edit.
+/// Why an edit isn't possible, or why some edits make no batch. `PersonThere`, `NoSuchPerson`,
+/// `KeyChanged` and `BadRelease` are an edit's alone; `TooMany` may be an edit's or that of all
+/// together; and there is `Nothing` where there is no edit.
 #[derive(Clone, Copy, Debug, PartialEq, Eq, Error)]
 pub enum EditFaultKind {
     #[error("the person has a record already")]
@@ -19,10 +19,13 @@ pub enum EditFaultKind {
     NoSuchPerson,
     #[error("the person must have the same record key as before")]
     KeyChanged,
-    #[error("there must be at most 1,000,000 records, 10,000 releases and 1,000,000 edits")]
+    #[error("there must be at most 1,000,000 records, or as many as the classification says, \
+        10,000 releases and 1,000,000 edits")]
     TooMany,
     #[error("there must be at least one edit")]
     Nothing,
+    #[error("the oldest release must be none before that of now, and none after the next one")]
+    BadRelease,
 }
 
 impl EditFaultKind {
@@ -36,6 +39,7 @@ impl EditFaultKind {
             EditFaultKind::KeyChanged => FaultName::new(3, "KeyChanged"),
             EditFaultKind::TooMany => FaultName::new(4, "TooMany"),
             EditFaultKind::Nothing => FaultName::new(5, "Nothing"),
+            EditFaultKind::BadRelease => FaultName::new(6, "BadRelease"),
         }
     }
 }

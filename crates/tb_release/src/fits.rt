@@ -65,6 +65,7 @@ pub fn edit_fits(shape: &Shape, edit: &Edit) -> bool
         Edit::Amend { person: _, sets } => sets_fit(shape, sets),
         Edit::Pvalue { row, key, pvalue } => may_be_set(*row, *key, *pvalue),
         Edit::Threshold { value } => is_threshold(*value),
+        Edit::Oldest { release: _ } => true,
     }
 }
 

@@ -19,6 +19,10 @@ fn edit_rules(rules: &mut Rules, edit: &Edit) -> Result<(), Memory>
             rules.set_threshold(*value);
             Ok(())
         }
+        Edit::Oldest { release } => {
+            rules.set_oldest(*release);
+            Ok(())
+        }
         Edit::Add { .. } => Ok(()),
         Edit::Drop { .. } => Ok(()),
         Edit::Amend { .. } => Ok(()),

@@ -9,7 +9,7 @@ pub fn edits_follow_unless_refused()
 {}
 
 /// Possible edits leave a release in which persons are distinct, each record's key stands in the
-/// key book, and there are at most `MOST_PERSONS` records.
+/// key book, and there are no more records than there may be.
 pub fn possible_edits_leave_a_sound_release()
     ensures { StaySound }
 {}

@@ -14,10 +14,10 @@
 //!
 //! Of the lemmas `Persons`, `Books` (key books), `Edited` (one edit), `Chained` (batches and
 //! chains) and `Stamped` (the stamps of pages) are over the definitions, and give the laws;
-//! `ChainFits` and `RevisedChains` are over the releases of a chain, for all crates; `First`,
-//! `Made` and `Runs` serve a release while it is edited, `EntryLemmas` its batch, `Fitting` that
-//! its records still fit, and `FitTests` the tests of that; `Replayed` (the changes of a batch) and
-//! `Reaching` (a batch) serve one that is led on. `Vectors` has worked batches.
+//! `ChainFits`, `FewRecords` and `RevisedChains` are over the releases of a chain, for all crates;
+//! `First`, `Made` and `Runs` serve a release while it is edited, `EntryLemmas` its batch,
+//! `Fitting` that its records still fit, and `FitTests` the tests of that; `Replayed` (the changes
+//! of a batch) and `Reaching` (a batch) serve one that is led on. `Vectors` has worked batches.
 #![tactic(auto)]
 
 mod batches;

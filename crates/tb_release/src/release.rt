@@ -16,16 +16,17 @@ use std::thread::Threads;
 use tb_base::{Memory, People, Record, Rules, Steps, charge};
 use tb_pages::{Lent, Register, Stock, filled_places};
 
-/// A release of the microdata: its records in order, no two of one person, the key book, its
-/// number, how many changes of records and how many edits led to it, and the rules by which it is
-/// shown. It has at most `MOST_PERSONS` records.
+/// A release of the microdata: its records in order, no two of one person, the key book, how many
+/// records there may be at most, its number, how many changes of records and how many edits led to
+/// it, and the rules by which it is shown. The limit is release 0's, and at most `MOST_PERSONS`.
 ///
 /// The records stand in pages, and the key book in shards, which other releases may share, as they
 /// may the rules. Release 0 has no key book: it is made for each draft of the release after it.
 #[derive(Drop)]
 pub struct Release {
     stock: Stock,
-    filled: Vec<u16>,
+    filled: Vec<u32>,
+    most: usize,
     number: u32,
     changes: u32,
     edits: u32,
@@ -43,34 +44,42 @@ impl Model for Release {
 
     ghost coded = { release_code };
 
-    ghost view = { λ r. stocked r.stock r.number r.changes r.edits (arc_value r.rules) };
+    ghost view = { λ r. stocked r.stock r.most r.number r.changes r.edits (arc_value r.rules) };
 
-    ghost invariant = { λ r. IsKept r.stock r.number r.changes r.edits (arc_value r.rules)
+    ghost invariant = { λ r. IsKept r.stock r.most r.number r.changes r.edits (arc_value r.rules)
         × (r.filled.items ≡ filled_from 0 r.stock.pages) };
 }
 
 impl Release {
     // Release 0 of a first stock.
-    fn zero(alloc: Global, stock: Stock, rules: Rules) -> Result<Release, Memory>
-        requires { IsKept stock 0 0 0 rules }
-        ensures { IfOk result (λ release. release ≡ stocked stock 0 0 0 rules) }
+    fn zero(alloc: Global, stock: Stock, most: usize, rules: Rules) -> Result<Release, Memory>
+        requires { IsKept stock most 0 0 0 rules }
+        ensures { IfOk result (λ release. release ≡ stocked stock most 0 0 0 rules) }
     {
         let rules = Arc::new(alloc, rules)?;
-        let zero = Release::of(alloc, stock, 0, 0, 0, rules)?;
+        let zero = Release::of(alloc, stock, most, 0, 0, 0, rules)?;
         Ok(zero)
     }
 
-    /// Release 0: these records, each put into the pages after the other, no edit so far, and rules
-    /// without a pvalue that was set. The list of records is given up page by page, so that no
-    /// second list of them all stands. It takes a little memory for the pages, and to share the
-    /// rules. One thread makes all pages.
-    pub fn first(alloc: Global, people: People, rules: Rules) -> Result<Release, Memory>
-        requires few { length people ≤ MOST_PERSONS }
+    /// Release 0: these records, at most so many as there may be at any time, each put into the
+    /// pages after the other, no edit so far, and rules by which no release was taken back and no
+    /// pvalue set. The list of records is given up page by page, so that no second list of them all
+    /// stands. It takes a little memory for the pages, and to share the rules. One thread makes all
+    /// pages.
+    pub fn first(
+        alloc: Global,
+        most: usize,
+        people: People,
+        rules: Rules,
+    ) -> Result<Release, Memory>
+        requires few { length people ≤ most }
+        requires within { most ≤ MOST_PERSONS }
         requires none_set { rules.pvalues ≡ [] }
-        ensures { IfOk result (λ release. release ≡ first_release rules.threshold people) }
+        requires all_shown { rules.oldest ≡ 0 }
+        ensures { IfOk result (λ release. release ≡ first_release most rules.threshold people) }
     {
         let stock = Stock::first(alloc, people.into_list())?;
-        let first = Release::zero(alloc, stock, rules)?;
+        let first = Release::zero(alloc, stock, most, rules)?;
         Ok(first)
     }
 
@@ -79,23 +88,26 @@ impl Release {
     pub fn first_in_parts(
         rt: &(impl Threads + Sync),
         alloc: Global,
+        most: usize,
         lists: Vec<Vec<Record>>,
         rules: Rules,
     ) -> Result<Release, Memory>
         requires distinct { AreDistinct (flat_map (λ list. list.items) lists.items) }
-        requires few { length (flat_map (λ list. list.items) lists.items) ≤ MOST_PERSONS }
+        requires few { length (flat_map (λ list. list.items) lists.items) ≤ most }
+        requires within { most ≤ MOST_PERSONS }
         requires none_set { rules.pvalues ≡ [] }
-        ensures { IfOk result (λ release.
-            release ≡ first_release rules.threshold (flat_map (λ list. list.items) lists.items)) }
+        requires all_shown { rules.oldest ≡ 0 }
+        ensures { IfOk result (λ release. release
+            ≡ first_release most rules.threshold (flat_map (λ list. list.items) lists.items)) }
     {
         let stock = Stock::first_in_parts(rt, alloc, lists)?;
-        let first = Release::zero(alloc, stock, rules)?;
+        let first = Release::zero(alloc, stock, most, rules)?;
         Ok(first)
     }
 
-    /// What is true of every release: distinct persons, each record's key in the key book, at most
-    /// `MOST_PERSONS` records, and that they are those of its pages in order. It does nothing, and
-    /// lets a caller's proof know this.
+    /// What is true of every release: distinct persons, each record's key in the key book, no more
+    /// records than there may be, no more of these than `MOST_PERSONS`, and that they are those of
+    /// its pages in order. It does nothing, and lets a caller's proof know this.
     pub fn soundness(&self)
         ensures { IsSound self.now }
     {
@@ -107,6 +119,13 @@ impl Release {
         ensures { result ≡ self.now.number }
     {
         self.number
+    }
+
+    /// How many records there may be at most, in it and in each release after it.
+    pub fn most(&self) -> usize
+        ensures { result ≡ self.now.most }
+    {
+        self.most
     }
 
     /// How many records there are.
@@ -180,19 +199,21 @@ impl Release {
     pub(crate) fn of(
         alloc: Global,
         stock: Stock,
+        most: usize,
         number: u32,
         changes: u32,
         edits: u32,
         rules: Arc<Rules>,
     ) -> Result<Release, Memory>
-        requires { IsKept stock number changes edits (arc_value rules) }
+        requires { IsKept stock most number changes edits (arc_value rules) }
         ensures { IfOk result
-            (λ release. release ≡ stocked stock number changes edits (arc_value rules)) }
+            (λ release. release ≡ stocked stock most number changes edits (arc_value rules)) }
     {
         let filled = filled_places(alloc, &stock.pages)?;
         Ok(Release {
             stock,
             filled,
+            most,
             number,
             changes,
             edits,

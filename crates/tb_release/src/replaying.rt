@@ -102,6 +102,7 @@ fn make_all<L: Ledger>(
 struct Reached {
     register: Register,
     rules: DraftRules,
+    most: usize,
     number: u32,
     changes: u32,
     edits: u32,
@@ -119,6 +120,7 @@ impl Reached {
         Ok(Reached {
             register,
             rules,
+            most: base.most(),
             number: base.number(),
             changes: base.record_changes(),
             edits: base.changes(),
@@ -155,13 +157,14 @@ impl Reached {
         let Reached {
             register,
             rules,
+            most,
             number,
             changes,
             edits,
         } = self;
         let stock = Stock::of(register);
         let rules = rules.finish(alloc)?;
-        let release = Release::of(alloc, stock, number, changes, edits, rules)?;
+        let release = Release::of(alloc, stock, most, number, changes, edits, rules)?;
         Ok(release)
     }
 }

@@ -25,7 +25,7 @@ use Rattle.tb_release.specs.Laws.{EditFits}
 use Rattle.tb_revise.specs.declared.fault.EditTextFault.{EditTextFault}
 use Rattle.tb_revise.specs.declared.fault.EditTextFault.TheVariants as faults
 use Rattle.tb_revise.specs.Faults.{has_bad_number, has_unknown_name, has_unknown_code, misses_variable, settings_refusal, refusal}
-use Rattle.tb_revise.specs.Grammar.{NamedSetting, NamedEdit, NamedAdd, NamedDrop, NamedAmend, NamedPvalue, NamedThreshold}
+use Rattle.tb_revise.specs.Grammar.{NamedSetting, NamedEdit, NamedAdd, NamedDrop, NamedAmend, NamedPvalue, NamedThreshold, NamedOldest}
 use Rattle.tb_revise.specs.Laws.{ReadEditsFit}
 use Rattle.tb_revise.specs.Meanings.{categories_named, categories_set, category_named, category_set, edit_meant, key_meant, number_meant, person_meant, set_meant, sets_meant, signed_meant, variable_meant, variable_named}
 
@@ -168,6 +168,7 @@ fits-meant schema (NamedPvalue row key pvalue) h =
 fits-meant schema (NamedThreshold value) h =
     let (numbers, _) = none_of (has_bad_number schema.keys (NamedThreshold value)) faults.BadNumber _ h in
     leb-true (number_meant value) MOST_THRESHOLD (last-well (is_none (number_of value)) _ numbers)
+fits-meant schema (NamedOldest release) h = tt
 
 pub read_edits_fit : ReadEditsFit
 read_edits_fit schema line edit h = subst (EditFits (shape_of schema)) h.means (fits-meant schema h.named h.no_fault)

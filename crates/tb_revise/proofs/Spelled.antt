@@ -9,8 +9,8 @@ use Rattle.tb_base.proofs.AllThere.{first-some}
 use Rattle.tb_base.proofs.Texts.{same_text}
 use Rattle.tb_revise.specs.declared.fault.EditTextFault.{EditTextFault}
 use Rattle.tb_revise.specs.declared.fault.EditTextFault.TheVariants as faults
-use Rattle.tb_revise.specs.Grammar.{NamedSetting, NamedEdit, NamedAdd, NamedDrop, NamedAmend, NamedPvalue, NamedThreshold, IsEdit, EndsAtEquals, HasEnough, HasSome, edit_words, is_equals, setting_word, settings_of}
-use Rattle.tb_revise.specs.Reading.{ParsesNone, StopsBy, read_setting, read_settings, read_add, read_drop, read_amend, read_pvalue, read_threshold, read_words}
+use Rattle.tb_revise.specs.Grammar.{NamedSetting, NamedEdit, NamedAdd, NamedDrop, NamedAmend, NamedPvalue, NamedThreshold, NamedOldest, IsEdit, EndsAtEquals, HasEnough, HasSome, edit_words, is_equals, setting_word, settings_of}
+use Rattle.tb_revise.specs.Reading.{ParsesNone, StopsBy, read_setting, read_settings, read_add, read_drop, read_amend, read_pvalue, read_threshold, read_oldest, read_words}
 use Rattle.tb_revise.specs.Laws.{OneEdit}
 
 -- how many bytes stand before the first `=`
@@ -161,23 +161,33 @@ is-threshold (value ∷ []) e h =
     subst (IsEdit (codes "threshold" ∷ value ∷ [])) same (record { spelled = refl; names = tt; enough = tt })
 is-threshold (value ∷ word ∷ words) e h = absurd (cc)
 
+is-oldest : (words : List (List ℕ)) (e : NamedEdit) → read_oldest words ≡ Some e → IsEdit (codes "oldest" ∷ words) e
+unfolding read_oldest
+is-oldest [] e h = absurd (cc)
+is-oldest (release ∷ []) e h =
+    let same : NamedOldest release ≡ e = cc in
+    subst (IsEdit (codes "oldest" ∷ release ∷ [])) same (record { spelled = refl; names = tt; enough = tt })
+is-oldest (release ∷ word ∷ words) e h = absurd (cc)
+
 -- an edit by its first word, where there is one: each is tried in turn
-is-edit-by : (first : List ℕ) (words : List (List ℕ)) (e : NamedEdit) (a d m p t : Bool) → bytes_eq first (codes "add") ≡ a → bytes_eq first (codes "drop") ≡ d → bytes_eq first (codes "amend") ≡ m
-    → bytes_eq first (codes "pvalue") ≡ p → bytes_eq first (codes "threshold") ≡ t → read_words (first ∷ words) ≡ Some e → IsEdit (first ∷ words) e
+is-edit-by : (first : List ℕ) (words : List (List ℕ)) (e : NamedEdit) (a d m p t o : Bool) → bytes_eq first (codes "add") ≡ a → bytes_eq first (codes "drop") ≡ d → bytes_eq first (codes "amend") ≡ m
+    → bytes_eq first (codes "pvalue") ≡ p → bytes_eq first (codes "threshold") ≡ t → bytes_eq first (codes "oldest") ≡ o → read_words (first ∷ words) ≡ Some e → IsEdit (first ∷ words) e
 unfolding read_words
-is-edit-by first words e true d m p t ea ed em ep et h = subst (λ w. IsEdit (w ∷ words) e) (sym (same_text first (codes "add") ea)) (is-add words e (rw ea at h))
-is-edit-by first words e false true m p t ea ed em ep et h = subst (λ w. IsEdit (w ∷ words) e) (sym (same_text first (codes "drop") ed)) (is-drop words e (rw (ea, ed) at h))
-is-edit-by first words e false false true p t ea ed em ep et h = subst (λ w. IsEdit (w ∷ words) e) (sym (same_text first (codes "amend") em)) (is-amend words e (rw (ea, ed, em) at h))
-is-edit-by first words e false false false true t ea ed em ep et h = subst (λ w. IsEdit (w ∷ words) e) (sym (same_text first (codes "pvalue") ep)) (is-pvalue words e (rw (ea, ed, em, ep) at h))
-is-edit-by first words e false false false false true ea ed em ep et h =
+is-edit-by first words e true d m p t o ea ed em ep et eo h = subst (λ w. IsEdit (w ∷ words) e) (sym (same_text first (codes "add") ea)) (is-add words e (rw ea at h))
+is-edit-by first words e false true m p t o ea ed em ep et eo h = subst (λ w. IsEdit (w ∷ words) e) (sym (same_text first (codes "drop") ed)) (is-drop words e (rw (ea, ed) at h))
+is-edit-by first words e false false true p t o ea ed em ep et eo h = subst (λ w. IsEdit (w ∷ words) e) (sym (same_text first (codes "amend") em)) (is-amend words e (rw (ea, ed, em) at h))
+is-edit-by first words e false false false true t o ea ed em ep et eo h = subst (λ w. IsEdit (w ∷ words) e) (sym (same_text first (codes "pvalue") ep)) (is-pvalue words e (rw (ea, ed, em, ep) at h))
+is-edit-by first words e false false false false true o ea ed em ep et eo h =
     subst (λ w. IsEdit (w ∷ words) e) (sym (same_text first (codes "threshold") et)) (is-threshold words e (rw (ea, ed, em, ep, et) at h))
-is-edit-by first words e false false false false false ea ed em ep et h = let g = rw (ea, ed, em, ep, et) at h in absurd (cc)
+is-edit-by first words e false false false false false true ea ed em ep et eo h =
+    subst (λ w. IsEdit (w ∷ words) e) (sym (same_text first (codes "oldest") eo)) (is-oldest words e (rw (ea, ed, em, ep, et, eo) at h))
+is-edit-by first words e false false false false false false ea ed em ep et eo h = let g = rw (ea, ed, em, ep, et, eo) at h in absurd (cc)
 
 -- what is read is an edit
 pub is-edit : (words : List (List ℕ)) (e : NamedEdit) → read_words words ≡ Some e → IsEdit words e
 unfolding read_words
 is-edit [] e h = absurd (cc)
-is-edit (first ∷ words) e h = is-edit-by first words e (bytes_eq first (codes "add")) (bytes_eq first (codes "drop")) (bytes_eq first (codes "amend")) (bytes_eq first (codes "pvalue")) (bytes_eq first (codes "threshold")) refl refl refl refl refl h
+is-edit (first ∷ words) e h = is-edit-by first words e (bytes_eq first (codes "add")) (bytes_eq first (codes "drop")) (bytes_eq first (codes "amend")) (bytes_eq first (codes "pvalue")) (bytes_eq first (codes "threshold")) (bytes_eq first (codes "oldest")) refl refl refl refl refl refl h
 
 read-amend : (person : List ℕ) (ss : List NamedSetting) → AllByRecursion EndsAtEquals ss → HasSome ss → read_amend (person ∷ map setting_word ss) ≡ Some (NamedAmend person ss)
 unfolding read_amend
@@ -185,12 +195,13 @@ read-amend person [] names enough = absurd enough
 read-amend person (s ∷ ss) names enough = ap (option_map (NamedAmend person)) (read-settings (s ∷ ss) names)
 
 read-of : (e : NamedEdit) → AllByRecursion EndsAtEquals (settings_of e) → HasEnough e → read_words (edit_words e) ≡ Some e
-unfolding read_words read_add read_drop read_pvalue read_threshold
+unfolding read_words read_add read_drop read_pvalue read_threshold read_oldest
 read-of (NamedAdd person key ss) names enough = ap (option_map (NamedAdd person key)) (read-settings ss names)
 read-of (NamedDrop person) names enough = refl
 read-of (NamedAmend person ss) names enough = read-amend person ss names enough
 read-of (NamedPvalue row key pvalue) names enough = refl
 read-of (NamedThreshold value) names enough = refl
+read-of (NamedOldest release) names enough = refl
 
 -- and an edit is read
 pub read-edit : (words : List (List ℕ)) (e : NamedEdit) → IsEdit words e → read_words words ≡ Some e

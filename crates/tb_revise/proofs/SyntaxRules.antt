@@ -6,7 +6,7 @@ use Rattle.std.specs.Option.{option_map}
 use Rattle.std.proofs.lemmas.Bool.Decides.{nat_tests}
 use Rattle.tb_revise.specs.Grammar.{NamedSetting, NamedEdit, NamedAdd, NamedAmend, IsEdit, is_equals}
 use Rattle.tb_revise.specs.Laws.{SyntaxByRules, has_syntax_fault, lacks_equals, lacks_words}
-use Rattle.tb_revise.specs.Reading.{read_setting, read_settings, read_add, read_drop, read_amend, read_pvalue, read_threshold, read_words}
+use Rattle.tb_revise.specs.Reading.{read_setting, read_settings, read_add, read_drop, read_amend, read_pvalue, read_threshold, read_oldest, read_words}
 use Rattle.tb_revise.proofs.Spelled.{is-edit, no-edit}
 
 none-mapped : {A B : Type 0} (f : A → B) (o : Option A) → is_none (option_map f o) ≡ is_none o
@@ -79,20 +79,27 @@ no-threshold [] = refl
 no-threshold (value ∷ []) = refl
 no-threshold (value ∷ word ∷ words) = sym (not-one (length words))
 
-rules-of : (first : List ℕ) (words : List (List ℕ)) (a d m p t : Bool) → bytes_eq first (codes "add") ≡ a → bytes_eq first (codes "drop") ≡ d → bytes_eq first (codes "amend") ≡ m
-    → bytes_eq first (codes "pvalue") ≡ p → bytes_eq first (codes "threshold") ≡ t → is_none (read_words (first ∷ words)) ≡ has_syntax_fault (first ∷ words)
+no-oldest : (words : List (List ℕ)) → is_none (read_oldest words) ≡ not (length words == 1)
+unfolding read_oldest
+no-oldest [] = refl
+no-oldest (release ∷ []) = refl
+no-oldest (release ∷ word ∷ words) = sym (not-one (length words))
+
+rules-of : (first : List ℕ) (words : List (List ℕ)) (a d m p t o : Bool) → bytes_eq first (codes "add") ≡ a → bytes_eq first (codes "drop") ≡ d → bytes_eq first (codes "amend") ≡ m
+    → bytes_eq first (codes "pvalue") ≡ p → bytes_eq first (codes "threshold") ≡ t → bytes_eq first (codes "oldest") ≡ o → is_none (read_words (first ∷ words)) ≡ has_syntax_fault (first ∷ words)
 unfolding read_words
-rules-of first words true d m p t ea ed em ep et = rw ea (no-add words)
-rules-of first words false true m p t ea ed em ep et = rw (ea, ed) (no-drop words)
-rules-of first words false false true p t ea ed em ep et = rw (ea, ed, em) (no-amend words)
-rules-of first words false false false true t ea ed em ep et = rw (ea, ed, em, ep) (no-pvalue words)
-rules-of first words false false false false true ea ed em ep et = rw (ea, ed, em, ep, et) (no-threshold words)
-rules-of first words false false false false false ea ed em ep et = rw (ea, ed, em, ep, et) refl
+rules-of first words true d m p t o ea ed em ep et eo = rw ea (no-add words)
+rules-of first words false true m p t o ea ed em ep et eo = rw (ea, ed) (no-drop words)
+rules-of first words false false true p t o ea ed em ep et eo = rw (ea, ed, em) (no-amend words)
+rules-of first words false false false true t o ea ed em ep et eo = rw (ea, ed, em, ep) (no-pvalue words)
+rules-of first words false false false false true o ea ed em ep et eo = rw (ea, ed, em, ep, et) (no-threshold words)
+rules-of first words false false false false false true ea ed em ep et eo = rw (ea, ed, em, ep, et, eo) (no-oldest words)
+rules-of first words false false false false false false ea ed em ep et eo = rw (ea, ed, em, ep, et, eo) refl
 
 rules : (words : List (List ℕ)) → is_none (read_words words) ≡ has_syntax_fault words
 unfolding read_words
 rules [] = refl
-rules (first ∷ words) = rules-of first words (bytes_eq first (codes "add")) (bytes_eq first (codes "drop")) (bytes_eq first (codes "amend")) (bytes_eq first (codes "pvalue")) (bytes_eq first (codes "threshold")) refl refl refl refl refl
+rules (first ∷ words) = rules-of first words (bytes_eq first (codes "add")) (bytes_eq first (codes "drop")) (bytes_eq first (codes "amend")) (bytes_eq first (codes "pvalue")) (bytes_eq first (codes "threshold")) (bytes_eq first (codes "oldest")) refl refl refl refl refl refl
 
 none-read : (words : List (List ℕ)) (o : Option NamedEdit) → read_words words ≡ o → ((e : NamedEdit) → ¬ IsEdit words e) → is_none (read_words words) ≡ true
 none-read words None e none = rw e refl

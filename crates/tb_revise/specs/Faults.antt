@@ -13,13 +13,14 @@ use Rattle.tb_release.specs.declared.edits.Edit.{Edit}
 use Rattle.tb_revise.specs.declared.fault.EditTextFault.{EditTextFault}
 use Rattle.tb_revise.specs.declared.fault.EditTextFault.TheVariants as faults
 use Rattle.tb_revise.specs.Grammar.{NamedSetting, NamedEdit, NamedAdd, NamedDrop, NamedAmend}
-use Rattle.tb_revise.specs.Grammar.{NamedPvalue, NamedThreshold, Spells, settings_of}
+use Rattle.tb_revise.specs.Grammar.{NamedOldest, NamedPvalue, NamedThreshold, Spells, settings_of}
 use Rattle.tb_revise.specs.Meanings.{categories_named, category_named, category_set, edit_meant}
 use Rattle.tb_revise.specs.Meanings.{key_meant, number_meant, sets_meant, signed_meant}
 use Rattle.tb_revise.specs.Meanings.{variable_named}
 
 -- whether a number is bad: a person is none from 1 on, a key is none below the key range, a row or
--- a pvalue is none, or no such pvalue may be set there, or a threshold is none up to the greatest
+-- a pvalue is none, or no such pvalue may be set there, a threshold is none up to the greatest, or
+-- a release is none
 abbrev pub has_bad_number : Keys → NamedEdit → Bool
 has_bad_number keys (NamedAdd person key settings) =
     is_none (person_of person) || is_none (key_of keys key)
@@ -30,6 +31,7 @@ has_bad_number keys (NamedPvalue row key pvalue) =
     || not (can_be_set (number_meant row) (key_meant keys key) (signed_meant pvalue))
 has_bad_number keys (NamedThreshold value) =
     is_none (number_of value) || not (nat_le (number_meant value) MOST_THRESHOLD)
+has_bad_number keys (NamedOldest release) = is_none (number_of release)
 
 -- whether a setting's name is no variable
 abbrev pub has_unknown_name : SchemaValue → List NamedSetting → Bool
@@ -52,6 +54,7 @@ misses_variable schema (NamedDrop person) = false
 misses_variable schema (NamedAmend person settings) = false
 misses_variable schema (NamedPvalue row key pvalue) = false
 misses_variable schema (NamedThreshold value) = false
+misses_variable schema (NamedOldest release) = false
 
 -- the first fault of settings by themselves
 abbrev pub settings_refusal : SchemaValue → List NamedSetting → Option EditTextFault

@@ -5,6 +5,7 @@
 --   drop PERSON
 --   pvalue PCV CKEY P
 --   threshold T
+--   oldest N
 -- An amend has a setting or more, and an add may have none: whether it sets every variable is asked
 -- of what it means.
 use Rattle.std.specs.Prelude.{◌≡◌, ◌==◌, ◌||◌, ℕ, Bool, true, false, List, [], ◌∷◌, ◌++◌, map}
@@ -26,6 +27,7 @@ pub data NamedEdit : Type 0 where
   NamedAmend : (person : List ℕ) (settings : List NamedSetting) → NamedEdit
   NamedPvalue : (row key pvalue : List ℕ) → NamedEdit
   NamedThreshold : (value : List ℕ) → NamedEdit
+  NamedOldest : (release : List ℕ) → NamedEdit
 
 abbrev pub settings_of : NamedEdit → List NamedSetting
 settings_of (NamedAdd person key settings) = settings
@@ -33,6 +35,7 @@ settings_of (NamedDrop person) = []
 settings_of (NamedAmend person settings) = settings
 settings_of (NamedPvalue row key pvalue) = []
 settings_of (NamedThreshold value) = []
+settings_of (NamedOldest release) = []
 
 -- VAR=CODE; the byte between is `=`
 abbrev pub setting_word : NamedSetting → List ℕ
@@ -46,13 +49,14 @@ edit_words (NamedDrop person) = codes "drop" ∷ person ∷ []
 edit_words (NamedAmend person settings) = codes "amend" ∷ person ∷ map setting_word settings
 edit_words (NamedPvalue row key pvalue) = codes "pvalue" ∷ row ∷ key ∷ pvalue ∷ []
 edit_words (NamedThreshold value) = codes "threshold" ∷ value ∷ []
+edit_words (NamedOldest release) = codes "oldest" ∷ release ∷ []
 
 -- whether a word is one with which an edit begins
 abbrev pub begins_edit : List ℕ → Bool
 begins_edit word =
     bytes_eq word (codes "add") || bytes_eq word (codes "drop")
     || bytes_eq word (codes "amend") || bytes_eq word (codes "pvalue")
-    || bytes_eq word (codes "threshold")
+    || bytes_eq word (codes "threshold") || bytes_eq word (codes "oldest")
 
 -- a name ends at the first `=` of its setting
 abbrev pub is_equals : ℕ → Bool
@@ -73,6 +77,7 @@ HasEnough (NamedDrop person) = Unit {0}
 HasEnough (NamedAmend person settings) = HasSome settings
 HasEnough (NamedPvalue row key pvalue) = Unit {0}
 HasEnough (NamedThreshold value) = Unit {0}
+HasEnough (NamedOldest release) = Unit {0}
 
 -- the words of a line are this edit
 pub record IsEdit (words : List (List ℕ)) (edit : NamedEdit) : Type 0 where

@@ -32,6 +32,7 @@ has_syntax_fault (first ∷ words) =
     else if bytes_eq first (codes "amend") then lacks_words 1 words
     else if bytes_eq first (codes "pvalue") then not (length words == 3)
     else if bytes_eq first (codes "threshold") then not (length words == 1)
+    else if bytes_eq first (codes "oldest") then not (length words == 1)
     else true
 
 -- words are no edit exactly where a rule of the syntax is broken

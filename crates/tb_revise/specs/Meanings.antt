@@ -9,10 +9,11 @@ use Rattle.tb_model.specs.declared.names.NameOf.TheVariants as name_of
 use Rattle.tb_model.specs.Schemas.{SchemaValue}
 use Rattle.tb_records.specs.People.{key_of, person_of}
 use Rattle.tb_release.specs.declared.edits.Edit.{Edit}
-use Rattle.tb_release.specs.declared.edits.Edit.TheVariants.{Add, Drop, Amend, Pvalue, Threshold}
+use Rattle.tb_release.specs.declared.edits.Edit.TheVariants.{Add, Drop, Amend, Pvalue}
+use Rattle.tb_release.specs.declared.edits.Edit.TheVariants.{Oldest, Threshold}
 use Rattle.tb_schema.specs.Names.{code_in, place_in, variable_names}
 use Rattle.tb_revise.specs.Grammar.{NamedSetting, NamedEdit, NamedAdd, NamedDrop, NamedAmend}
-use Rattle.tb_revise.specs.Grammar.{NamedPvalue, NamedThreshold}
+use Rattle.tb_revise.specs.Grammar.{NamedOldest, NamedPvalue, NamedThreshold}
 
 -- the variable that a setting names, if there is one
 unfoldable pub variable_named : SchemaValue → NamedSetting → Option ℕ
@@ -71,3 +72,4 @@ edit_meant schema (NamedAmend person settings) =
 edit_meant schema (NamedPvalue row key pvalue) =
     Pvalue (number_meant row) (key_meant schema.keys key) (signed_meant pvalue)
 edit_meant schema (NamedThreshold value) = Threshold (number_meant value)
+edit_meant schema (NamedOldest release) = Oldest (number_meant release)

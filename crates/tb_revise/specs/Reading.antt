@@ -6,7 +6,7 @@ use Rattle.tb_base.specs.Lists.{all_some}
 use Rattle.tb_revise.specs.declared.fault.EditTextFault.{EditTextFault}
 use Rattle.tb_revise.specs.declared.fault.EditTextFault.TheVariants as faults
 use Rattle.tb_revise.specs.Grammar.{NamedSetting, NamedEdit, NamedAdd, NamedDrop, NamedAmend}
-use Rattle.tb_revise.specs.Grammar.{NamedPvalue, NamedThreshold, IsEdit, is_equals}
+use Rattle.tb_revise.specs.Grammar.{NamedOldest, NamedPvalue, NamedThreshold, IsEdit, is_equals}
 
 -- a word as a setting, if it has an `=`
 unfoldable pub read_setting : List ℕ → Option NamedSetting
@@ -50,6 +50,12 @@ read_threshold [] = None
 read_threshold (value ∷ []) = Some (NamedThreshold value)
 read_threshold (value ∷ word ∷ words) = None
 
+-- the words after `oldest`
+unfoldable pub read_oldest : List (List ℕ) → Option NamedEdit
+read_oldest [] = None
+read_oldest (release ∷ []) = Some (NamedOldest release)
+read_oldest (release ∷ word ∷ words) = None
+
 -- all words of a line
 unfoldable pub read_words : List (List ℕ) → Option NamedEdit
 read_words [] = None
@@ -59,6 +65,7 @@ read_words (first ∷ words) =
     else if bytes_eq first (codes "amend") then read_amend words
     else if bytes_eq first (codes "pvalue") then read_pvalue words
     else if bytes_eq first (codes "threshold") then read_threshold words
+    else if bytes_eq first (codes "oldest") then read_oldest words
     else None
 
 -- why nothing was read, unless for want of memory

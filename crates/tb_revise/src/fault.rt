@@ -13,11 +13,12 @@ use thiserror::Error;
 #[derive(Clone, Copy, Debug, PartialEq, Eq, Error)]
 pub enum EditTextFault {
     #[error("the line must be `add PERSON KEY VAR=CODE ..`, `amend PERSON VAR=CODE ..` with one \
-        setting or more, `drop PERSON`, `pvalue PCV CKEY P` or `threshold T`")]
+        setting or more, `drop PERSON`, `pvalue PCV CKEY P`, `threshold T` or `oldest N`")]
     Syntax,
     #[error("the person must be a number from 1 to 4294967295, a key one from 0 to 255, or to \
         4095 if the classification says so, a pcv one from 1 to 750, a pvalue one from -1000 to \
-        1000 that with the pcv isn't negative, and a threshold one from 0 to 1000000")]
+        1000 that with the pcv isn't negative, a threshold one from 0 to 1000000, and a release \
+        one from 0 to 4294967295")]
     BadNumber,
     #[error("what stands before the first = of a setting must be the name of a variable")]
     UnknownName,

@@ -5,7 +5,7 @@ ghost use Rattle.std.specs.Prelude.{is_none, length};
 ghost use Rattle.tb_revise.specs.Faults.{RefusesBy, fault_if, has_unknown_name, refusal};
 ghost use Rattle.tb_revise.specs.Faults.{sets_twice, settings_refusal};
 ghost use Rattle.tb_revise.specs.Grammar.{NamedAdd, NamedAmend, NamedDrop, NamedPvalue};
-ghost use Rattle.tb_revise.specs.Grammar.{NamedThreshold};
+ghost use Rattle.tb_revise.specs.Grammar.{NamedOldest, NamedThreshold};
 ghost use Rattle.tb_revise.specs.Meanings.{categories_set, category_named, category_set};
 ghost use Rattle.tb_revise.specs.Meanings.{edit_meant, sets_meant, variable_named};
 ghost use Rattle.tb_revise.specs.Views.{edit_view, setting_view, setting_views};
@@ -244,6 +244,19 @@ fn threshold_meant(schema: &Schema, value: &[u8]) -> Result<Edit, EditTextFault>
     }
 }
 
+// The taking back of the releases before the one of this word.
+fn oldest_meant(schema: &Schema, release: &[u8]) -> Result<Edit, EditTextFault>
+    ensures meant { IfOk result (λ e. e ≡ edit_meant schema.now (NamedOldest release.now)) }
+    ensures no_fault { IfOk result (λ _. refusal schema.now (NamedOldest release.now) ≡ None) }
+    ensures refused { IfErr result (λ e. RefusesBy e
+        (refusal schema.now (NamedOldest release.now))) }
+{
+    match read_number(release) {
+        Some(release) => Ok(Edit::Oldest { release }),
+        _ => Err(EditTextFault::BadNumber),
+    }
+}
+
 /// The edit that the words stand for, or the first fault of what they stand for.
 pub fn edit_meant(alloc: Global, schema: &Schema, edit: &EditWords) -> Result<Edit, EditTextFault>
     ensures meant { IfOk result (λ e. e ≡ edit_meant schema.now (edit_view edit.now)) }
@@ -260,5 +273,6 @@ pub fn edit_meant(alloc: Global, schema: &Schema, edit: &EditWords) -> Result<Ed
         EditWords::Amend { person, settings } => amend_meant(alloc, schema, person, settings),
         EditWords::Pvalue { row, key, pvalue } => pvalue_meant(schema, row, key, pvalue),
         EditWords::Threshold { value } => threshold_meant(schema, value),
+        EditWords::Oldest { release } => oldest_meant(schema, release),
     }
 }

@@ -6,15 +6,15 @@ ghost use Rattle.tb_base.specs.Words.{words_of};
 ghost use Rattle.tb_revise.specs.Grammar.{IsEdit, begins_edit, is_equals};
 ghost use Rattle.tb_revise.specs.Reading.{ParsesNone, StopsBy, read_add, read_amend, read_drop};
 ghost use Rattle.tb_revise.specs.Reading.{read_pvalue, read_setting, read_settings};
-ghost use Rattle.tb_revise.specs.Reading.{read_threshold, read_words};
+ghost use Rattle.tb_revise.specs.Reading.{read_oldest, read_threshold, read_words};
 ghost use Rattle.tb_revise.specs.Views.{edit_view, setting_view, setting_views};
 
 use crate::fault::EditTextFault;
 use std::alloc::Global;
 use tb_base::first_word;
 
-/// Whether a word is one with which an edit begins: `add`, `drop`, `amend`, `pvalue` or
-/// `threshold`.
+/// Whether a word is one with which an edit begins: `add`, `drop`, `amend`, `pvalue`, `threshold`
+/// or `oldest`.
 pub fn begins_edit(word: &[u8]) -> bool
     ensures { result ≡ begins_edit word.now }
 {
@@ -23,6 +23,7 @@ pub fn begins_edit(word: &[u8]) -> bool
         || word == b"amend".as_slice()
         || word == b"pvalue".as_slice()
         || word == b"threshold".as_slice()
+        || word == b"oldest".as_slice()
 }
 
 /// A setting, by the text of its variable's name and of its code.
@@ -55,6 +56,9 @@ pub enum EditWords<'a> {
     },
     Threshold {
         value: &'a [u8],
+    },
+    Oldest {
+        release: &'a [u8],
     },
 }
 
@@ -191,6 +195,22 @@ fn threshold<'a>(text: &'a [u8]) -> Result<EditWords<'a>, EditTextFault>
     }
 }
 
+// What follows `oldest`.
+#[tactic(auto, unfolding(crate::specs::Reading::read_oldest))]
+fn oldest<'a>(text: &'a [u8]) -> Result<EditWords<'a>, EditTextFault>
+    ensures { MatchResult result
+        (λ e. read_oldest (words_of text.now) ≡ Some (edit_view e))
+        (StopsBy (read_oldest (words_of text.now))) }
+{
+    let Some((release, rest)) = first_word(text) else {
+        return Err(EditTextFault::Syntax);
+    };
+    match first_word(rest) {
+        Some(_) => Err(EditTextFault::Syntax),
+        None => Ok(EditWords::Oldest { release }),
+    }
+}
+
 // The whole edit.
 #[tactic(auto, unfolding(crate::specs::Reading::read_words))]
 fn edit<'a>(alloc: Global, line: &'a [u8]) -> Result<EditWords<'a>, EditTextFault>
@@ -211,6 +231,8 @@ fn edit<'a>(alloc: Global, line: &'a [u8]) -> Result<EditWords<'a>, EditTextFaul
         pvalue(rest)
     } else if word == b"threshold".as_slice() {
         threshold(rest)
+    } else if word == b"oldest".as_slice() {
+        oldest(rest)
     } else {
         Err(EditTextFault::Syntax)
     }

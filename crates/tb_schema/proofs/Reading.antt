@@ -51,7 +51,8 @@ whole_names [] = refl
 whole_names (r ∷ rs) = ap (λ ns. r.name ∷ ns) (whole_names rs)
 
 sound-whole : (schema : SchemaValue) (so_far : PartialValue) → IsSound schema → Led schema.variables so_far → IsSound (record schema { recodes = map whole_recode so_far.recodes })
-sound-whole schema so_far s led = subst (λ vs. IsSound (record { keys = schema.keys; variables = vs; recodes = map whole_recode so_far.recodes })) led.same (record {
+sound-whole schema so_far s led = subst (λ vs. IsSound (record { keys = schema.keys; persons = schema.persons; variables = vs; recodes = map whole_recode so_far.recodes })) led.same (record {
+  persons = s.persons;
   names = subst (λ ns. IsDistinct bytes_eq (variable_names so_far.variables ++ ns)) (sym (whole_names so_far.recodes)) led.known.names;
   few_variables = subst (λ (vs : List VariableValue). length vs ≤ MOST_VARIABLES) (sym led.same) s.few_variables;
   few_recodes = omega (arith, led.known.few, length-map so_far.recodes whole_recode);

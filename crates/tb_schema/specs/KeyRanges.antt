@@ -24,9 +24,10 @@ IsRange label = (label ≡ codes "256") ⊎ (label ≡ codes "4096")
 abbrev pub stated_at : ℕ → List ℕ → List ℕ → Option Keys
 stated_at n code label = if n == 1 then stated_by code label else None
 
--- record n, by its variable, code and label, is refused for its key range: its variable is `*`, and
--- it isn't record 1, its code isn't `keys`, or its label is none of a key range
+-- record n, by its variable, code and label, is refused for its key range: its variable is `*`, its
+-- code isn't `persons`, and it isn't record 1, its code isn't `keys`, or its label is none of a key
+-- range
 abbrev pub HasBadKeys : ℕ → List (List ℕ) → Type 0
 HasBadKeys n fields =
-    (get_or fields 0 [] ≡ codes "*")
-    × ¬ ((n ≡ 1) × ((get_or fields 1 [] ≡ codes "keys") × IsRange (get_or fields 2 [])))
+    (get_or fields 0 [] ≡ codes "*") × (¬ (get_or fields 1 [] ≡ codes "persons")
+    × ¬ ((n ≡ 1) × ((get_or fields 1 [] ≡ codes "keys") × IsRange (get_or fields 2 []))))

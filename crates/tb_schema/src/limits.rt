@@ -1,5 +1,8 @@
 // How much a classification and its recodes may hold.
 
+/// How many persons there may be at most where a classification states no limit.
+pub const MOST_UNSTATED: usize = 1_000_000;
+
 /// The most variables of a classification.
 pub const MOST_VARIABLES: usize = 64;
 

@@ -1,7 +1,6 @@
 // The small setup as values.
 
 ghost use Rattle.std.specs.Prelude.{◌≡◌, ◌≤◌, All, IfOk, length};
-ghost use Rattle.tb_base.specs.declared.people.TheConstants.{MOST_PERSONS};
 ghost use Rattle.tb_base.specs.Records.{AllFit};
 ghost use Rattle.tb_model.specs.Schemas.{shape_of};
 ghost use Rattle.tb_release.specs.Laws.{EditFits};
@@ -46,8 +45,8 @@ pub fn setup(alloc: Global) -> Result<Setup, Memory> {
 }
 
 // The two dwellings and their links.
-fn units(alloc: Global, keys: Keys) -> Result<Units, Memory> {
-    match Units::read(alloc, keys, DWELLINGS, LINKS) {
+fn units(alloc: Global, schema: &Schema) -> Result<Units, Memory> {
+    match Units::read(alloc, schema.persons(), schema.keys(), DWELLINGS, LINKS) {
         Ok(units) => Ok(units),
         Err(_) => Err(Memory),
     }
@@ -57,7 +56,7 @@ fn units(alloc: Global, keys: Keys) -> Result<Units, Memory> {
 pub fn setup_with_units(alloc: Global) -> Result<Setup, Memory> {
     let schema = schema(alloc)?;
     let ptable = ptable(alloc, schema.keys())?;
-    let units = units(alloc, schema.keys())?;
+    let units = units(alloc, &schema)?;
     Ok(Setup {
         schema,
         ptable,
@@ -68,7 +67,7 @@ pub fn setup_with_units(alloc: Global) -> Result<Setup, Memory> {
 /// The four persons.
 pub fn people(alloc: Global, schema: &Schema) -> Result<People, Memory>
     ensures fit { IfOk result (AllFit (shape_of schema.now)) }
-    ensures few { IfOk result (λ people. length people ≤ MOST_PERSONS) }
+    ensures few { IfOk result (λ people. length people ≤ schema.now.persons) }
 {
     match read_people(alloc, schema, PEOPLE) {
         Ok(people) => Ok(people),
@@ -79,12 +78,11 @@ pub fn people(alloc: Global, schema: &Schema) -> Result<People, Memory>
 // Release 0 of some persons, with the threshold 0.
 fn first(alloc: Global, schema: &Schema, people: People) -> Result<Release, Memory>
     requires fit { AllFit (shape_of schema.now) people }
-    requires few { length people ≤ MOST_PERSONS }
+    requires few { length people ≤ schema.now.persons }
     ensures number { IfOk result (λ release. release.number ≡ 0) }
     ensures fit { IfOk result (λ release. AllFit (shape_of schema.now) release.records) }
 {
-    let _ = schema;
-    Release::first(alloc, people, Rules::new(alloc, 0))
+    Release::first(alloc, schema.persons(), people, Rules::new(alloc, 0))
 }
 
 /// Release 0 of the four, with the threshold 0.

@@ -6,14 +6,14 @@ use Rattle.std.specs.Int.{w16, w32, to_be_bytes}
 use Rattle.std.proofs.lemmas.Bool.{cases_eq, ne_eqb, ltb-true, lt-ltb, leb-true, le-leb}
 use Rattle.std.proofs.lemmas.List.Elements.{All-from_recursion, recursion_from_All}
 use Rattle.tb_release.specs.declared.edits.Edit.{Edit}
-use Rattle.tb_release.specs.declared.edits.Edit.TheVariants.{Add, Drop, Amend, Pvalue, Threshold}
+use Rattle.tb_release.specs.declared.edits.Edit.TheVariants.{Add, Drop, Amend, Pvalue, Threshold, Oldest}
 use Rattle.tb_release.specs.declared.limits.TheConstants.{MOST_EDITS}
 use Rattle.tb_spelling.specs.declared.fault.PayloadFault.{PayloadFault}
 use Rattle.tb_spelling.specs.declared.fault.PayloadFault.TheVariants.{Bad, Memory}
 use Rattle.tb_spelling.specs.Spelling.{counted, setting, signed, edit_spelled, spelled}
 use Rattle.tb_spelling.specs.Payloads.{variables_set, SetsEachOnce, InTwoBytes, InFourBytes, IsSetting, IsInFormat, IsRead}
 use Rattle.tb_spelling.specs.Fields.{Reader, number_at, pair_at, signed_at, counted_at, tested_at, Gives}
-use Rattle.tb_spelling.specs.Reading.{are_distinct, codes_at, sets_at, add_at, drop_at, amend_at, pvalue_at, threshold_at, edit_at, is_count, edits_in}
+use Rattle.tb_spelling.specs.Reading.{are_distinct, codes_at, sets_at, add_at, drop_at, amend_at, oldest_at, pvalue_at, threshold_at, edit_at, is_count, edits_in}
 use Rattle.tb_spelling.specs.Laws.{AreBytes, ReadIsSpelled, SpelledIsRead, OneSpelling}
 use Rattle.tb_spelling.proofs.Formats.{Takes, IsFormat, some_is, made_takes, made_again, u16_format, u32_format, signed_format, pair_format, counted_format, tested_format, whole_takes, whole_again}
 
@@ -158,9 +158,14 @@ threshold_takes more e rest fits h =
     let m = made_takes (number_at w32) (to_be_bytes w32) InFourBytes u32_format (λ value. Threshold value) more e rest fits h in
     subst (λ (y : Edit). Read (5 ∷ more) y rest) m.1 (kind-then 5 more (to_be_bytes w32 m.0) rest m.2, m.3)
 
-abbrev by_kind : Option (Edit × List ℕ) → Option (Edit × List ℕ) → Option (Edit × List ℕ) → Option (Edit × List ℕ) → Option (Edit × List ℕ) → Bool → Bool → Bool → Bool → Bool → Option (Edit × List ℕ)
-by_kind add drop amend pvalue threshold a b c d e =
-    cond a add (cond b drop (cond c amend (cond d pvalue (cond e threshold None))))
+oldest_takes : (more : List ℕ) (e : Edit) (rest : List ℕ) → AreBytes more → oldest_at more ≡ Some (e, rest) → Read (6 ∷ more) e rest
+oldest_takes more e rest fits h =
+    let m = made_takes (number_at w32) (to_be_bytes w32) InFourBytes u32_format (λ oldest. Oldest oldest) more e rest fits h in
+    subst (λ (y : Edit). Read (6 ∷ more) y rest) m.1 (kind-then 6 more (to_be_bytes w32 m.0) rest m.2, m.3)
+
+abbrev by_kind : Option (Edit × List ℕ) → Option (Edit × List ℕ) → Option (Edit × List ℕ) → Option (Edit × List ℕ) → Option (Edit × List ℕ) → Option (Edit × List ℕ) → Bool → Bool → Bool → Bool → Bool → Bool → Option (Edit × List ℕ)
+by_kind add drop amend pvalue threshold oldest a b c d e f =
+    cond a add (cond b drop (cond c amend (cond d pvalue (cond e threshold (cond f oldest None)))))
 
 none_read : {A : Type 0} {x : A} → None ≡ Some x → ⊥
 none_read e = cc
@@ -175,17 +180,22 @@ edit_takes (kind ∷ more) e rest fits h = by_first (cases_eq kind 1)
     at : (n : ℕ) → kind ≡ n → (edit_at (n ∷ more) ≡ Some (e, rest) → Read (n ∷ more) e rest) → Read (kind ∷ more) e rest
     at n is read = subst (λ (k : ℕ). Read (k ∷ more) e rest) (sym is) (read (subst (λ (k : ℕ). edit_at (k ∷ more) ≡ Some (e, rest)) is h))
 
-    no_kind : kind ≢ 1 → kind ≢ 2 → kind ≢ 3 → kind ≢ 4 → kind ≢ 5 → edit_at (kind ∷ more) ≡ None
-    no_kind one two three four five =
-        ap (λ (b : Bool). by_kind (add_at more) (drop_at more) (amend_at more) (pvalue_at more) (threshold_at more) b (eqb kind 2) (eqb kind 3) (eqb kind 4) (eqb kind 5)) (ne_eqb kind 1 one)
-        ∙ ap (λ (b : Bool). by_kind (add_at more) (drop_at more) (amend_at more) (pvalue_at more) (threshold_at more) false b (eqb kind 3) (eqb kind 4) (eqb kind 5)) (ne_eqb kind 2 two)
-        ∙ ap (λ (b : Bool). by_kind (add_at more) (drop_at more) (amend_at more) (pvalue_at more) (threshold_at more) false false b (eqb kind 4) (eqb kind 5)) (ne_eqb kind 3 three)
-        ∙ ap (λ (b : Bool). by_kind (add_at more) (drop_at more) (amend_at more) (pvalue_at more) (threshold_at more) false false false b (eqb kind 5)) (ne_eqb kind 4 four)
-        ∙ ap (λ (b : Bool). by_kind (add_at more) (drop_at more) (amend_at more) (pvalue_at more) (threshold_at more) false false false false b) (ne_eqb kind 5 five)
+    no_kind : kind ≢ 1 → kind ≢ 2 → kind ≢ 3 → kind ≢ 4 → kind ≢ 5 → kind ≢ 6 → edit_at (kind ∷ more) ≡ None
+    no_kind one two three four five six =
+        ap (λ (b : Bool). by_kind (add_at more) (drop_at more) (amend_at more) (pvalue_at more) (threshold_at more) (oldest_at more) b (eqb kind 2) (eqb kind 3) (eqb kind 4) (eqb kind 5) (eqb kind 6)) (ne_eqb kind 1 one)
+        ∙ ap (λ (b : Bool). by_kind (add_at more) (drop_at more) (amend_at more) (pvalue_at more) (threshold_at more) (oldest_at more) false b (eqb kind 3) (eqb kind 4) (eqb kind 5) (eqb kind 6)) (ne_eqb kind 2 two)
+        ∙ ap (λ (b : Bool). by_kind (add_at more) (drop_at more) (amend_at more) (pvalue_at more) (threshold_at more) (oldest_at more) false false b (eqb kind 4) (eqb kind 5) (eqb kind 6)) (ne_eqb kind 3 three)
+        ∙ ap (λ (b : Bool). by_kind (add_at more) (drop_at more) (amend_at more) (pvalue_at more) (threshold_at more) (oldest_at more) false false false b (eqb kind 5) (eqb kind 6)) (ne_eqb kind 4 four)
+        ∙ ap (λ (b : Bool). by_kind (add_at more) (drop_at more) (amend_at more) (pvalue_at more) (threshold_at more) (oldest_at more) false false false false b (eqb kind 6)) (ne_eqb kind 5 five)
+        ∙ ap (λ (b : Bool). by_kind (add_at more) (drop_at more) (amend_at more) (pvalue_at more) (threshold_at more) (oldest_at more) false false false false false b) (ne_eqb kind 6 six)
+
+    by_sixth : kind ≢ 1 → kind ≢ 2 → kind ≢ 3 → kind ≢ 4 → kind ≢ 5 → (kind ≡ 6) ⊎ (kind ≢ 6) → Read (kind ∷ more) e rest
+    by_sixth one two three four five (inl is) = at 6 is (oldest_takes more e rest fine)
+    by_sixth one two three four five (inr six) = absurd (none_read (sym (no_kind one two three four five six) ∙ h))
 
     by_fifth : kind ≢ 1 → kind ≢ 2 → kind ≢ 3 → kind ≢ 4 → (kind ≡ 5) ⊎ (kind ≢ 5) → Read (kind ∷ more) e rest
     by_fifth one two three four (inl is) = at 5 is (threshold_takes more e rest fine)
-    by_fifth one two three four (inr five) = absurd (none_read (sym (no_kind one two three four five) ∙ h))
+    by_fifth one two three four (inr five) = by_sixth one two three four five (cases_eq kind 6)
 
     by_fourth : kind ≢ 1 → kind ≢ 2 → kind ≢ 3 → (kind ≡ 4) ⊎ (kind ≢ 4) → Read (kind ∷ more) e rest
     by_fourth one two three (inl is) = at 4 is (pvalue_takes more e rest fine)
@@ -214,6 +224,8 @@ edit_again (Pvalue row key pvalue) rest good =
     made_again pvalue_parts pvalue_text GoodPvalue pvalue_format (λ x. Pvalue x.0 x.1.0 x.1.1) (row, (key, pvalue)) rest (good.0, (good.1, good.2))
 edit_again (Threshold value) rest good =
     made_again (number_at w32) (to_be_bytes w32) InFourBytes u32_format (λ v. Threshold v) value rest good
+edit_again (Oldest oldest) rest good =
+    made_again (number_at w32) (to_be_bytes w32) InFourBytes u32_format (λ v. Oldest v) oldest rest good
 
 edit_format : IsFormat edit_at edit_spelled IsInFormat
 edit_format = record { takes = edit_takes; again = edit_again }

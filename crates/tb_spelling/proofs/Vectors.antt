@@ -2,7 +2,7 @@
 use Rattle.std.proofs.Common.{◌≡◌, ℕ, List, [], ◌∷◌, ◌++◌, Some, None, refl}
 use Rattle.std.specs.Prelude.{negsuc}
 use Rattle.tb_release.specs.declared.edits.Edit.{Edit}
-use Rattle.tb_release.specs.declared.edits.Edit.TheVariants.{Add, Drop, Amend, Pvalue, Threshold}
+use Rattle.tb_release.specs.declared.edits.Edit.TheVariants.{Add, Drop, Amend, Pvalue, Threshold, Oldest}
 use Rattle.tb_spelling.specs.Spelling.{spelled}
 use Rattle.tb_spelling.specs.Reading.{edits_in}
 
@@ -17,6 +17,7 @@ each_kind =
     ∷ Amend 101 ((2, 5) ∷ (0, 1) ∷ [])
     ∷ Pvalue 3 64 (negsuc 1)
     ∷ Threshold 1000000
+    ∷ Oldest 258
     ∷ []
 
 abbrev an_add : List ℕ
@@ -34,8 +35,11 @@ a_pvalue = 4 ∷ 0 ∷ 3 ∷ 0 ∷ 64 ∷ 255 ∷ 254 ∷ []
 abbrev a_threshold : List ℕ
 a_threshold = 5 ∷ 0 ∷ 15 ∷ 66 ∷ 64 ∷ []
 
+abbrev an_oldest : List ℕ
+an_oldest = 6 ∷ 0 ∷ 0 ∷ 1 ∷ 2 ∷ []
+
 abbrev each_payload : List ℕ
-each_payload = 0 ∷ 0 ∷ 0 ∷ 5 ∷ (an_add ++ a_drop ++ an_amend ++ a_pvalue ++ a_threshold)
+each_payload = 0 ∷ 0 ∷ 0 ∷ 6 ∷ (an_add ++ a_drop ++ an_amend ++ a_pvalue ++ a_threshold ++ an_oldest)
 
 each_spelled : spelled each_kind ≡ each_payload
 each_spelled = refl
@@ -65,5 +69,5 @@ amend_twice : edits_in (0 ∷ 0 ∷ 0 ∷ 1 ∷ 3 ∷ 0 ∷ 0 ∷ 0 ∷ 101 ∷ 
 amend_twice = refl
 
 -- no kind of edit
-no_kind : edits_in (0 ∷ 0 ∷ 0 ∷ 1 ∷ 6 ∷ 0 ∷ 0 ∷ 0 ∷ 104 ∷ []) ≡ None
+no_kind : edits_in (0 ∷ 0 ∷ 0 ∷ 1 ∷ 7 ∷ 0 ∷ 0 ∷ 0 ∷ 104 ∷ []) ≡ None
 no_kind = refl

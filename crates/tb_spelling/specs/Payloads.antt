@@ -4,7 +4,8 @@ use Rattle.std.specs.Prelude.{FitsSigned, Result, Ok, Err}
 use Rattle.std.specs.List.{IsDistinct}
 use Rattle.std.specs.Int.{w16}
 use Rattle.tb_release.specs.declared.edits.Edit.{Edit}
-use Rattle.tb_release.specs.declared.edits.Edit.TheVariants.{Add, Drop, Amend, Pvalue, Threshold}
+use Rattle.tb_release.specs.declared.edits.Edit.TheVariants.{Add, Drop, Amend, Pvalue}
+use Rattle.tb_release.specs.declared.edits.Edit.TheVariants.{Oldest, Threshold}
 use Rattle.tb_release.specs.declared.limits.TheConstants.{MOST_EDITS}
 use Rattle.tb_spelling.specs.declared.limits.TheConstants.{MOST_PARTS}
 use Rattle.tb_spelling.specs.declared.fault.PayloadFault.{PayloadFault}
@@ -40,6 +41,7 @@ IsInFormat (Amend person sets) =
     InFourBytes person × InTwoBytes (length sets) × All IsSetting sets × SetsEachOnce sets
 IsInFormat (Pvalue row key pvalue) = InTwoBytes row × InTwoBytes key × FitsSigned w16 pvalue
 IsInFormat (Threshold value) = InFourBytes value
+IsInFormat (Oldest oldest) = InFourBytes oldest
 
 -- the bytes are the payload of these edits: there are some, and not too many
 pub record IsPayload (bytes : List ℕ) (edits : List Edit) : Type 0 where
@@ -55,6 +57,7 @@ CanBeWritten (Drop person) = Unit {0}
 CanBeWritten (Amend person sets) = (length sets ≤ MOST_PARTS) × SetsEachOnce sets
 CanBeWritten (Pvalue row key pvalue) = Unit {0}
 CanBeWritten (Threshold value) = Unit {0}
+CanBeWritten (Oldest oldest) = Unit {0}
 
 -- there are some edits, and each can be written
 pub record CanBeSpelled (edits : List Edit) : Type 0 where

@@ -4,7 +4,8 @@ use Rattle.std.specs.Prelude.{Option, None, if◌then◌else◌}
 use Rattle.std.specs.Int.{w16, w32}
 use Rattle.std.specs.List.{list_any}
 use Rattle.tb_release.specs.declared.edits.Edit.{Edit}
-use Rattle.tb_release.specs.declared.edits.Edit.TheVariants.{Add, Drop, Amend, Pvalue, Threshold}
+use Rattle.tb_release.specs.declared.edits.Edit.TheVariants.{Add, Drop, Amend, Pvalue}
+use Rattle.tb_release.specs.declared.edits.Edit.TheVariants.{Oldest, Threshold}
 use Rattle.tb_release.specs.declared.limits.TheConstants.{MOST_EDITS}
 use Rattle.tb_spelling.specs.Fields.{Reader, counted_at, made_at, number_at, pair_at, signed_at}
 use Rattle.tb_spelling.specs.Fields.{tested_at, whole}
@@ -43,6 +44,9 @@ pvalue_at =
 abbrev pub threshold_at : Reader Edit
 threshold_at = made_at (λ value. Threshold value) (number_at w32)
 
+abbrev pub oldest_at : Reader Edit
+oldest_at = made_at (λ oldest. Oldest oldest) (number_at w32)
+
 -- an edit is a byte for its kind, and then its fields
 abbrev pub edit_at : Reader Edit
 edit_at [] = None
@@ -52,6 +56,7 @@ edit_at (kind ∷ fields) =
     else if kind == 3 then amend_at fields
     else if kind == 4 then pvalue_at fields
     else if kind == 5 then threshold_at fields
+    else if kind == 6 then oldest_at fields
     else None
 
 -- whether there are some edits, and not too many

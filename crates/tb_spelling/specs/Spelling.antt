@@ -3,7 +3,8 @@ use Rattle.std.specs.Prelude.{ℕ, ℤ, List, ◌∷◌, ◌++◌, length}
 use Rattle.std.specs.List.{flat_map}
 use Rattle.std.specs.Int.{Width, w16, w32, cast_unsigned, to_be_bytes}
 use Rattle.tb_release.specs.declared.edits.Edit.{Edit}
-use Rattle.tb_release.specs.declared.edits.Edit.TheVariants.{Add, Drop, Amend, Pvalue, Threshold}
+use Rattle.tb_release.specs.declared.edits.Edit.TheVariants.{Add, Drop, Amend, Pvalue}
+use Rattle.tb_release.specs.declared.edits.Edit.TheVariants.{Oldest, Threshold}
 
 -- how many there are, in a number of that width, and then each
 abbrev pub counted : {A : Type 0} → Width → (A → List ℕ) → List A → List ℕ
@@ -26,6 +27,7 @@ edit_spelled (Amend person sets) = 3 ∷ to_be_bytes w32 person ++ counted w16 s
 edit_spelled (Pvalue row key pvalue) =
     4 ∷ to_be_bytes w16 row ++ to_be_bytes w16 key ++ signed pvalue
 edit_spelled (Threshold value) = 5 ∷ to_be_bytes w32 value
+edit_spelled (Oldest oldest) = 6 ∷ to_be_bytes w32 oldest
 
 -- a payload is how many edits there are, and then each; nothing follows the last
 abbrev pub spelled : List Edit → List ℕ

@@ -7,7 +7,7 @@ ghost use Rattle.tb_spelling.specs.Fields.{Gives, many_at, number_at, pair_at, s
 ghost use Rattle.tb_spelling.specs.Payloads.{IsRead, variables_set};
 ghost use Rattle.tb_spelling.specs.Reading.{add_at, amend_at, codes_at, drop_at, edit_at, edits_in};
 ghost use Rattle.tb_spelling.specs.Reading.{are_distinct, is_count, pvalue_at, sets_at};
-ghost use Rattle.tb_spelling.specs.Reading.{threshold_at};
+ghost use Rattle.tb_spelling.specs.Reading.{oldest_at, threshold_at};
 
 use crate::fault::PayloadFault;
 use crate::limits::MOST_PARTS;
@@ -178,6 +178,13 @@ fn threshold_at(bytes: &[u8]) -> Result<(Edit, &[u8]), PayloadFault>
     Ok((Edit::Threshold { value }, rest))
 }
 
+fn oldest_at(bytes: &[u8]) -> Result<(Edit, &[u8]), PayloadFault>
+    ensures { Gives (λ x. (x.0, x.1.now)) result (oldest_at bytes.now) }
+{
+    let (release, rest) = u32_at(bytes)?;
+    Ok((Edit::Oldest { release }, rest))
+}
+
 fn edit_at(alloc: Global, bytes: &[u8]) -> Result<(Edit, &[u8]), PayloadFault>
     ensures { Gives (λ x. (x.0, x.1.now)) result (edit_at bytes.now) }
 {
@@ -190,6 +197,7 @@ fn edit_at(alloc: Global, bytes: &[u8]) -> Result<(Edit, &[u8]), PayloadFault>
         3 => amend_at(alloc, fields),
         4 => pvalue_at(fields),
         5 => threshold_at(fields),
+        6 => oldest_at(fields),
         _ => Err(PayloadFault::Bad),
     }
 }

@@ -76,6 +76,11 @@ fn put_edit(out: &mut Vec<u8>, edit: &Edit) -> Result<(), Memory>
             out.extend_from_slice(&value.to_be_bytes())?;
             Ok(())
         }
+        Edit::Oldest { release } => {
+            out.push(6)?;
+            out.extend_from_slice(&release.to_be_bytes())?;
+            Ok(())
+        }
     }
 }
 
@@ -99,6 +104,7 @@ fn edit_len(edit: &Edit) -> usize
             pvalue: _,
         } => 7,
         Edit::Threshold { value: _ } => 5,
+        Edit::Oldest { release: _ } => 5,
     }
 }
 

@@ -34,7 +34,7 @@ use Rattle.tb_plan.proofs.Parts.{place_count-plan_of}
 use Rattle.tb_marks.specs.Raised.{meets}
 use Rattle.tb_marks.proofs.Meeting.{meets-lies}
 use Rattle.tb_units.specs.Pairs.{pair_at}
-use Rattle.tb_units.specs.declared.formats.TheConstants.{MOST_DWELLINGS}
+use Rattle.tb_base.specs.declared.people.TheConstants.{MOST_PERSONS}
 use Rattle.tb_unit_cells.specs.Marking.{added, home_leads, leads, link_leads}
 use Rattle.tb_unit_cells.specs.Noting.{noted, number_in, AreNoted}
 use Rattle.tb_unit_cells.specs.Totals.{total_sizes}
@@ -113,7 +113,7 @@ module _ (schema : SchemaValue) (query : QueryValue) (is : IsPlan (plan_of schem
   ]
 
   -- cells whose parts are what the dwellings add are the table's cells
-  pub counted-homes : (units : UnitsValue) (records : List Record) (numbers : List ℕ) (new : List Cell) → AreDistinct records → All (Fits (shape_of schema)) records → length units.dwellings ≤ MOST_DWELLINGS
+  pub counted-homes : (units : UnitsValue) (records : List Record) (numbers : List ℕ) (new : List Cell) → AreDistinct records → All (Fits (shape_of schema)) records → length units.dwellings ≤ MOST_PERSONS
       → length new ≡ place_count (plan_of schema query)
       → ((k : ℕ) → k < length units.links → slice_index numbers k ≡ noted (number_in (plan_of schema query)) (pair_at units.links k).0 records (2 ^ 32 - 1))
       → ((p : Part) (i : ℕ) → i < length new → part_at p new i ≡ added (total_sizes (plan_of schema query)) (place_count (plan_of schema query)) units.links numbers p units.dwellings i % modulus p)
@@ -142,7 +142,7 @@ module _ (schema : SchemaValue) (query : QueryValue) (is : IsPlan (plan_of schem
 
 -- the same over any schema and query of which this is the plan
 pub counted-plan : (plan : PlanValue) (units : UnitsValue) (records : List Record) (numbers : List ℕ) (new : List Cell) → IsPlan plan → AreSome (sizes plan) → AreDistinct records → All (Fits plan.shape) records
-    → length units.dwellings ≤ MOST_DWELLINGS → length new ≡ place_count plan
+    → length units.dwellings ≤ MOST_PERSONS → length new ≡ place_count plan
     → ((k : ℕ) → k < length units.links → slice_index numbers k ≡ noted (number_in plan) (pair_at units.links k).0 records (2 ^ 32 - 1))
     → ((p : Part) (i : ℕ) → i < length new → part_at p new i ≡ added (total_sizes plan) (place_count plan) units.links numbers p units.dwellings i % modulus p)
     → (schema : SchemaValue) (query : QueryValue) → plan ≡ plan_of schema query → new ≡ homes_cells units schema query records
@@ -158,7 +158,7 @@ empty-at p n i below = ap (part p) (get_or-replicate n i empty_cell empty_cell b
 
 -- the cells after all numbers are noted and all dwellings counted
 pub finished : (plan : PlanValue) (units : UnitsValue) (records : List Record) (numbers : List ℕ) (old new : List Cell) → IsPlan plan → AreSome (sizes plan) → AreDistinct records → All (Fits plan.shape) records
-    → length units.dwellings ≤ MOST_DWELLINGS → old ≡ replicate (place_count plan) empty_cell → length new ≡ length old
+    → length units.dwellings ≤ MOST_PERSONS → old ≡ replicate (place_count plan) empty_cell → length new ≡ length old
     → AreNoted (number_in plan) units.links records (replicate (length units.links) (2 ^ 32 - 1)) numbers
     → ((p : Part) (i : ℕ) → i < length old → part_at p new i ≡ (part_at p old i + added (total_sizes plan) (length old) units.links numbers p units.dwellings i) % modulus p)
     → (schema : SchemaValue) (query : QueryValue) → plan ≡ plan_of schema query → new ≡ homes_cells units schema query records

@@ -2,6 +2,7 @@
 
 use std::alloc::Global;
 use tb_base::Keys;
+use tb_schema::MOST_UNSTATED;
 use tb_units::Units;
 
 // Both files; of each dwelling its key, and one more than the place of its last link; of each link
@@ -113,7 +114,7 @@ fn is_read(units: &Units, row: &Row) -> bool {
 }
 
 fn reads_as(alloc: Global, keys: Keys, row: &Row) -> bool {
-    match Units::read(alloc, keys, row.0, row.1) {
+    match Units::read(alloc, MOST_UNSTATED, keys, row.0, row.1) {
         Ok(units) => is_read(&units, row),
         Err(_) => false,
     }

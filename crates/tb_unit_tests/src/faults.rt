@@ -3,6 +3,7 @@
 use std::alloc::Global;
 use tb_base::Keys;
 use tb_rows::FaultKind;
+use tb_schema::MOST_UNSTATED;
 use tb_units::{Units, UnitsFault, UnitsFile};
 
 // The file that is refused, and its fault's number, word and record; or why there is none.
@@ -30,7 +31,7 @@ fn fault_told(fault: UnitsFault) -> Told {
 
 // The first fault of two files, or why there is none.
 pub fn told(alloc: Global, keys: Keys, dwellings: &[u8], links: &[u8]) -> Told {
-    match Units::read(alloc, keys, dwellings, links) {
+    match Units::read(alloc, MOST_UNSTATED, keys, dwellings, links) {
         Ok(_) => ACCEPTED,
         Err(fault) => fault_told(fault),
     }

@@ -13,7 +13,7 @@ use tb_plan::Plan;
 use tb_query::{MOST_QUERY_BYTES, Query, read_query};
 use tb_release::Release;
 use tb_scan::empty_cells;
-use tb_schema::Schema;
+use tb_schema::{MOST_UNSTATED, Schema};
 use tb_unit_cells::units_into;
 use tb_units::Units;
 
@@ -46,7 +46,7 @@ pub fn add_pair(text: &mut Vec<u8>, first: u32, second: u32) -> Result<(), Memor
 // The units of two files under the key range 4096. Files that are refused fail the test: that is
 // told as want of memory.
 pub fn units_in(alloc: Global, dwellings: &[u8], links: &[u8]) -> Result<Units, Memory> {
-    match Units::read(alloc, Keys::K4096, dwellings, links) {
+    match Units::read(alloc, MOST_UNSTATED, Keys::K4096, dwellings, links) {
         Ok(units) => Ok(units),
         Err(_) => Err(Memory),
     }

@@ -9,6 +9,7 @@ use Rattle.tb_base.specs.Keys.{key_range}
 use Rattle.tb_base.specs.declared.keys.Keys.{Keys}
 use Rattle.tb_base.specs.declared.keys.Keys.TheVariants.{K256, K4096}
 use Rattle.tb_base.specs.declared.keys.TheConstants.{MOST_KEYS}
+use Rattle.tb_base.specs.declared.people.TheConstants.{MOST_PERSONS}
 use Rattle.tb_model.specs.Units.{PairValue}
 use Rattle.tb_records.specs.People.{key_of, person_of}
 use Rattle.tb_rows.specs.Columns.{fields_at}
@@ -22,7 +23,6 @@ use Rattle.tb_units.specs.Faults.{in_file}
 use Rattle.tb_units.specs.declared.fault.UnitsFile.{UnitsFile}
 use Rattle.tb_units.specs.declared.fault.UnitsKind.{UnitsKind}
 use Rattle.tb_units.specs.declared.fault.UnitsKind.TheVariants.{BadCsv}
-use Rattle.tb_units.specs.declared.formats.TheConstants.{MOST_DWELLINGS, MOST_LINKS}
 use Rattle.tb_units.specs.Pairs.{has_first, pair_at}
 use Rattle.tb_units.specs.Dwellings.{dwelling_in, dwelling_of, dwellings_file, dwellings_of}
 use Rattle.tb_units.specs.Links.{links_file, links_of}
@@ -84,47 +84,47 @@ line-low : (keys : Keys) (b : Bool) (fields : List (List ℕ)) (one : PairValue)
 line-low keys true fields one h = key-low (key_range keys) (number_of (get_or fields 1 [])) one.1 (most-keys keys) (dwelling-key (person_of (get_or fields 0 [])) (key_of keys (get_or fields 1 [])) one h)
 line-low keys false fields one h = cc
 
-keys-low : (keys : Keys) (width : ℕ) (indices : List ℕ) (records : List (List (List ℕ))) (lines : List PairValue) → map (line_under (dwellings_file keys) width indices) records ≡ map (λ one. Ok one) lines → HaveKeys lines
-keys-low keys width indices [] [] h d below = absurd (omega (arith, below))
-keys-low keys width indices [] (one ∷ lines) h d below = cc
-keys-low keys width indices (fields ∷ records) [] h d below = cc
-keys-low keys width indices (fields ∷ records) (one ∷ lines) h zero below =
-    let first : line_under (dwellings_file keys) width indices fields ≡ Ok one = cc in
+keys-low : (most : ℕ) (keys : Keys) (width : ℕ) (indices : List ℕ) (records : List (List (List ℕ))) (lines : List PairValue) → map (line_under (dwellings_file most keys) width indices) records ≡ map (λ one. Ok one) lines → HaveKeys lines
+keys-low most keys width indices [] [] h d below = absurd (omega (arith, below))
+keys-low most keys width indices [] (one ∷ lines) h d below = cc
+keys-low most keys width indices (fields ∷ records) [] h d below = cc
+keys-low most keys width indices (fields ∷ records) (one ∷ lines) h zero below =
+    let first : line_under (dwellings_file most keys) width indices fields ≡ Ok one = cc in
     line-low keys (length fields == width) (fields_at indices fields) one first
-keys-low keys width indices (fields ∷ records) (one ∷ lines) h (suc d) below =
-    let others : map (line_under (dwellings_file keys) width indices) records ≡ map (λ one. Ok one) lines = cc in
-    keys-low keys width indices records lines others d (omega (arith, below))
+keys-low most keys width indices (fields ∷ records) (one ∷ lines) h (suc d) below =
+    let others : map (line_under (dwellings_file most keys) width indices) records ≡ map (λ one. Ok one) lines = cc in
+    keys-low most keys width indices records lines others d (omega (arith, below))
 
 -- what is true of the dwellings that a file says
 pub record GoodDwellings (dwellings : List PairValue) : Type 0 where
   pub own : HaveOwn dwellings
   pub keys : HaveKeys dwellings
-  pub few : length dwellings ≤ MOST_DWELLINGS
+  pub few : length dwellings ≤ MOST_PERSONS
 
-pub good-dwellings : (keys : Keys) (bytes : List ℕ) (dwellings : List PairValue) → dwellings_of keys bytes ≡ Ok dwellings → GoodDwellings dwellings
-good-dwellings keys bytes dwellings h =
-    let (width, indices, records, lines, v, file, are, end) = (accepted_where (dwellings_file keys) AreDwellings (are_dwellings keys) bytes dwellings).0 h in
+pub good-dwellings : (most : ℕ) (keys : Keys) (bytes : List ℕ) (dwellings : List PairValue) → most ≤ MOST_PERSONS → dwellings_of most keys bytes ≡ Ok dwellings → GoodDwellings dwellings
+good-dwellings most keys bytes dwellings within h =
+    let (width, indices, records, lines, v, file, are, end) = (accepted_where (dwellings_file most keys) (AreDwellings most) (are_dwellings most keys) bytes dwellings).0 h in
     let same : lines ≡ dwellings = cc (are.together.1, end) in
     subst GoodDwellings same (record {
-      own = own-where DwellingGoes lines (λ before one g. g.0) are.together.0;
-      keys = keys-low keys width indices records lines are.each;
-      few = few-where DwellingGoes lines MOST_DWELLINGS (λ before one g. g.1) are.together.0;
+      own = own-where (DwellingGoes most) lines (λ before one g. g.0) are.together.0;
+      keys = keys-low most keys width indices records lines are.each;
+      few = omega (arith, few-where (DwellingGoes most) lines most (λ before one g. g.1) are.together.0, within);
     })
 
 -- and of the links
 pub record GoodLinks (dwellings links : List PairValue) : Type 0 where
   pub known : AreKnown dwellings links
   pub own : HaveOwn links
-  pub few : length links ≤ MOST_LINKS
+  pub few : length links ≤ MOST_PERSONS
 
-pub good-links : (dwellings : List PairValue) (bytes : List ℕ) (links : List PairValue) → links_of dwellings bytes ≡ Ok links → GoodLinks dwellings links
-good-links dwellings bytes links h =
-    let (width, indices, records, lines, v, file, are, end) = (accepted_where (links_file dwellings) (AreLinks dwellings) (are_links dwellings) bytes links).0 h in
+pub good-links : (most : ℕ) (dwellings : List PairValue) (bytes : List ℕ) (links : List PairValue) → most ≤ MOST_PERSONS → links_of most dwellings bytes ≡ Ok links → GoodLinks dwellings links
+good-links most dwellings bytes links within h =
+    let (width, indices, records, lines, v, file, are, end) = (accepted_where (links_file most dwellings) (AreLinks most dwellings) (are_links most dwellings) bytes links).0 h in
     let same : lines ≡ links = cc (are.together.1, end) in
     subst (GoodLinks dwellings) same (record {
-      known = λ k below. (let (known, fresh, room) = goes-at (LinkGoes dwellings) lines k are.together.0 below in known);
-      own = own-where (LinkGoes dwellings) lines (λ before one g. let (known, fresh, room) = g in fresh) are.together.0;
-      few = few-where (LinkGoes dwellings) lines MOST_LINKS (λ before one g. let (known, fresh, room) = g in room) are.together.0;
+      known = λ k below. (let (known, fresh, room) = goes-at (LinkGoes most dwellings) lines k are.together.0 below in known);
+      own = own-where (LinkGoes most dwellings) lines (λ before one g. let (known, fresh, room) = g in fresh) are.together.0;
+      few = omega (arith, few-where (LinkGoes most dwellings) lines most (λ before one g. let (known, fresh, room) = g in room) are.together.0, within);
     })
 
 pub sound : (dwellings links : List PairValue) → GoodDwellings dwellings → GoodLinks dwellings links → IsSound (record { dwellings = dwellings; links = links })

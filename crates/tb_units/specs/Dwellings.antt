@@ -7,7 +7,6 @@ use Rattle.tb_rows.specs.Formats.{Format, value_of}
 use Rattle.tb_rows.specs.declared.fault.Fault.{Fault}
 use Rattle.tb_units.specs.declared.fault.UnitsKind.{UnitsKind}
 use Rattle.tb_units.specs.declared.fault.UnitsKind.TheVariants.{BadHeader, BadDwelling, BadKey, DwellingTwice, BadCsv, TooMany}
-use Rattle.tb_units.specs.declared.formats.TheConstants.{MOST_DWELLINGS}
 use Rattle.tb_units.specs.Pairs.{has_first}
 
 -- the dwelling with this number and this key, or the first fault: the part that is missing
@@ -22,26 +21,26 @@ abbrev pub dwelling_in : Keys → List (List ℕ) → Result PairValue UnitsKind
 dwelling_in keys fields =
     dwelling_of (person_of (get_or fields 0 [])) (key_of keys (get_or fields 1 []))
 
--- the dwellings with one more at the end, or the fault that it has beside them
-abbrev pub and_dwelling : List PairValue → PairValue → Result (List PairValue) UnitsKind
-and_dwelling before one =
+-- the dwellings, so many at most, with one more at the end, or the fault that it has beside them
+abbrev pub and_dwelling : ℕ → List PairValue → PairValue → Result (List PairValue) UnitsKind
+and_dwelling most before one =
     if has_first before one.0 then Err DwellingTwice
-    else if nat_le MOST_DWELLINGS (length before) then Err TooMany
+    else if nat_le most (length before) then Err TooMany
     else Ok (before ++ one ∷ [])
 
--- how the file of dwellings is read under a key range
+-- how the file of dwellings is read under a limit and a key range
 abbrev pub dwellings_file :
-    Keys → Format PairValue (List PairValue) (List PairValue) UnitsKind
-dwellings_file keys = record {
+    ℕ → Keys → Format PairValue (List PairValue) (List PairValue) UnitsKind
+dwellings_file most keys = record {
   columns = codes "dwelling" ∷ codes "dwelling_key" ∷ [];
   line_in = dwelling_in keys;
   start = [];
-  add = λ _ before one. and_dwelling before one;
+  add = λ _ before one. and_dwelling most before one;
   finish = λ dwellings. Ok dwellings;
   bad_header = BadHeader;
   bad_csv = BadCsv;
 }
 
 -- what the file of dwellings says
-abbrev pub dwellings_of : Keys → List ℕ → Result (List PairValue) (Fault UnitsKind)
-dwellings_of keys bytes = value_of (dwellings_file keys) bytes
+abbrev pub dwellings_of : ℕ → Keys → List ℕ → Result (List PairValue) (Fault UnitsKind)
+dwellings_of most keys bytes = value_of (dwellings_file most keys) bytes

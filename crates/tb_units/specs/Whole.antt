@@ -2,8 +2,8 @@
 use Rattle.std.specs.Prelude.{◌≡◌, ◌≢◌, ◌<◌, ◌≤◌, ℕ, List, length, true, Ok}
 use Rattle.tb_base.specs.declared.keys.Keys.{Keys}
 use Rattle.tb_base.specs.declared.keys.TheConstants.{MOST_KEYS}
+use Rattle.tb_base.specs.declared.people.TheConstants.{MOST_PERSONS}
 use Rattle.tb_model.specs.Units.{PairValue, UnitsValue}
-use Rattle.tb_units.specs.declared.formats.TheConstants.{MOST_DWELLINGS, MOST_LINKS}
 use Rattle.tb_units.specs.Chains.{AreChains}
 use Rattle.tb_units.specs.declared.fault.UnitsFile.TheVariants.{Dwellings}
 use Rattle.tb_units.specs.Dwellings.{dwellings_of}
@@ -24,19 +24,20 @@ AreKnown dwellings links =
 abbrev pub HaveKeys : List PairValue → Type 0
 HaveKeys dwellings = (d : ℕ) → d < length dwellings → (pair_at dwellings d).1 < MOST_KEYS
 
--- dwellings that some file says under some key range
-abbrev pub AreRead : List PairValue → Type 0
-AreRead dwellings =
-    (keys : Keys) × (bytes : List ℕ) × (in_file Dwellings (dwellings_of keys bytes) ≡ Ok dwellings)
+-- dwellings that some file says under this limit and some key range
+abbrev pub AreRead : ℕ → List PairValue → Type 0
+AreRead most dwellings =
+    (keys : Keys) × (bytes : List ℕ)
+    × (in_file Dwellings (dwellings_of most keys bytes) ≡ Ok dwellings)
 
 -- no two dwellings have one number, no two links one person; the keys are in range, and there are
--- not too many of both
+-- no more of both than the types admit persons
 pub record IsSound (units : UnitsValue) : Type 0 where
   pub own_dwellings : HaveOwn units.dwellings
   pub own_links : HaveOwn units.links
   pub keys : HaveKeys units.dwellings
-  pub few_dwellings : length units.dwellings ≤ MOST_DWELLINGS
-  pub few_links : length units.links ≤ MOST_LINKS
+  pub few_dwellings : length units.dwellings ≤ MOST_PERSONS
+  pub few_links : length units.links ≤ MOST_PERSONS
 
 -- and these are the chains of the links
 pub record AreWhole (units : UnitsValue) (heads nexts : List ℕ) : Type 0 where

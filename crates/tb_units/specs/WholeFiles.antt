@@ -7,46 +7,46 @@ use Rattle.tb_model.specs.Units.{PairValue}
 use Rattle.tb_rows.specs.WholeFiles as files
 use Rattle.tb_rows.specs.WholeFiles.{EachGoes}
 use Rattle.tb_units.specs.declared.fault.UnitsKind.{UnitsKind}
-use Rattle.tb_units.specs.declared.formats.TheConstants.{MOST_DWELLINGS, MOST_LINKS}
 use Rattle.tb_units.specs.Pairs.{has_first}
 use Rattle.tb_units.specs.Dwellings.{dwellings_file}
 use Rattle.tb_units.specs.Links.{links_file}
 
 -- a dwelling goes beside those before it: its number is new, and there is room for one more
-abbrev pub DwellingGoes : List PairValue → PairValue → Type 0
-DwellingGoes before one = (has_first before one.0 ≡ false) × (length before < MOST_DWELLINGS)
+abbrev pub DwellingGoes : ℕ → List PairValue → PairValue → Type 0
+DwellingGoes most before one = (has_first before one.0 ≡ false) × (length before < most)
 
 -- each of the lines goes beside those before it, and the dwellings are these lines
-abbrev pub AreDwellings : List PairValue → List PairValue → Type 0
-AreDwellings lines dwellings = EachGoes DwellingGoes [] lines × (dwellings ≡ lines)
+abbrev pub AreDwellings : ℕ → List PairValue → List PairValue → Type 0
+AreDwellings most lines dwellings = EachGoes (DwellingGoes most) [] lines × (dwellings ≡ lines)
 
 -- a link goes beside those before it: its dwelling is one of the dwellings, its person has no link
 -- yet, and there is room for one more
-abbrev pub LinkGoes : List PairValue → List PairValue → PairValue → Type 0
-LinkGoes dwellings before one =
+abbrev pub LinkGoes : ℕ → List PairValue → List PairValue → PairValue → Type 0
+LinkGoes most dwellings before one =
     (has_first dwellings one.1 ≡ true) × (has_first before one.0 ≡ false)
-    × (length before < MOST_LINKS)
+    × (length before < most)
 
 -- each of the lines goes beside those before it, and the links are these lines
-abbrev pub AreLinks : List PairValue → List PairValue → List PairValue → Type 0
-AreLinks dwellings lines links = EachGoes (LinkGoes dwellings) [] lines × (links ≡ lines)
+abbrev pub AreLinks : ℕ → List PairValue → List PairValue → List PairValue → Type 0
+AreLinks most dwellings lines links =
+    EachGoes (LinkGoes most dwellings) [] lines × (links ≡ lines)
 
--- a file of dwellings is accepted under a key range, and these are they
-abbrev pub AcceptsDwellings : Keys → List ℕ → List PairValue → Type 0
-AcceptsDwellings keys bytes dwellings =
-    files.IsAccepted (dwellings_file keys) AreDwellings bytes dwellings
-
--- it is refused with this kind of fault and this number
-abbrev pub RefusesDwellings : Keys → List ℕ → UnitsKind → ℕ → Type 0
-RefusesDwellings keys bytes kind n =
-    files.IsRefused (dwellings_file keys) AreDwellings bytes kind n
-
--- a file of links over dwellings is accepted, and these are they
-abbrev pub AcceptsLinks : List PairValue → List ℕ → List PairValue → Type 0
-AcceptsLinks dwellings bytes links =
-    files.IsAccepted (links_file dwellings) (AreLinks dwellings) bytes links
+-- a file of dwellings is accepted under a limit and a key range, and these are they
+abbrev pub AcceptsDwellings : ℕ → Keys → List ℕ → List PairValue → Type 0
+AcceptsDwellings most keys bytes dwellings =
+    files.IsAccepted (dwellings_file most keys) (AreDwellings most) bytes dwellings
 
 -- it is refused with this kind of fault and this number
-abbrev pub RefusesLinks : List PairValue → List ℕ → UnitsKind → ℕ → Type 0
-RefusesLinks dwellings bytes kind n =
-    files.IsRefused (links_file dwellings) (AreLinks dwellings) bytes kind n
+abbrev pub RefusesDwellings : ℕ → Keys → List ℕ → UnitsKind → ℕ → Type 0
+RefusesDwellings most keys bytes kind n =
+    files.IsRefused (dwellings_file most keys) (AreDwellings most) bytes kind n
+
+-- a file of links over dwellings is accepted under a limit, and these are they
+abbrev pub AcceptsLinks : ℕ → List PairValue → List ℕ → List PairValue → Type 0
+AcceptsLinks most dwellings bytes links =
+    files.IsAccepted (links_file most dwellings) (AreLinks most dwellings) bytes links
+
+-- it is refused with this kind of fault and this number
+abbrev pub RefusesLinks : ℕ → List PairValue → List ℕ → UnitsKind → ℕ → Type 0
+RefusesLinks most dwellings bytes kind n =
+    files.IsRefused (links_file most dwellings) (AreLinks most dwellings) bytes kind n

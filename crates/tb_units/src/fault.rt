@@ -36,7 +36,7 @@ pub enum UnitsKind {
     BadPerson,
     #[error("the record must have as many fields as the header")]
     BadCsv,
-    #[error("there must be at most 1000000 records")]
+    #[error("there must be at most 1000000 records, or as many as the classification says")]
     TooMany,
 }
 

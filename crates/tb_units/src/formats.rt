@@ -1,6 +1,7 @@
 // How the two files are read, record by record.
 
 ghost use Rattle.std.specs.Prelude.{◌≡◌, ◌≢◌, ◌+◌, ◌<◌, ◌≤◌, Ok, Err, [], length, IfErr, OnOk, MatchResult};
+ghost use Rattle.tb_base.specs.declared.people.TheConstants.{MOST_PERSONS};
 ghost use Rattle.tb_model.specs.Units.{PairValue};
 ghost use Rattle.tb_units.specs.Dwellings.{dwelling_in, dwellings_file};
 ghost use Rattle.tb_units.specs.Links.{link_in, links_file};
@@ -13,22 +14,40 @@ use tb_base::{Keys, Memory};
 use tb_records::{read_key, read_person};
 use tb_rows::{Fault, Fields, FileFormat};
 
-/// The most dwellings that there may be.
-pub const MOST_DWELLINGS: usize = 1_000_000;
-
-/// The most links that there may be.
-pub const MOST_LINKS: usize = 1_000_000;
-
-/// The file of dwellings under a key range.
+/// The file of dwellings, so many at most, under a key range.
 #[derive(Drop)]
 pub struct DwellingsFile {
+    pub most: usize,
     pub keys: Keys,
+    ghost few: { most ≤ MOST_PERSONS },
 }
 
-/// The file of links over dwellings.
+/// The file of links, so many at most, over dwellings.
 #[derive(Drop)]
 pub struct LinksFile<'a> {
+    pub most: usize,
     pub dwellings: &'a Pairs,
+    ghost few: { most ≤ MOST_PERSONS },
+}
+
+impl DwellingsFile {
+    // How many dwellings there may be at most.
+    fn limit(&self) -> usize
+        ensures value { result ≡ self.now.most }
+        ensures few { result ≤ MOST_PERSONS }
+    {
+        self.most
+    }
+}
+
+impl<'a> LinksFile<'a> {
+    // How many links there may be at most.
+    fn limit(&self) -> usize
+        ensures value { result ≡ self.now.most }
+        ensures few { result ≤ MOST_PERSONS }
+    {
+        self.most
+    }
 }
 
 // The dwelling that a record says, or the fault that the record has by itself.
@@ -74,7 +93,7 @@ impl FileFormat for DwellingsFile {
 
     ghost Line = { PairValue };
 
-    ghost format = { λ f. dwellings_file f.keys };
+    ghost format = { λ f. dwellings_file f.most f.keys };
 
     ghost count = { λ dwellings. length dwellings };
 
@@ -98,7 +117,7 @@ impl FileFormat for DwellingsFile {
     }
 
     fn start(&self, alloc: Global, bytes: usize) -> Result<Pairs, Memory> {
-        Ok(Pairs::with_room(alloc, room_for(bytes, MOST_DWELLINGS)))
+        Ok(Pairs::with_room(alloc, room_for(bytes, self.limit())))
     }
 
     fn step(
@@ -114,7 +133,7 @@ impl FileFormat for DwellingsFile {
         if so_far.has(number) {
             return Err(fault_at(UnitsKind::DwellingTwice, at));
         }
-        if so_far.len() >= MOST_DWELLINGS {
+        if so_far.len() >= self.limit() {
             return Err(fault_at(UnitsKind::TooMany, at));
         }
         so_far.add(number, key)?;
@@ -135,7 +154,7 @@ impl<'a> FileFormat for LinksFile<'a> {
 
     ghost Line = { PairValue };
 
-    ghost format = { λ f. links_file f.dwellings.now };
+    ghost format = { λ f. links_file f.most f.dwellings.now };
 
     ghost count = { λ links. length links };
 
@@ -159,7 +178,7 @@ impl<'a> FileFormat for LinksFile<'a> {
     }
 
     fn start(&self, alloc: Global, bytes: usize) -> Result<Pairs, Memory> {
-        Ok(Pairs::with_room(alloc, room_for(bytes, MOST_LINKS)))
+        Ok(Pairs::with_room(alloc, room_for(bytes, self.limit())))
     }
 
     fn step(
@@ -178,7 +197,7 @@ impl<'a> FileFormat for LinksFile<'a> {
         if so_far.has(person) {
             return Err(fault_at(UnitsKind::PersonTwice, at));
         }
-        if so_far.len() >= MOST_LINKS {
+        if so_far.len() >= self.limit() {
             return Err(fault_at(UnitsKind::TooMany, at));
         }
         so_far.add(person, number)?;

@@ -30,5 +30,4 @@ mod slots;
 mod units;
 
 pub use fault::{UnitsFault, UnitsFile, UnitsKind};
-pub use formats::{MOST_DWELLINGS, MOST_LINKS};
 pub use units::Units;

@@ -1,9 +1,9 @@
 // Links, looked up by their persons.
 
 ghost use Rattle.std.specs.Prelude.{◌≡◌, ◌≤◌, false, length, IfNone, IfSome};
+ghost use Rattle.tb_base.specs.declared.people.TheConstants.{MOST_PERSONS};
 ghost use Rattle.tb_units.specs.Pairs.{has_first, IsAt};
 
-use crate::formats::MOST_LINKS;
 use crate::pairs::Pairs;
 use crate::slots::Slots;
 use std::alloc::Global;
@@ -35,7 +35,7 @@ impl Model for Links {
 impl Links {
     /// These links, in the form that finds them fastest within their room.
     pub fn of(alloc: Global, mut links: Pairs) -> Links
-        requires { length links ≤ MOST_LINKS }
+        requires { length links ≤ MOST_PERSONS }
         ensures { result ≡ links }
     {
         match Slots::of(alloc, &links) {

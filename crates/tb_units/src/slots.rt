@@ -2,11 +2,11 @@
 
 ghost use Rattle.std.specs.Prelude.{◌≡◌, ◌<◌, ◌≤◌, ℕ, false, length, slice_index_or};
 ghost use Rattle.std.specs.Prelude.{IfNone, IfOk, IfSome};
+ghost use Rattle.tb_base.specs.declared.people.TheConstants.{MOST_PERSONS};
 ghost use Rattle.tb_units.specs.Pairs.{has_first, pair_at, IsAt};
 ghost use Rattle.tb_units.specs.Slots.{AreSlots};
 
 use crate::chains::zeros;
-use crate::formats::MOST_LINKS;
 use crate::pairs::Pairs;
 use std::alloc::Global;
 use std::marker::Model;
@@ -49,7 +49,7 @@ fn greatest_person(links: &Pairs) -> u32
 
 // So many slots, with which each person of the links has one: that of its link.
 fn slots_of(alloc: Global, links: &Pairs, count: usize) -> Result<Vec<u32>, Memory>
-    requires few { length links.now ≤ MOST_LINKS }
+    requires few { length links.now ≤ MOST_PERSONS }
     requires reach { (k : ℕ) → k < length links.now → (pair_at links.now k).0 < count }
     ensures { IfOk result (λ slots. AreSlots links.now (length links.now) slots.items) }
 {
@@ -73,7 +73,7 @@ impl Slots {
     /// These links with slots for their persons; none where that would be too many slots, or there
     /// is no memory for them.
     pub fn of(alloc: Global, links: &Pairs) -> Option<Slots>
-        requires { length links.now ≤ MOST_LINKS }
+        requires { length links.now ≤ MOST_PERSONS }
         ensures { IfSome result (λ slots. slots ≡ links.now) }
     {
         let count = greatest_person(links) as usize + 1;

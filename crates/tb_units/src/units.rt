@@ -1,6 +1,8 @@
 // Dwellings and who lives in them.
 
-ghost use Rattle.std.specs.Prelude.{◌≡◌, ◌≢◌, ◌<◌, false, Ok, Err, IfErr, IfNone, IfOk, IfSome, length};
+ghost use Rattle.std.specs.Prelude.{◌≡◌, ◌≢◌, ◌<◌, ◌≤◌, false, Ok, Err, IfErr, IfNone, IfOk};
+ghost use Rattle.std.specs.Prelude.{IfSome, length};
+ghost use Rattle.tb_base.specs.declared.people.TheConstants.{MOST_PERSONS};
 ghost use Rattle.tb_units.specs.Chains.{last_to};
 ghost use Rattle.tb_units.specs.Pairs.{has_first, pair_at, IsAt};
 ghost use Rattle.tb_units.specs.Units.{units_of, with_links_of};
@@ -43,7 +45,8 @@ impl Model for Units {
 }
 
 impl Units {
-    /// Reads dwellings under a key range, and who lives in them.
+    /// Reads dwellings under a limit, which is that of the links too, and a key range, and who
+    /// lives in them.
     ///
     /// `dwellings` is a CSV file with the columns `dwelling` and `dwelling_key`, `links` one with
     /// the columns `person` and `dwelling`, each in any order and beside any others, with a record
@@ -52,30 +55,38 @@ impl Units {
     /// memory for both, and for the chains.
     pub fn read(
         alloc: Global,
+        most: usize,
         keys: Keys,
         dwellings: &[u8],
         links: &[u8],
     ) -> Result<Units, UnitsFault>
+        requires { most ≤ MOST_PERSONS }
         // What is read is what the files say.
-        ensures ok { IfOk result (λ units. units_of keys dwellings.now links.now ≡ Ok units) }
+        ensures ok { IfOk result (λ units. units_of most keys dwellings.now links.now ≡ Ok units) }
         // A refusal is the first fault of the files. Memory can run out at any file.
         ensures refused { IfErr result (λ e. e ≢ UnitsFault.Memory
-            → units_of keys dwellings.now links.now ≡ Err e) }
+            → units_of most keys dwellings.now links.now ≡ Err e) }
     {
-        match read_dwellings(alloc, keys, dwellings) {
-            Ok(read) => Units::over(alloc, read, links),
+        match read_dwellings(alloc, most, keys, dwellings) {
+            Ok(read) => Units::over(alloc, most, read, links),
             Err(fault) => Err(fault),
         }
     }
 
-    // Dwellings that were read, and the links of a file.
-    fn over(alloc: Global, dwellings: Pairs, file: &[u8]) -> Result<Units, UnitsFault>
-        requires { AreRead dwellings }
-        ensures ok { IfOk result (λ units. with_links_of dwellings file.now ≡ Ok units) }
+    // Dwellings that were read under a limit, and the links of a file.
+    fn over(
+        alloc: Global,
+        most: usize,
+        dwellings: Pairs,
+        file: &[u8],
+    ) -> Result<Units, UnitsFault>
+        requires within { most ≤ MOST_PERSONS }
+        requires read { AreRead most dwellings }
+        ensures ok { IfOk result (λ units. with_links_of most dwellings file.now ≡ Ok units) }
         ensures refused { IfErr result (λ e. e ≢ UnitsFault.Memory
-            → with_links_of dwellings file.now ≡ Err e) }
+            → with_links_of most dwellings file.now ≡ Err e) }
     {
-        let links = match links_over(alloc, &dwellings, file) {
+        let links = match links_over(alloc, most, &dwellings, file) {
             Ok(read) => read,
             Err(fault) => return Err(fault),
         };

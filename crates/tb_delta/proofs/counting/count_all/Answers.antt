@@ -16,7 +16,7 @@ add_piece-requires-clause-room g c =
     let lent = c.lend-lent.result in
     let before = flat_map (λ p. p) (take c.loop-i.i lent) in
     let few : length before + length c.whole-piece.result.now ≤ MOST_PERSONS =
-    omega (arith, pieces-fit lent c.loop-i.i (omega (arith, c.loop-i-test.true, c.pieces-i-end.ensures)), ap (λ (rs : List Record). length rs) c.lend-lent.ensures.records, ap (λ (rs : List Record). length rs) c.whole-piece.ensures, c.soundness.ensures.few) in
+    omega (arith, pieces-fit lent c.loop-i.i (omega (arith, c.loop-i-test.true, c.pieces-i-end.ensures)), ap (λ (rs : List Record). length rs) c.lend-lent.ensures.records, ap (λ (rs : List Record). length rs) c.whole-piece.ensures, c.soundness.ensures.few, c.soundness.ensures.most) in
     rw (take_all c.len.result c.whole-piece.result.now (omega (arith, c.len.ensures)))
     (cube-room c.loop-i.cube c.args.shape.now c.args.vars.now before (length c.whole-piece.result.now) c.loop-i.invariant few)
 

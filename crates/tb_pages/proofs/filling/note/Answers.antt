@@ -10,7 +10,7 @@ push-requires c =
 
 pub loop-i-preserved : goal.loop-i-preserved
 loop-i-preserved c =
-    one_noted c.args.page c.args.records.now c.loop-i.i c.index-records-i.result c.args.lists.now c.loop-i.lists c.push.new.self c.loop-i-test.true c.index-records-i.is c.loop-i.invariant c.in_ok-push.ensures
+    one_noted c.args.page c.args.records.now c.loop-i.i c.index-records-i.result c.args.lists.now c.loop-i.lists c.push.new.self c.loop-i-test.true c.index-records-i.is c.loop-i.invariant (rw c.of-page.ensures at c.in_ok-push.ensures)
 
 pub returns : goal.returns
 returns c =

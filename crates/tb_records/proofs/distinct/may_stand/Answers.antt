@@ -12,4 +12,4 @@ pub returns : goal.returns
 returns g c =
     let after : c.par_sort.new.s ≡ c.deref.result.now = sym (c.deref.ensures.value ∙ written-anew c.in_ok-persons.persons.items c.par_sort.new.s c.in_ok-persons.persons.len c.in_ok-persons.persons.ok.0 (c.in_ok-par_sort.ensures.len ∙ ap length c.deref_mut.ensures.value)) in
     let same : IsPermutation c.in_ok-persons.persons.items c.deref.result.now = subst (λ (ns : List ℕ). IsPermutation ns c.deref.result.now) c.deref_mut.ensures.value (subst (λ (ns : List ℕ). IsPermutation c.deref_mut.result.now ns) after c.in_ok-par_sort.ensures.permutation) in
-    stand-sorted (flat_map (λ list. list.items) c.args.lists.now) c.in_ok-persons.persons.items c.deref.result.now c.rise.result c.in_ok-persons.ensures c.if-not-are_few.ensures same (subst (λ (ns : List ℕ). IsSorted nat_cmp ns) after c.in_ok-par_sort.ensures.sorted) c.rise.ensures
+    stand-sorted c.args.most (flat_map (λ list. list.items) c.args.lists.now) c.in_ok-persons.persons.items c.deref.result.now c.rise.result c.in_ok-persons.ensures c.if-not-are_few.ensures same (subst (λ (ns : List ℕ). IsSorted nat_cmp ns) after c.in_ok-par_sort.ensures.sorted) c.rise.ensures

@@ -16,7 +16,7 @@ roll_into-requires-clause-among c =
 pub roll_into-requires-clause-few : goal.roll_into-requires-clause-few
 roll_into-requires-clause-few c =
     let (release, is) = c.requires in
-    omega (arith, cube-counts c.args.plan.now.shape (vars_of c.args.plan.now) release.records (unpacked c.args.cube.now) is.counted (there-own c.args.plan.now) is.fit, is.sound.few)
+    omega (arith, cube-counts c.args.plan.now.shape (vars_of c.args.plan.now) release.records (unpacked c.args.cube.now) is.counted (there-own c.args.plan.now) is.fit, is.sound.few, is.sound.most)
 
 -- whichever release it is
 pub returns : goal.returns

@@ -5,4 +5,4 @@ use Rattle.tb_units.proofs.WholeFiles.{are_dwellings}
 use Rattle.tb_units.proofs.laws.accepted_dwellings.Goals as goal
 
 pub returns : goal.returns
-returns c = λ keys. accepted_where (dwellings_file keys) AreDwellings (are_dwellings keys)
+returns c = λ most keys. accepted_where (dwellings_file most keys) (AreDwellings most) (are_dwellings most keys)

@@ -18,7 +18,7 @@ pub returns : goal.returns
 returns c =
     let new : Register = record { pages = c.take_out.new.self; book = c.set.new.self; living = c.args.self.now.living - 1 } in
     take_made c.args.stamp c.args.person c.args.self.now new c.args.spot c.in_ok-before.before c.unwrap-key.result c.requires.register c.requires.spot
-    c.in_ok-before.ensures.taken c.in_ok-before.ensures.new (sym c.get.ensures ∙ c.unwrap-key.ensures) c.in_ok-set.ensures.ok refl
+    c.in_ok-before.ensures.taken c.in_ok-before.ensures.new (sym c.get.ensures ∙ c.unwrap-key.ensures) (rw c.none-page.ensures at c.in_ok-set.ensures.ok) refl
 
 pub overflow_sub-self : goal.overflow_sub-self
 overflow_sub-self c = some_living c.args.self.now c.args.person c.requires.register (person_there c.requires.spot)

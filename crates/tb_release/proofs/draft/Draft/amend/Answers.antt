@@ -15,6 +15,6 @@ replace-requires-clause-spot c =
 
 pub returns : goal.returns
 returns c =
-    let new : Draft = record { register = c.replace.new.self; number = c.args.self.now.number; changes = c.args.self.now.changes; edits = c.args.self.now.edits; made = c.args.self.now.made + 1; rules = c.args.self.now.rules } in
+    let new : Draft = record { register = c.replace.new.self; most = c.args.self.now.most; number = c.args.self.now.number; changes = c.args.self.now.changes; edits = c.args.self.now.edits; made = c.args.self.now.made + 1; rules = c.args.self.now.rules } in
     amend_made c.args.self.now new c.args.person c.args.sets.now c.record-old.result.now c.in_ok-before.before c.in_ok-kept.kept c.in_ok-after.after
-    c.requires.draft c.requires.possible c.record-old.ensures c.in_ok-kept.ensures c.in_ok-after.ensures c.in_ok-before.ensures refl refl refl refl refl
+    c.requires.draft c.requires.possible c.record-old.ensures c.in_ok-kept.ensures c.in_ok-after.ensures c.in_ok-before.ensures refl refl refl refl refl refl

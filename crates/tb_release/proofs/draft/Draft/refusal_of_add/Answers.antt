@@ -12,12 +12,12 @@ returns-then-is_other c =
     key_changed c.args.self.now c.args.person c.args.key (sym c.if-has.ensures)
     (ap (λ o. option_map_or (λ old. not (old == c.args.key)) o false) (sym c.key_of.ensures) ∙ sym c.if-is_other.ensures)
 
-pub returns-then-self-ge-MOST_PERSONS : goal.returns-then-self-ge-MOST_PERSONS
-returns-then-self-ge-MOST_PERSONS c =
+pub returns-then-self : goal.returns-then-self
+returns-then-self c =
     too_many c.args.self.now c.args.person c.args.key c.requires (sym c.if-has.ensures)
-    (ap (λ o. option_map_or (λ old. not (old == c.args.key)) o false) (sym c.key_of.ensures) ∙ sym c.if-is_other.ensures) c.if-self-ge-MOST_PERSONS.true
+    (ap (λ o. option_map_or (λ old. not (old == c.args.key)) o false) (sym c.key_of.ensures) ∙ sym c.if-is_other.ensures) c.if-self.true
 
 pub returns : goal.returns
 returns c =
     may_add c.args.self.now c.args.person c.args.key c.requires (sym c.if-has.ensures)
-    (ap (λ o. option_map_or (λ old. not (old == c.args.key)) o false) (sym c.key_of.ensures) ∙ sym c.if-is_other.ensures) c.if-self-ge-MOST_PERSONS.false
+    (ap (λ o. option_map_or (λ old. not (old == c.args.key)) o false) (sym c.key_of.ensures) ∙ sym c.if-is_other.ensures) c.if-self.false

@@ -32,7 +32,7 @@ returns-clause-led g c =
     let old = c.args.self.now in
     let changes = c.len-changes.result in
     let rule_edits = c.rule_edits-rule_edits.result in
-    let new : Reached = record { register = c.make_all.new.register; rules = c.follow.new.self; number = old.number + 1; changes = old.changes + changes; edits = old.edits + (changes + rule_edits) } in
+    let new : Reached = record { register = c.make_all.new.register; rules = c.follow.new.self; most = old.most; number = old.number + 1; changes = old.changes + changes; edits = old.edits + (changes + rule_edits) } in
     led old new c.args.batch.now c.requires.reached c.requires.follows
-    (c.in_ok-make_all.ensures.leads (release_reached old) (can_replay old c.args.batch.now c.requires.reached c.requires.follows)) refl
+    (c.in_ok-make_all.ensures.leads (release_reached old) (can_replay old c.args.batch.now c.requires.reached c.requires.follows)) refl refl
     (same_sum old.changes c.len-changes.ensures) (same_sum old.edits (omega (arith, c.len-changes.ensures, c.rule_edits-rule_edits.ensures))) c.in_ok-follow.ensures
