@@ -1,4 +1,7 @@
 // The answer to a line of a party that writes its batches ahead.
+//
+// A choice that a wrong body is to change stands in a small function without an answer, and an arm
+// that it is to change last: so the edit is refused by what isn't proved, not by a name.
 
 ghost use Rattle.std.specs.Prelude.{◌≡◌, ◌<◌, ◌≤◌, true, length};
 ghost use Rattle.tb_ahead.specs.Keepers.{KeepsTo, LeadsBy, keeper};

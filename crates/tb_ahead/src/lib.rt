@@ -1,12 +1,14 @@
 //! Batches that are written ahead of their publication: what they are written into, as it is seen
-//! from above, and the answer to a line of the party that writes them.
+//! from above (`WriteAhead`), the party that publishes them (`Publisher`), and the answer to a line
+//! of that party (`answer_ahead`). It knows no disk, no board and no desk.
 //!
-//! It stands on `tb_release` (edits), `tb_spelling` (edits that can be written), `tb_tables` (what
-//! a reply out of memory is) and `tb_lines` (what answers lines), and needs nothing of a disk, a
-//! board or a desk. Its contracts cite `specs/Publishing` (the reply to `publish`), `Puts` (what a
-//! put makes of what the file stands for), `Keeping` (the replies of a party that writes ahead, and
-//! where it stands then), `Keepers` (the party beside what it writes into), and `Stages` and
-//! `Trials` (what the functions between say).
+//! What can't follow is refused, and not written. Where nothing is put any more, or the disk fails,
+//! the reply is `unkept`; where the memory for it is refused, `memory`: both times the edits are
+//! held still. Where the disk failed, a file that a stop leaves may have the batch; after a
+//! `memory` that came once it was kept, each has it. Nothing more is put then.
+//!
+//! Begin at `answering.rt`, `answer_ahead`: `try_next`, `put`, and then the party answers the line.
+//! Who writes elsewhere, or publishes elsewhere, is one more instance, with the laws of its trait.
 #![tactic(auto)]
 
 mod ahead;

@@ -1,3 +1,8 @@
+// Two layouts behind one view: the enum stands in a struct with a model whose view goes by cases,
+// and a private `as_slice` with the view as its clause serves every other method. A table reads
+// every record, and takes as long as memory takes to give their bytes: hence 24 bytes a record, and
+// no `SmallVec` in place.
+
 ghost use Rattle.std.specs.Prelude.{◌≡◌, ◌<◌, length, slice_index, IfOk};
 
 use crate::memory::Memory;

@@ -1,23 +1,15 @@
-//! The data that all of TableBuilder counts: persons' records, also by column, cells, lists of
-//! categories and of variables, numbers in decimal digits, and the error of a call that runs out of
-//! memory; and the bytes and words of the lines that it reads.
+//! What all crates count with: persons' records, also by column (`Piece`), cells, lists of
+//! categories and of variables, key ranges, the rules of a release, statuses, the counter of steps,
+//! the one error of a call that is out of memory (`Memory`), and the numbers and words of lines.
 //!
-//! It stands on nothing but `smallvec` and `itoa`. Its contracts cite `specs/Cells` (a cell is the
-//! count and the key sum of some records), `Keys` (the key range, and the cell key of a key sum),
-//! `Parts` (a cell's two numbers, each summed modulo its own), `Tallies` (what stands at one place
-//! of a column), `Records`, `Pieces` (records by column), `Codes` (how a record's numbers are
-//! kept), `Rules` (a threshold and the pvalues that were set) with its law in `Laws`, `Persons`,
-//! `Sets`, `Numbers`, `Statuses`, `Bytes` and `Words` (text, blanks, and the words of a line);
-//! `Lists` and `OneAnswer` (a text that is read has exactly one answer) serve the crates above.
-//! Cells are summed here alone.
+//! Cells are summed here alone: counts modulo 2^32, key sums modulo 4,096, which each key range
+//! divides, so no cell knows its key range. A call that changes a value and finds no memory leaves
+//! it as it was. `soundness`, `know_cells` and the like do nothing: they tell a caller's proof a
+//! fact.
 //!
-//! Lemmas for the crates above: `proofs/CellLemmas` (how a cell changes with its records),
-//! `CellsBy` (the same of the cells of several groups), `KeyLemmas` (key ranges), `PartLemmas` (the
-//! two numbers of cells, and sums modulo a number), `TallyLemmas` (records put in by tallies of
-//! chunks), `PersonLemmas`, `WordLemmas` (words from the front of a line), `OnlyAnswer` (what is
-//! returned for a text), `AllThere` and `Options` (values that may be missing), `Setting` (pvalues
-//! that are set and found), `Texts` (texts that are compared) and `ColumnLemmas` (what becomes of
-//! columns as their records change).
+//! Begin at `records.rt`, `cells.rt` and, for the definition, `specs/Cells`: a cell is `length` and
+//! `sum_by` of its records, never a fold; lists of cells by a test are `cells_by`
+//! (`proofs/CellsBy`).
 #![tactic(auto)]
 
 mod bytes;

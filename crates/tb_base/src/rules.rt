@@ -1,3 +1,7 @@
+// The pvalues are a std map, in order of row and cell key. Its calls speak of entries by that
+// order, so the methods need one lemma, that the order's test is that of equal numbers; `len` tells
+// that the keys ascend, and a method that calls it and does nothing more has that as its clause.
+
 ghost use Rattle.std.specs.Prelude.{◌≡◌, ◌≤◌, true, IfOk, IfSome, OnOk, OnErr};
 ghost use Rattle.std.specs.List.Sorted.{IsStrictlySortedBy};
 ghost use Rattle.std.specs.Map.{keys_of};
@@ -40,6 +44,7 @@ impl Model for Rules {
 }
 
 impl Rules {
+    // Any threshold: the command line and edits keep it within `MOST_THRESHOLD`.
     /// Rules with this threshold: no release was taken back, and no pvalue set. It takes no memory.
     pub fn new(alloc: Global, threshold: u32) -> Rules
         ensures { result ≡ first_rules threshold }

@@ -1,5 +1,8 @@
 // The cells of columns of places and of record keys: one place's cell by vectors, with a plain loop
 // for the rest, and the cells of a few places.
+//
+// A lane sums modulo the number of its type, so a loop's invariant is one equation modulo it, and
+// no lane needs a bound; what the count may be is asked once, at the end (`proofs/LaneSums`).
 
 ghost use Rattle.std.specs.Prelude.{◌≡◌, ◌*◌, ◌≤◌, length, map, take, All};
 ghost use Rattle.tb_base.specs.declared.people.TheConstants.{MOST_PERSONS};

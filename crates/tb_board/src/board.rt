@@ -164,6 +164,7 @@ impl<B: Named> Board<B> {
         guard.publish(&self.front, custodian, publication)
     }
 
+    // Behind a lock no clause can tell what the desk did in earlier turns.
     /// The numbers of the desk in this turn. Its release is how many batches the custodian's pass
     /// has seen; of the others the clause has their bounds alone.
     pub fn stats(&self, rt: &impl Wait, custodian: &mut Custodian) -> Stats

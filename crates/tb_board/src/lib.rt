@@ -1,17 +1,14 @@
-//! A server's board: a desk behind one lock, beside the front of its chain. Analysts take from it
-//! and offer to it, and one custodian publishes on it, from any threads.
+//! A server's board: the desk of `tb_core` behind one lock, beside the front of its chain. Analysts
+//! take from it and offer to it, and one custodian publishes on it, from any threads (`Board`).
 //!
-//! It stands on `tb_base`, `tb_model`, `tb_release`, `tb_cube`, `tb_core` and `tb_front`. Each call
-//! that takes the lock is one turn, which is one event of the core; no cube is built, advanced or
-//! printed in a turn, and no guard is handed out. What stands behind the lock is known by its type
-//! alone; what a caller knows of the chain, its pass has seen. The contracts cite `specs/Starts`
-//! (the base of a board's chain), `specs/Holders` (what a holder of the front has seen),
-//! `specs/Custodians` (when a custodian is whole, and what a publication makes of it) and
-//! `specs/Turns` (what the turns return).
+//! A call that takes `rt` is one turn of the lock, and one call of the desk. No guard is handed
+//! out, and no cube is built, led on or printed in a turn. A publication takes its memory, but the
+//! desk's room for one batch, before its turn; refused, or out of memory, it leaves all as it was.
 //!
-//! Of the lemmas `Chains` (what was seen is a chain) and `Meeting` serve each turn, `Whole` serves
-//! a publication, and `Taking` a take, the whole chain that is handed out, and callers who offer
-//! what they made of a take.
+//! Begin at `board.rt`, then `locked.rt`: what stands behind the lock is known by its type alone,
+//! so a board has a name in its type (`Named`): an `Opening` is made first, and then a function
+//! that is generic in the name is called at `Brand`. What a caller knows of the chain its pass has
+//! seen.
 #![tactic(auto)]
 
 mod board;

@@ -1,4 +1,9 @@
 // How a batch is published: first all memory is taken, and then one turn adopts it.
+//
+// In the turn the custodian's pass catches up, and the writer confirms it, so that the desk's chain
+// is known to be the writer's; the desk adopts; the writer appends and gives a draft; the keeper
+// adopts that; the pass catches up. Only the desk's step can be refused, and then nothing has
+// changed.
 
 ghost use Rattle.std.specs.Prelude.{◌≡◌, ◌<◌, All, IfOk, IfErr, OnOk, OnErr, length};
 ghost use Rattle.tb_front.specs.declared.front.TheConstants.{LONGEST_CHAIN};

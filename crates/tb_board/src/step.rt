@@ -1,3 +1,5 @@
+// A step is an entry of the chain, and not what `tb_base::Steps` counts.
+
 ghost use Rattle.std.specs.Prelude.{◌≡◌};
 ghost use Rattle.std.specs.Arc.{arc_value};
 

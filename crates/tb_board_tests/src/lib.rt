@@ -2,8 +2,8 @@
 //! offers beside publications, the numbers of the desk behind the lock, and calls with ample
 //! memory. A custodian, passes and a note go to other threads there, and a board is shared.
 //!
-//! They call public functions alone. No clause tells what the desk behind the lock does, nor that a
-//! thread runs.
+//! They call public functions alone, and show what no clause tells: what the desk behind the lock
+//! does, and that a thread runs. Begin at `turns.rt`; `making.rt` has what they share.
 #![tactic(auto)]
 
 #[cfg(test)]

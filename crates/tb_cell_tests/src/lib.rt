@@ -1,9 +1,9 @@
 //! Tests of releases and cubes: batches of edits, also of records and rules mixed, pages and their
 //! stamps, columns, tallies, key sums, cubes, past releases, runs of events and the recency list,
-//! worked by hand over the small setup. Their calls have ample memory.
+//! worked by hand over the small setup. Their calls have ample memory, and are public.
 //!
-//! They call public functions alone. Tests stand in crates of their own since a crate that has
-//! tests is proved twice. Whole runs stand in `tb_top_tests`.
+//! Begin at `batches.rt` or `cubes.rt`; `making.rt` has what they share. A `#[test]` function owns
+//! nothing: it asserts what one function returns.
 #![tactic(auto)]
 
 #[cfg(test)]

@@ -1,5 +1,6 @@
 //! What came of a test's call, compared with what is wanted: where they differ both are printed on
-//! the standard error, so that a test which fails tells more than its row.
+//! the standard error, so that a test which fails tells more than its row. Begin at
+//! `comparison.rt`.
 //!
 //! No call takes memory, and none that compares prints where they are the same. A write that fails
 //! is ignored.

@@ -1,17 +1,15 @@
-//! The state behind every answer: one chain of releases, and the cubes that are kept of them; and
-//! the pure system of callers and a custodian who share it.
+//! The state behind every answer: one chain of releases, and the cubes that are kept of them
+//! (`Desk`); and the pure system of callers and a custodian who share it (`run`), which the laws
+//! are about.
 //!
-//! It stands on `tb_base`, `tb_model`, `tb_grid`, `tb_cube`, `tb_release`, `tb_delta` and
-//! `tb_cache`. Its contracts cite `specs/Desks` (what a desk is seen as, and what is true of every
-//! desk), `Turns` (what each call returns, and what it leaves), `Takes` (what was taken from a
-//! desk, and the price of its cube) and `Got` (the cube that its caller gets). `run` cites `Runs`
-//! (the run of events, over the chain and the list of cubes' numbers alone), and `laws` cites
-//! `Laws`.
+//! A cube stays when the desk goes on: it keeps the number of its release, and who takes it leads
+//! it on. After want of memory the desk is as before. The program uses no `cube_for` and no `run`:
+//! both are there for their clauses and tests.
 //!
-//! Of the lemmas `ChainLemmas` (releases along a chain, with those of `tb_release`) serve all
-//! calls, `DeskLemmas` the desk's own, `TakeLemmas` and `LeadLemmas` the cube of what was taken;
-//! `FitLemmas` the tests; `SystemLemmas` and `StepLemmas` the run of events; `LawLemmas`,
-//! `NumberLemmas` and `CountLemmas` its laws. `Vectors` has worked runs.
+//! Begin at `desk.rt`: a desk is seen without its current release and its cubes, since its
+//! invariant says that they are what the chain says; so each call is one equation. `cubes.rt`
+//! (`lead_on`) makes the cube of what was taken. A law over runs goes by a system without the cache
+//! (`bare_after`).
 #![tactic(auto)]
 
 mod cubes;

@@ -1,4 +1,6 @@
 // The number of a record's cell: each category leads on by a stride of its variable.
+//
+// A multiplication by a stride took no longer than a look-up of offsets.
 
 ghost use Rattle.std.specs.Prelude.{◌≡◌, ◌*◌, ◌<◌, All, IfOk, length};
 ghost use Rattle.tb_base.specs.Records.{category_at};

@@ -2,6 +2,11 @@
 // two variables are found code by code; for few cells, or more variables, the numbers of the
 // records' cells are worked out a variable at a time, and then their keys are put in. Where a
 // column is missing the records are read.
+//
+// Numbers are worked out modulo 2^32, so no step needs a bound: that the whole number is a cell's
+// says at the end that nothing was cut off (`proofs/ByColumn`). What puts the keys in has a clause
+// over any axes and records of which these are the numbers and keys (`AreNumbered`), so it is
+// passed neither.
 
 ghost use Rattle.std.specs.Prelude.{◌≡◌, ℕ, List, ◌*◌, ◌+◌, ◌%◌, ◌<◌, ◌≤◌, ◌^◌, All, true, length};
 ghost use Rattle.std.specs.Prelude.{replicate, slice_index, take};

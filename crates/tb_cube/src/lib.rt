@@ -1,21 +1,15 @@
-//! Cubes: the cells of all lists of categories of some variables.
+//! Cubes: the cells of all lists of categories of some variables, of the records that were put in
+//! (`Cube`), by column, one by one or by another cube's cells, and weren't taken out again.
 //!
-//! It stands on `tb_base`, `tb_model` and `tb_grid`. A cube is made of no record; records are put
-//! in a piece at a time, by column, one by one, or by merging another cube's cells, and can be
-//! taken out again. A cube over fewer variables is made of the cells alone. A cube few of whose
-//! cells count any record can be packed, so that it keeps these alone. Its contracts cite
-//! `Cubes.cube_of` and `narrowed` of `tb_model` (the cells of some records, and those over fewer
-//! variables), `Pieces.between` of `tb_base`, and here `specs/Cubes` (what a cube is seen as, which
-//! records it holds, and what becomes of its cells) and `specs/Packing` (which cells a packed cube
-//! keeps).
+//! A cube knows no release, rules or key range. It is dense, or packed (the cells that aren't
+//! empty, each with its place): one value with a field for the form (`dense`). Calls that change
+//! cells want a dense one; what may be either is told by `unpacked`. Only `zero`, `copy`, `pack`
+//! and `narrow` take memory; without it the cube stays. The program uses no `add_all` and no
+//! `merge_at`.
 //!
-//! Lemmas: `proofs/Grid` (the number of a record's cell), `Adding` (records that are put in),
-//! `Tallied` (the same by tallies), `ByColumn` (the same by column), `Changes` (one that is put in
-//! or taken out), `Reduced` (key sums stay below the largest key range), `Leading` and `Narrowed`
-//! (cells over fewer variables), `Packed` (what is kept gives the cells back); for the crates above
-//! `Walks` (what a walk over cells adds at a number), `Kept` (the same from the kept cells alone),
-//! `Lists` (the lists of categories, and merges by a test of them) and `Holding` (what a caller
-//! knows of a cube that holds some records).
+//! Begin at `cube.rt`. Calls are said twice: what becomes of any cells, and, as `held`, which
+//! records a cube holds that held some. `apply` asks that the cell counts a record, `held` that it
+//! is this one.
 #![tactic(auto)]
 
 mod axes;

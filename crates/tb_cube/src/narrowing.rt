@@ -1,6 +1,9 @@
 // The cells over fewer variables: a cube's cells are walked once, variable by variable, and each is
 // added to the cell to which its categories lead. A variable that isn't among the fewer leads
 // nowhere. Of packed cells those that are kept are added, each by its place.
+//
+// The cube over fewer variables has to fit too: where a variable has no category the wider cube has
+// no cell at all, and the one without it may be too large.
 
 ghost use Rattle.std.specs.Prelude.{◌≡◌, ℕ, ◌+◌, ◌*◌, ◌%◌, ◌<◌, ◌≤◌, List, [], ◌∷◌, All, IfOk};
 ghost use Rattle.std.specs.Prelude.{drop, length, min};

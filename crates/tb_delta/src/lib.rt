@@ -1,12 +1,13 @@
-//! Cubes that follow the releases: a release's cube, counted from its records, and from the cube of
-//! one release to that of the next, by the batch that leads there.
+//! Cubes that follow the releases: that of a release, counted from its records by one thread
+//! (`count_all`), and from it that of the next release, by the batch that leads there (`advance`).
 //!
-//! It stands on `tb_base`, `tb_model`, `tb_grid`, `tb_cube` and `tb_release`. Its contracts cite
-//! `Cubes` of `tb_cube` (which records a cube holds, and what becomes of its cells), `Chains` of
-//! `tb_release` (the release after a batch), and here `specs/Counting` (over which variables there
-//! is a cube) and `specs/Advancing` (from which release a cube can advance). Of the lemmas `Pieces`
-//! serve the count; `Spots` (where a change is made among the records), `Making` (one change) and
-//! `UnderWay` (some of a batch) serve the advance.
+//! `advance` takes no memory and is never refused. It passes over edits of the rules, and has no
+//! release among its arguments: that the cube is of one which the batch follows is its condition.
+//!
+//! Begin at `advancing.rt`. Where a change is made among the records is one fact (`Spot` of
+//! `proofs/Spots`): the old ones are `first ++ (before ++ rest)`, the new ones
+//! `first ++ (after ++ rest)`. Add, drop and amend are three instances of it, and `tb_past` goes
+//! back by the same.
 #![tactic(auto)]
 
 mod advancing;

@@ -1,15 +1,12 @@
-//! What may be asked: the reply to a line whose first word is `describe`, which goes by the schema
-//! and the line alone. It lists the variables and recodes, or the categories under one name, as
-//! records that `csv` writes.
+//! What may be asked: the reply to a line whose first word is `describe` (`describe`). It lists the
+//! variables and recodes, or the categories under one name, as records that `csv` writes, or tells
+//! the line's first fault.
 //!
-//! It stands on `tb_schema` (what there is), `tb_query` and `tb_tables` (how a line is refused),
-//! `tb_io` (where the reply goes), `tb_lines` (what a reply is) and `csv`. Its contracts cite
-//! `specs/Lists` (the lists), `Descriptions` (the reply to a line) and `Told` (the text of a
-//! `Description`).
+//! It goes by the schema and the line alone: it looks at no release, so equal schemas give equal
+//! replies, but where memory was refused. All memory is taken before the first byte.
 //!
-//! Of the proofs, `OneMore` has what one record more makes of a list, `Whole` the list by its
-//! parts, and `SameReplies` that equal schemas give equal replies, for the laws of those who
-//! answer.
+//! Begin at `description.rt`, `describe`, then `lists.rt`. A writer of `csv` holds some kilobytes
+//! in place, so it isn't passed on in a `Result`.
 #![tactic(auto)]
 
 mod description;

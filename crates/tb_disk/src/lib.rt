@@ -1,15 +1,15 @@
-//! A disk's one file, as what keeps a journal sees it: what a read gives, and what a stop may
-//! leave.
+//! A disk's one file, as what keeps a journal sees it: what a read gives, and what a stop may leave
+//! (`Disk`, a trait; there is no other code).
 //!
-//! It stands on `tb_io` for counts of faults. Its contracts cite `specs/Images` (what a write does,
-//! whole or cut short, and what a stop may leave of it) and `specs/Moments` (what stops since some
-//! moment may have left).
+//! A call fails only where the count of faults rose in it. A write that isn't synced may be torn,
+//! each byte by itself. A disk that tells nothing, as the system's, has no content and no images:
+//! every clause on them is empty. No stop since a moment is forgotten.
 //!
-//! For whoever calls a disk, `specs/Moments` and `specs/Quiet` have what is said of several calls:
-//! that each stop in them leaves a file of a kind, that they keep the past, and that they change
-//! nothing. `proofs/Going`, `Past` and `Quietly` weaken and join what was said of calls one after
-//! another, `Telling` does so for what a read gives, and `Tearing` has the writes that are cut
-//! short.
+//! Begin at `disk.rt` and `specs/Images`. `WhereTold content P` has `content ≡ Some file` as its
+//! premise, `Leads old new step` goes by cases, and `proofs/Telling` (`forward`, `back`,
+//! `Leads-same`) leads from one to the other, so no answer splits the option. All stops of several
+//! calls are one record (`LeavesOnly`), which `proofs/Going` makes of single calls; one that
+//! changes nothing is `IsQuiet`.
 #![tactic(auto)]
 
 mod disk;

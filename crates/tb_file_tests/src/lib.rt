@@ -1,9 +1,9 @@
 //! Tests of the files: each reader's files by their bytes, each fault with its place, the texts of
-//! faults, names at their limits, the generated files, and the forms over the system. Each call has
-//! ample memory.
+//! faults, names at their limits, the generated files, and the forms over the system. Their calls
+//! have ample memory, and are public.
 //!
-//! They call public functions alone. Tests stand in crates of their own since a crate that has
-//! tests is proved twice. Whole runs stand in `tb_top_tests`.
+//! Begin at `accepted.rt` and `refused.rt`, rows of whole files. A row says what it wants by number
+//! and word, since a static table with an enum inside an `Option` takes up to a minute to prove.
 #![tactic(auto)]
 
 #[cfg(test)]

@@ -1,19 +1,14 @@
-//! A follower of the chain: it gets the leader's batches as numbered messages, which may be lost,
-//! repeated or come in another order, and is at a release of the leader's chain.
+//! A follower of a leader's chain: batches come as numbered messages, which may be lost, repeated
+//! or come in another order, and what is applied is always the next one (`deliver`).
 //!
-//! It stands on `tb_base`, `tb_model` and `tb_release`. What a message is applied to is a `Chain`;
-//! a `Follower` has one of its own. Its contracts cite `specs/Chains` (what a chain is, and what
-//! edits make of it), `Messages`, `Windows` (the messages that wait), `Followers` (what a follower
-//! is seen as, and what is true of every one), `Deliveries` (what a delivered message leaves, and
-//! what is returned) and `Answers` (what each answer tells). `laws` cites `Laws`, over `Leading` (a
-//! leader's messages, and a follower that is led by them) and `Worlds` (a leader and a follower
-//! through every list of events).
+//! It never passes a gap, and at most `MOST_AHEAD` messages wait. A message that is old, too far
+//! ahead, or the second of a number that waits is given up; so is one whose edits are refused.
+//! Where memory is refused for the message that was delivered all is as before.
 //!
-//! Of the proofs, `Waiting` has the messages that wait and `Few` how many there are, `Given` what a
-//! delivery does by the message's number, and `Following` what is true of every follower after a
-//! step. `Keeping` has what each step of a delivery keeps, `Telling` what its answer tells, `Led`
-//! a follower that is led and `Trailing` one through every list of events. `Vectors` has worked
-//! deliveries.
+//! Begin at `delivery.rt`: what batches are applied to is any `Chain`, and a `Follower` has one of
+//! its own. A delivery is a function of how many growths were granted (`given`), so want of memory
+//! needs no second definition. `BatchList`, for contracts alone, makes of one release a chain, so
+//! the law needs no premise on release 0.
 #![tactic(auto)]
 
 mod batch_list;

@@ -1,14 +1,14 @@
-//! The front of the one chain: how many entries the chain has stands in a shared word, and each who
-//! holds a part of the front has seen a beginning of the chain.
+//! The front of the one chain: a shared word with the number of its entries (`Front`), and holders
+//! who have each seen a beginning of it. The writer adds entries and knows all, the keeper knows
+//! what drafts told it, passes and notes what the keeper knew.
 //!
-//! It stands on `tb_base` and `atomic_table`. The writer adds entries and knows the whole chain;
-//! the keeper knows what drafts of the writer told it; passes and notes know what the keeper knew.
-//! No call waits, and none but `Front::new` takes memory. An entry itself is kept nowhere: the list
-//! of a holder exists in proofs alone. The contracts cite `specs/Holders` (what a holder is seen
-//! as, and when one has seen more); `specs/Chain` is the rule that each step keeps, `specs/Seats`
-//! what a holder's seat says of it, and `specs/Steps` what each kind of step does. Of the lemmas
-//! `Moves` (each kind of step keeps the rule) and `Prefixes` (beginnings of one list) serve the
-//! calls here, and `Holding` (holders that are later than one another) serves callers.
+//! A front keeps no entries: but for the length all is known in proofs, and a holder has no bytes
+//! beside its place. No call waits, and none but `Front::new` takes memory or is refused.
+//!
+//! Begin at `front.rt` and `pass.rt`. Seats of `atomic_table` have their views in proofs alone
+//! (`view.rt`; `proofs/Moves`: one scheme for both splits, one for the three joins). What two
+//! holders learn is one word, `IsLater`: the same front, the same base, and a beginning of the
+//! list.
 #![tactic(auto)]
 
 mod front;

@@ -1,14 +1,14 @@
-//! Generated input: the five files of a number of persons and a start, for runs that need none of
-//! their own. It is no data of anyone's: the numbers come from a linear congruential generator.
+//! Generated input: the five files of a number of persons and a start (`files_of`), for runs that
+//! need none of their own. It is no data of anyone's: the numbers come from a linear congruential
+//! generator.
 //!
-//! It stands on `tb_base` and `tb_model` for the limits and on `itoa` for digits. `files_of` writes
-//! each file once, into a buffer that was reserved for all of it. Its contract cites
-//! `specs/Generated` (the five files); these are told by `specs/Draws` (the numbers that are drawn
-//! from a state), `Lines` (fields between commas, and some lines for each of some numbers) and
-//! `Variables` (the four variables and their codes).
+//! The same two numbers give the same bytes. Each file is written once, into room that was reserved
+//! for all of it; where that is refused there are no files.
 //!
-//! Lemmas: `proofs/Steps` (what is written so far, and then the lines of the rest, is the whole)
-//! and `Fields` (a line is put together from its last field). `Vectors` has worked draws and lines.
+//! Begin at `files.rt` and `specs/Generated`. A loop's invariant: what is written so far, and then
+//! `rest_of` the bound, is the whole file (`proofs/Steps`, three lemmas for every loop);
+//! `each_below`, `after` and `rest_of` are `unfoldable`, so no bound ever unfolds. A line's
+//! definition takes the state at which its draws begin, and a file says which that is.
 #![tactic(auto)]
 
 mod classes;

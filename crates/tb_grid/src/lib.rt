@@ -1,14 +1,14 @@
-//! Dense arrays of cells in row-major order: how many cells there are, and the places with Total.
+//! Dense arrays of cells in row-major order: how many cells there are, and the places with Total
+//! (`add_totals`). Records go to their place without Total alone; the others are made once, at the
+//! end.
 //!
-//! It stands on `tb_base` and `tb_model`. A table's cells are one array, a record is put into the
-//! cell of its place without Total, and `add_totals` then makes the others. Its contracts cite
-//! `specs/Totals` (which cells a place with Total sums, each part modulo its modulus),
-//! `specs/Signs` (sums that are added up, or taken out again) and `specs/Products` (the size of a
-//! cube).
+//! Nothing here takes memory or is refused. Counts are summed modulo 2^32, so no bound is asked:
+//! who knows that a sum is small knows it exactly. A size past `MOST_CELLS` is cut off at one more.
 //!
-//! Lemmas: `proofs/Rows` and `Blocks` (one sign of the totals), `Factors` (products of sizes); for
-//! the crates above also `Sums` (what lies in a place), `Reached` (what things with numbers add
-//! there) and `Merges` (lists of cells merged one by one).
+//! Begin at `totals.rt`: a sum and its undoing are one recursion with a `Sign`, and `IsSigned`
+//! reads old and new the other way round for the undoing, so loops need no cases. `proofs/Reached`
+//! has what things with numbers add at the places: records for a scan, lists of categories for a
+//! roll-up.
 #![tactic(auto)]
 
 mod products;

@@ -1,19 +1,14 @@
-//! The outside of the program: files that are read by name, sources of bytes and the lines that are
-//! cut off them, sinks that take output, and listeners, which give sessions.
+//! The outside of the program, as four traits: files that are read by name (`Files`), sources of
+//! bytes and the lines cut off them (`Source`, `LineReader`), sinks (`Sink`), and listeners, which
+//! give sessions (`Listen`); with forms in memory, and the system's files and output.
 //!
-//! It stands on `tb_base` for the error of a call that runs out of memory, and finds line feeds by
-//! `memchr`. Its contracts cite `specs/Faults` (a call fails only where a count of faults rose),
-//! `Taken` (which bytes a sink took, and what the writing of a text tells), `Sources` (which bytes
-//! a read gave), `Lines` (bytes cut into lines), `NextLines` (what a call for the next line says),
-//! `Listeners` (what a bind and an accept did, and the sessions of a listener), `FileAnswers` (what
-//! a reading says of a file), and `HeldFiles`, `PiecedSource` and `BoundedSink` (the forms in
-//! memory).
+//! A call fails only where a count of faults rose in it. A form of the system tells nothing of
+//! content, and clauses on content are empty there; a sink that stops telling never tells again. A
+//! line reader takes its room when it is made: a line is lent and never copied, one that is too
+//! long isn't kept.
 //!
-//! For whoever writes, `proofs/TakenLemmas` and `Taking` join texts that were taken, `FaultLemmas`
-//! counts that rose, and `Written` what writings tell; `HeldLemmas` serves the files in memory, and
-//! `Copying` the sources in memory. For whoever reads, `LineLemmas` has first lines and what
-//! follows them, `RoomLemmas` the room of a line and what a read adds to it, and `NextLemmas` each
-//! way in which a call for the next line returns.
+//! Begin at `sink.rt` and `source.rt`, then `line_reader.rt` over `room.rt`. A write is one record
+//! (`IsWritten`; `all_written`, `cut_written` and `written_as` of `proofs/Written`).
 #![tactic(auto)]
 
 mod answers;

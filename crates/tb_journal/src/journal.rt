@@ -251,6 +251,7 @@ impl Journal {
 }
 
 // The place behind the record of a payload of so many bytes. A file of 64 bits has it.
+// A file has fewer than 2^64 bytes: a place that would pass that is cut off, and none is.
 fn place_after(place: u64, size: usize) -> u64
     ensures { result ≡ place_after place size }
 {

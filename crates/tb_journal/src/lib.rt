@@ -1,17 +1,14 @@
-//! A journal of batches in the file of a disk: each is written ahead, so that it is there after any
-//! stop once it is acknowledged.
+//! A journal of batches in a disk's file, each on the disk before it is acknowledged (`Journal`).
 //!
-//! It stands on `tb_disk` for what a stop may leave, and on `tb_spelling` for the bytes of edits.
-//! Its contracts cite `specs/Records` (the payloads for which a file stands), `specs/States` (what
-//! a journal knows of its file), `specs/Stops` (a journal beside its file, and what a stop may
-//! leave of it), `specs/Opening` and `specs/Reading` (what is found at a file's head and at a
-//! gate), `specs/Taking` (what comes of it), `specs/Through` (writes that are on the disk) and
-//! `specs/Fitting` (edits that fit a setup).
+//! The file is `TBJOURN1`, a gate, and records: length, payload, the gate of the next. The first
+//! gate that isn't 1 ends it. `put` writes what stands behind the gate, with a shut gate as its
+//! last byte, and syncs; then it opens the gate, one byte, and syncs: a stop leaves the old gate,
+//! or the new record whole. After a fault nothing more is put. Only a file of at most nine bytes is
+//! begun anew.
 //!
-//! Of the proofs, `Standing` has what records stand for, `Putting` the two writes of one payload,
-//! `Recording` and `Keeping` what they leave, `Beginning` what opening finds, `Advancing` the way
-//! from one gate to the next, `Beyond` what a file stands for from a gate on, and `Taking` what is
-//! read at a gate.
+//! Begin at `journal.rt`. A place in a file (`HasGate`) is eight bytes, the records so far, and a
+//! rest that isn't empty; every step splits the rest. Only `write_through` (`through.rt`) knows of
+//! torn writes. `find` knows no journal and `take` no disk: `proofs/Taking` joins them.
 #![tactic(auto)]
 
 mod fitting;

@@ -15,6 +15,7 @@ pub enum JournalOpen {
     Open,
     NotJournal,
     DiskFault,
+    // It can't come, since `open` takes no memory; it stays for callers that match on it.
     Memory,
 }
 
@@ -24,6 +25,8 @@ pub const HEADER: [u8; 8] = [84, 66, 74, 79, 85, 82, 78, 49];
 // The file of a journal without a batch: its first bytes, and a gate that isn't open.
 const EMPTY: [u8; 9] = [84, 66, 74, 79, 85, 82, 78, 49, 0];
 
+// That the gate behind the records isn't 1 is promised of each stop in `put`, not here: nine torn
+// bytes may end in 1. Such a file is begun anew by the next `open`.
 /// Syncs, and then writes a file of at most nine bytes anew, or looks at the first bytes of a
 /// longer one.
 pub(crate) fn begin<D: Disk>(disk: &mut D) -> JournalOpen

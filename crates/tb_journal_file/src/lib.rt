@@ -1,12 +1,12 @@
-//! Batches that are written ahead into a journal, on a disk that is lent for so long.
+//! A journal and the disk that its file is on, lent for so long: what batches are written ahead
+//! into (`JournalFile`, a `WriteAhead` of `tb_ahead`). The program uses all of it but `open` and
+//! `read_next`.
 //!
-//! It stands on `tb_journal` (the journal), `tb_disk` (what a stop may leave) and `tb_ahead` (what
-//! batches are written ahead into, as it is seen from above). Its contracts cite `specs/Files` (the
-//! batches for which the files stand that a stop may leave, and when more can be put) and
-//! `Recovery` (the batches that were read so far).
+//! No call takes another disk in its place (`Continues`), so once it is let go, who lent the disk
+//! knows what the calls left of it. Once a call failed nothing is put.
 //!
-//! Of the proofs, `Putting` has what a put makes of those files, and `Recovering` what reading
-//! finds.
+//! Begin at `journal_file.rt`. What no call changes of a field that holds a `&mut` is its
+//! `ghost_name`: the instance says so, and Rattle proves it there by itself.
 #![tactic(auto)]
 
 mod journal_file;

@@ -1,9 +1,9 @@
 //! Tests of the journal: files by their bytes, stops after each call of the disk and in each write,
-//! each call failing in turn, the two writes of a batch, and edits that fit a setup. Each call has
-//! ample memory.
+//! each call failing in turn, the two writes of a batch, and edits that fit a setup. Their calls
+//! have ample memory, and are public.
 //!
-//! They call public functions alone. `specs/Ready` has what is told of a journal beside a disk in
-//! memory.
+//! Begin at `stops.rt`; `running.rt` has what they share, and `specs/Ready` what is told of a
+//! journal beside a disk in memory.
 #![tactic(auto)]
 
 #[cfg(test)]

@@ -1,14 +1,14 @@
-//! The leader's lane: lines that make numbered messages, which are delivered to a follower.
+//! The leader's lane: lines that make numbered messages (`begin N`, edits, `end`), and the reply to
+//! each, whoever gets the messages (`Receiver`): a `Follower`, or who applies them to something
+//! else.
 //!
-//! It stands on `tb_follow` (messages, and what becomes of one that is delivered), `tb_revise`
-//! (edit lines), `tb_lines` (what a reply is), `tb_io` (where replies go), and `tb_tables` and
-//! `tb_ahead` (two of their lines). Who gets the messages is a `Receiver`: a `Follower`, or who
-//! applies them to something else. Its contracts cite `specs/LeaderAsks` (what a line asks for),
-//! `Lanes` (where a lane stands) and `LeaderReplies` (the reply to a line, and where the lane
-//! stands then); `laws` cites `Laws`.
+//! It asks for no table and takes no step. A message of which an edit, or the memory for one, is
+//! refused is given up; an edit's line without a message is refused unread; `begin 0` and
+//! `begin 01` are no lines of it. `restart` is one only where the receiver can go back.
 //!
-//! Of the proofs, `Continuing` gives each line some reply, `Ending` and `Writing` serve the answer
-//! to a line, and `Leading` proves the law.
+//! Begin at `answering.rt`, `answer`: `asks_of`, then `hold` or a delivery, and a `LeaderReply`.
+//! One more line is a variant of `LeaderAsks` and `LeaderReply`, of their specs and texts, and a
+//! case in `proofs/Continuing`, `Leading` and `Texts`.
 #![tactic(auto)]
 
 mod answering;

@@ -1,17 +1,14 @@
-//! Lines that are answered one after another, by anything that answers lines: those of a source,
-//! in a session, and those of a list.
+//! Lines that are answered one after another, by anything that answers lines (`Answerer`): those of
+//! a source, in a session (`answer_lines`), and those of a list (`answer_list`).
 //!
-//! It stands on `tb_io` (where lines come from, and where replies go). Its contracts cite
-//! `specs/Lines` (what a line is by itself), `Outputs` (replies line by line, each a text and a
-//! price), `Moments` (what the answer to one line does), `Streams` (what a stream's bytes say),
-//! `Sessions` (what a session did) and `Lists` (what became of a list's lines).
+//! A session ends with its source, at `quit`, at a line that is too long, at a foreign line,
+//! unanswered (one that ends with a blank and HTTP/1.0 or HTTP/1.1), after `MOST_LINES` lines, and
+//! at the first fault. Nothing takes memory but the replies. Where a read failed only whole lines
+//! were answered.
 //!
-//! Of the proofs, `Cutting` has lines that are cut off a stream and what its source gave, `Ends`
-//! those that end a session, `SoFar` the lines so far and each way to end after them, and `Listing`
-//! the same of a list. For callers, `Transcribing` joins replies to lines one after the other,
-//! `Paying` says what they cost together, `Completing` that what was taken of lines that were cut
-//! short is a part of some replies to all of them, and `OtherWords` what a session did, in other
-//! words for its replies.
+//! Begin at `answerer.rt` and `line_by_line.rt`. The loops' lemmas stand over any relation of steps
+//! (`proofs/SoFar`; the counter is in the state, `AtPrice`) and any bound (`Ends`), so no board
+//! enters. What a source gave is kept beside its stream (`Cutting`).
 #![tactic(auto)]
 
 mod answerer;

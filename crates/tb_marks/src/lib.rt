@@ -1,14 +1,11 @@
 //! Marks at the places of a table, so that a thing that leads to a place by several ways counts
-//! there once.
+//! there once (`mark`).
 //!
-//! It stands on `tb_base`, `tb_model` and `tb_grid`. A number of a place without Total leads to
-//! that place and, where there are totals, to those with Total in place of some of its entries:
-//! `raised_numbers` has these for all places, and `mark` counts a thing at each, unless it was
-//! counted there. Its contracts cite `specs/Raised` (the places to which a number leads) and
-//! `specs/Marks` (what a mark changes).
+//! A number of a place without Total leads to that place and, where there are totals, to those with
+//! Total in place of some of its entries: `raised_numbers`, which alone takes memory, has them for
+//! all places. Nothing else is refused.
 //!
-//! Lemmas: `proofs/Filling` (raised numbers, one after the other) and `Marking` (marks, one after
-//! the other); for the crates above also `Meeting` (a number leads to the places in which it lies).
+//! Begin at `marks.rt` and `specs/Raised`.
 #![tactic(auto)]
 
 mod marks;

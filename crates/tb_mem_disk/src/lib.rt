@@ -1,9 +1,12 @@
-//! A disk in memory, of which some calls fail.
+//! A disk in memory, of which some calls fail (`MemDisk`), for tests.
 //!
-//! It stands on `tb_disk` for the trait. Its contracts cite `specs/Writes` (what writes make of a
-//! file's bytes, and the contents that it had), `specs/Calls` (the record of calls, and which of
-//! them fail) and `specs/HeldDisk` (what each call leaves). `specs/Laws` has what the trait asks of
-//! those contents, and `proofs/Contents` what one more write leaves.
+//! It stops where it stands: torn writes are in the trait alone, and tests make torn files
+//! themselves. A call that fails changes no byte and counts one fault. So does one that finds no
+//! memory for the record of calls: it isn't recorded. After a failed `attach` nothing is told of
+//! it.
+//!
+//! Begin at `mem_disk.rt`. Its past is the bytes at first and the writes since (`held_file.rt`), so
+//! each content that it had is a number of writes, and the trait's laws are short (`specs/Laws`).
 #![tactic(auto)]
 
 mod call;

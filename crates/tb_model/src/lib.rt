@@ -1,16 +1,14 @@
-//! The method's definitions: what a table is, counted from scratch.
+//! The method's definitions: what a table is, counted from scratch. An auditor begins here.
 //!
-//! It stands on `tb_base` for records and cells and on `csv` for how a line of a table is written.
-//! `specs/Schemas`, `Perturbations`, `Setups` and `Releases` say what a table is made from, `Pages`
-//! how a release's records stand in pages, `Rules` which pvalues and threshold a release has,
-//! `Queries` what is asked, `Places` which records a cell counts, and `Texts` the table's text.
-//! `Cubes` says how a table's cells come from those of a finer table, and `Worlds` when two cells
-//! show the same text. `Units` says what a table of dwellings counts, and `UnitWorlds` when two of
-//! its cells show the same text. The code is their types and `laws`.
+//! There is no code but the types that definitions and code share, and laws (`laws`). No definition
+//! knows of cubes that are kept, of threads or of memory.
 //!
-//! Of the proofs, `SumLemmas` and `RollUp` have sums of cells, `RowMajorLemmas` and `TableLemmas`
-//! the number and order of places and how cells change with the records, and `CubeLemmas` a table's
-//! cells from a cube; `SmallSetup`, `OnLiterals` and `Vectors` compute the worked tables.
+//! Begin at `specs/Places` (`cells_of`: which records a cell counts), `Perturbations` and `Rules`
+//! (what is shown of it) and `Texts` (the table's text); `Schemas`, `Setups` and `Releases` say
+//! what a table is made from, `Queries` what is asked, `Cubes` how a table comes from a finer one,
+//! `Units` what a table of dwellings counts, and `Worlds` when two cells show the same.
+//! `proofs/Vectors` and `OnLiterals` compute the worked tables: `refl` under
+//! `unfolding tables_on_literals`.
 #![tactic(auto)]
 
 pub mod laws;

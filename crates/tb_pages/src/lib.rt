@@ -1,18 +1,15 @@
-//! Records in pages that releases share, and the key book in shards that they share.
+//! Records in pages that releases share, and the key book (each person's key and page) in shards.
 //!
-//! It stands on `tb_base`, whose pieces are the records of a page, kept by column too, on
-//! `tb_model`, whose `Pages` says what pages are and how records are cut into pages, and on
-//! `rayon`, by which threads make the first pages. Here `specs/Pages` says what a change makes of
-//! them, `PageNumbers` how an entry of a key book has a page's number, `Books` what a key book in
-//! shards is, `Fillings` how it is made from pages, `Registers` how they stand together and what a
-//! change leaves, `Stocks` what a release keeps, `Lents` which pages are lent, `Rooms` how many
-//! pages there can be, and `Stamps` what the stamps of pages tell. `laws` cites the last two.
+//! A page has at most 1,024 records, in an `Arc`, with keys and codes by column too. It keeps its
+//! number for good, and stays when it is empty: an added record goes into the last page or a new
+//! one, a dropped one's page closes up. Its stamp is the release that last changed it. The book is
+//! 4,096 ordered lists by the person modulo 4,096; release 0 has none, the first draft makes it. A
+//! draft takes all over by reference; the first edit that touches a page or shard copies it, later
+//! ones change the copy. A call that finds no memory may leave a `Register` half changed: it is
+//! given up.
 //!
-//! Of the lemmas `PageLists` (one page changes), `PageLaws` (all records of pages), `PageFinds` (a
-//! person's page and place), `CutLemmas` (pages from behind, and those that threads make),
-//! `RoomLemmas` and `StampLemmas` are over pages, `ShardLemmas`, `ListLemmas` (lists that are
-//! sorted) and `BookLemmas` over key books, `Filled` and `Changed` over both, `LentLemmas` over
-//! pages that are lent, and `NumberLemmas` over a page's number.
+//! Begin at `register.rt` (a draft) and `stock.rt` (what a release keeps), then `specs/Registers`.
+//! No clause says that a column is there, or that a page is shared.
 #![tactic(auto)]
 
 mod book;

@@ -1,3 +1,6 @@
+// A page is copied where its count of references isn't 1; one that the draft copied is its own from
+// then on. No clause speaks of it.
+
 ghost use Rattle.std.specs.Prelude.{◌≡◌, ◌+◌, ◌<◌, ◌≤◌, ◌++◌, ◌∷◌, [], true, Some, IfOk, OnOk};
 ghost use Rattle.std.specs.Prelude.{flat_map, length, remove, slice_get, slice_index_or, slice_set};
 ghost use Rattle.std.specs.Arc.{arc_value};

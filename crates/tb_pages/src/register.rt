@@ -1,3 +1,6 @@
+// A register is no model: a call that is out of memory may leave pages and key book apart, and an
+// invariant would be owed there too. The release that holds one keeps the condition.
+
 ghost use Rattle.std.specs.Prelude.{◌≡◌, ◌<◌, ◌≤◌, true, false, Some, IfOk, length};
 ghost use Rattle.std.specs.FinMap.{get};
 ghost use Rattle.tb_base.specs.declared.people.TheConstants.{MOST_PERSONS};

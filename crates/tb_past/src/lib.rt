@@ -1,12 +1,13 @@
-//! Past releases of a chain: a cube led back to the release before, by the batch between, or to any
-//! other release; and release n made anew from release 0, or its rules alone.
+//! Past releases of a chain: a cube led back to the release before (`retreat`), or to any other
+//! release by the batches between (`lead_to`); release `n` made anew from release 0 (`release_at`),
+//! or its rules alone (`rules_at`).
 //!
-//! It stands on `tb_base`, `tb_model`, `tb_cube`, `tb_release` and `tb_delta` (a cube led on). Its
-//! contracts cite `Chains` and `Revised` of `tb_release` (the release after a batch, and release n
-//! of a chain), `Cubes` of `tb_cube` (the cube of some records), and here `specs/Retreating` (from
-//! which release a cube can retreat) and `specs/Leading` (the cube of release n, and what lies
-//! between two releases). Of the lemmas `Backwards` serve the way back through a batch, `Along`
-//! that along a chain, and `PastRules` the rules of release n.
+//! To lead a cube takes no memory and is never refused. `release_at` shares the pages that no batch
+//! touched; where it finds no memory there is no release, and the chain stays.
+//!
+//! Begin at `leading.rt`. The way back through a batch is `Spot` of `tb_delta` read the other way
+//! round (`proofs/Backwards`), so the lemma that makes a change serves to undo it, the last one
+//! first.
 #![tactic(auto)]
 
 mod leading;

@@ -1,14 +1,14 @@
-//! A query over a schema, worked out once for each category: which place a record lies in, and
-//! which filters it passes.
+//! A query over a schema, worked out once for each category (`Plan`): for each variable that is
+//! used, a table from its category to a step. The steps of a record's categories add up to the
+//! number of its place, or to one past all places where it fails a filter. So recodes, filters and
+//! several dimensions over one variable cost nothing more for each record.
 //!
-//! It stands on `tb_base`, `tb_model`, `tb_grid`, `tb_schema` and `tb_query`. Its contracts cite
-//! `specs/Plans` (what a plan is seen as, by the definitions of `tb_model`), `specs/Steps` (the
-//! number of a record's place as a sum of one step for each variable) and `specs/Whole` (what is
-//! true of every plan).
+//! A plan holds no schema and no release, so its users' clauses are over any schema and query of
+//! which this is the plan (`plan ≡ plan_of schema query`). Only `Plan::of` takes memory or is
+//! refused.
 //!
-//! Lemmas: `proofs/Parts` (dimensions and filters, one by one), `Sets` (the variables that are
-//! used, in order); for the crates above also `Under` (what is true of each variable that is used)
-//! and `Places` (categories lead to the number of the place in which they lie).
+//! Begin at `plan.rt` and `specs/Steps`. What is true of each variable that a plan uses is one
+//! induction over dimensions, filters and names (`proofs/Under`).
 #![tactic(auto)]
 
 mod axes;

@@ -1,4 +1,9 @@
 // The query that tokens stand for, or its first fault.
+//
+// What was made of a part of a query, or its fault, is one record as the only clause (`IsMade`), so
+// an exit by `?` is answered by one lemma, `passed_on` or `no_memory` of `proofs/OneMore`: of
+// several clauses the search goes through each at every exit. That a query which was read is over
+// its schema is no clause but a lemma on `Reads` (`proofs/Refusals`).
 
 ghost use Rattle.std.specs.Prelude.{◌≡◌, ◌≤◌, ◌*◌, ◌+◌, ℕ, All, IfErr, IfOk, None, nat_lt};
 ghost use Rattle.std.specs.Prelude.{if◌then◌else◌};

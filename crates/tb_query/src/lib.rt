@@ -1,17 +1,14 @@
-//! Query lines: the query that a line reads as, or its first fault, and a query's canonical text.
+//! Query lines: the query that a line reads as, or its first fault (`read_query`), and a query's
+//! canonical text (`print_query`, which the program doesn't use).
 //!
-//! `read_query` cuts a line into tokens, parses them by descent and looks up their names and codes
-//! over a `Schema`; `print_query` writes the text that reads as the same query. Their contracts
-//! cite `specs/Grammar` (what tokens are a query), `specs/Steps` (the table that counts how far a
-//! line is read), `specs/Faults` (what a line reads as, and its first fault), `specs/Over` (what is
-//! true of every query that was read), `specs/Canonical` and `specs/FaultNames` (how a fault is
-//! printed); `laws` says what these mean together. It stands on `tb_base` for the bytes of a line,
-//! on `tb_schema` for names and codes and on `tb_model` for queries and the places of their tables.
+//! A refusal depends on the schema and the line alone, and is the fault with the lowest number over
+//! the whole line. A line is at most one query.
 //!
-//! Of the lemmas, `proofs/Cuts` serves the tokens, `Table` the parser and the law that it follows
-//! the grammar, `Found`, `OneMore` and `Capped` what a query stands for and its faults, `Refusals`
-//! what is true of a query that was read, `OneAnswer` the law of that name, and `Joins`, `Texts`
-//! and `RoundTrip` that the canonical text reads again.
+//! Begin at `read.rt`: tokens (`tokens.rt`), the parser by descent (`parse.rt`), names and codes
+//! (`check.rt`). A step that takes one token stands once (`after`, `expect` of `parse/tree.rt`); a
+//! parser's clause says that what the table of steps reads from one stage is what it reads from
+//! another, after something in front (`Leads`). First the first item, then `while let`: at its exit
+//! the next token is known to be no separator.
 #![tactic(auto)]
 
 mod check;

@@ -1,10 +1,15 @@
-//! The listener of the system: sessions over TCP on the loopback address.
+//! The listener of the system: sessions over TCP on the loopback address (`RealListen`). Its
+//! sessions aren't told: what is proved is its port, and that its count of faults rises where a
+//! call fails.
 //!
-//! It stands on `tb_io` (what a listener, a source and a sink are), and tells nothing of its
-//! sessions: all that is proved of it is that its count of faults rises where a call fails, and
-//! which port it is bound to. An accept that failed is tried again as long as that may help
-//! (`trouble`), and what a client still sends is read for a while once its session is over
-//! (`lingering`).
+//! Replies wait in an outbox of 16 KiB, made at the bind and shared by each session's two ends: it
+//! is written out where it is full, before each read, and at the end. An accept whose client has
+//! gone is tried again, a thousand times in a row; one for which files or memory are wanting after
+//! a second, sixty times; any other error ends the port. A session that is given back before its
+//! client has ended is read for two seconds at most, so that its last reply isn't lost by a reset.
+//!
+//! Begin at `real_listen.rt`, then `trouble.rt` (errors), `real_stream.rt` (both ends) and
+//! `lingering.rt`. Sockets here can't be asked for keep-alive, and would see a proxy alone.
 #![tactic(auto)]
 
 mod lingering;

@@ -1,4 +1,7 @@
 // The rules of a release while it is edited.
+//
+// They are seen as one value, whoever owns them. The copy is taken out of its `Option`, changed and
+// put back: in place behind `&mut` it would need an answer.
 
 ghost use Rattle.std.specs.Prelude.{◌≡◌, ◌≤◌, IfOk, OnOk, fold};
 ghost use Rattle.std.specs.Arc.{arc_value};

@@ -1,4 +1,7 @@
 // Whether records and edits fit a shape.
+//
+// A shape knows no key range: `next` takes an add with any key below the largest one. The text of
+// an edit is refused from the key range on, and the look-up reduces the sum.
 
 ghost use Rattle.std.specs.Prelude.{◌≡◌, ◌≤◌, ◌↔◌, ℕ, true, nat_le, nat_lt, All};
 ghost use Rattle.std.specs.List.{list_all};

@@ -1,23 +1,15 @@
-//! Releases of the microdata: their records, numbers and rules, what edits make of them, and the
-//! batches that lead from one to the next.
+//! Releases of the microdata (`Release`): their records, numbers and rules, what edits make of
+//! them, and the batches that lead from one to the next (`next`).
 //!
-//! It stands on `tb_base` (with the rules), `tb_model`, `tb_pages` (the pages and key books in
-//! which records stand) and `tb_rows` (how a refusal is printed). Its contracts cite `Releases` of
-//! `tb_model` (what a release is, and release 0), and here `specs/Releases` (what is true of every
-//! release), `Edits` (what an edit leaves), `Possible` (which edits are possible, and why one
-//! isn't), `Batches` (which batches follow a release, and the first refusal of edits), `RuleEdits`
-//! (what is true of the edits of the rules in a batch), `Results` (what the calls return),
-//! `Chains` (the release to which a chain of batches leads) and `Fitting` (whether records and
-//! edits fit a shape, or are in range). `Revised` (release n of a chain on release 0) is for the
-//! crates above. `EditCodes` is for types whose values hold edits; `Drafts` and `Entries` serve a
-//! release while it is edited, `Replays` one that is led on by batches.
+//! The old release and the edits stay, whatever becomes of the next one; the first edit that isn't
+//! possible refuses all. Records are read by `lend` alone, which charges their number. A batch has
+//! two lists, changes of records and edits of the rules: a cube knows no rules. Releases share
+//! pages, shards and rules: what an edit touches is copied once a batch.
 //!
-//! Of the lemmas `Persons`, `Books` (key books), `Edited` (one edit), `Chained` (batches and
-//! chains) and `Stamped` (the stamps of pages) are over the definitions, and give the laws;
-//! `ChainFits`, `FewRecords` and `RevisedChains` are over the releases of a chain, for all crates;
-//! `First`, `Made` and `Runs` serve a release while it is edited, `EntryLemmas` its batch,
-//! `Fitting` that its records still fit, and `FitTests` the tests of that; `Replayed` (the changes
-//! of a batch) and `Reaching` (a batch) serve one that is led on. `Vectors` has worked batches.
+//! Begin at `following.rt`, `next`, and `specs/Possible`; then `draft.rt`. A definition by what was
+//! before and after serves add, drop and amend (`made_so` of `proofs/Made`), and `replaying.rt`
+//! makes a batch again without its edits. The value has the pages beside the records: stamps are
+//! said of these.
 #![tactic(auto)]
 
 mod batches;

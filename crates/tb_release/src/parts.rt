@@ -1,4 +1,7 @@
 // The parts of an amend.
+//
+// An amend builds the person's categories anew in a small list, since the categories of a record
+// have no setter.
 
 ghost use Rattle.std.specs.Prelude.{◌≡◌, IfOk};
 ghost use Rattle.tb_release.specs.Drafts.{HaveVariables};

@@ -1,15 +1,13 @@
-//! The cells of a table from those of a cube.
+//! The cells of a table from those of a cube (`roll_into`): each cell of the cube, or of a packed
+//! one each that is kept, is read once and added at its place without Total, by the plan's steps;
+//! the cells with Total are then summed from the table's own.
 //!
-//! It stands on `tb_base`, `tb_model`, `tb_grid`, `tb_plan` and `tb_cube`. Each cell of the cube,
-//! or of a packed cube each that is kept, is read once and added at its place without Total; the
-//! cells with Total are then summed from the table's own. Its contract cites `Cubes.rolled_up` and
-//! `Places.cells_of` of `tb_model`: what the cells of a table are from those of a cube, and counted
-//! from scratch.
+//! It takes no memory and is never refused. It knows no release: that the cube is of a release's
+//! records is the caller's to say (`proofs/Own` has what is known of a plan's own cube).
 //!
-//! Lemmas: `proofs/Spread` (what a cube adds at a number), `Added` (runs of its cells), `Descent`
-//! (one variable of the walk), `ToCome` (the kept cells of a packed cube), `Zipped` and `Among`
-//! (its lists of categories, and where each leads), `Tables` (a table's cells); for the crates
-//! above `Own` (a cube over a plan's own variables).
+//! Begin at `walk.rt`, which goes down to the last variable that the plan uses and sums the runs
+//! behind it. A loop's facts are one record (`proofs/Descent`). In `packed.rt` a step returns the
+//! kept cells that are left for the next (`AreBetween`), so nothing is divided.
 #![tactic(auto)]
 
 mod packed;

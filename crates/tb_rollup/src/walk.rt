@@ -1,6 +1,8 @@
 // A dense cube walked once, variable by variable, down to the last one that the plan uses. The
 // steps of the categories add up to the number of a place, and what is past all places fails a
 // filter.
+//
+// The two last levels are one loop, since calls cost more than cells.
 
 ghost use Rattle.std.specs.Prelude.{◌≡◌, ℕ, ◌+◌, ◌-◌, ◌%◌, ◌<◌, ◌≤◌, List, true, All};
 ghost use Rattle.std.specs.Prelude.{drop, length};

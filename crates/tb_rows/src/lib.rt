@@ -1,17 +1,15 @@
-//! Files with a header: how one is read, and what it says.
+//! Files with a header: one reader for every kind of file (`read_file`), its first fault with the
+//! record's number, and one pair of laws.
 //!
-//! A kind of file is a `FileFormat`, which says what its columns are, what a record adds to those
-//! before it and what is tested at the end; `read_file` reads it, with the first fault. All that
-//! readers need of `csv` is said once, in `csv_records`. `cut_file` cuts a file without quotes into
-//! its header and parts, whose records are read apart from one another. It stands on `tb_base`,
-//! `csv` and `memchr`. Its contracts cite `specs/Formats` (what a file of a format says),
-//! `specs/Records` (the records of a file), `specs/Columns` (where names stand in a header),
-//! `specs/Cutting` (where a file may be cut, which is a law in `laws`) and `specs/FaultNames` (how
-//! a kind of fault is printed). The laws of the readers cite `specs/WholeFiles`: what that means
-//! for all records of a file at once.
+//! A reader implements `FileFormat`: `columns`, `column`, `bad_header`, `bad_csv`, `start`, `step`
+//! (the record of a number, by its fields in the columns), `finish`; its ghost `format` is the
+//! definition that these follow. So it proves its own `step` and `finish`, and of its law what
+//! these add up to (`proofs/Meaning`). Records are counted in `read_records` alone; a kind's number
+//! and word are `FaultKind::name`.
 //!
-//! Of the lemmas, `proofs/Left` serves the reading of records, `CutTexts` the cutting, `Names` and
-//! `FieldIndices` the search for columns, and `WholeFiles` and `Meaning` the laws of the readers.
+//! Begin at `format.rt`, then `csv_records.rt`: a reader sees the records still to come, so a
+//! loop's invariant is one equation. `cutting.rt` cuts before line feeds, so no part has a byte
+//! order mark.
 #![tactic(auto)]
 
 mod columns;

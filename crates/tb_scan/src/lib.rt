@@ -1,14 +1,13 @@
-//! The cells of a table, counted from records.
+//! A table's cells from records: `empty_cells`, `put_all` for each piece, and `put_totals` once at
+//! the end. The program doesn't use `scan_into`, which merges with cells that are there.
 //!
-//! It stands on `tb_base`, `tb_model`, `tb_grid` and `tb_plan`. `scan_into` merges each cell with
-//! that of the piece's own records. A caller that has many pieces and no cells yet begins with
-//! `empty_cells`, calls `put_all` for each piece and `put_totals` once at the end. Its contracts
-//! cite `Places.cells_of` of `tb_model` (a table's cells, counted from scratch) and here
-//! `specs/Scanning` (what records add at a place without Total).
+//! Only `empty_cells` takes memory or is refused.
 //!
-//! Lemmas: `proofs/Scans` (the cells of a table from what records add at each number), `Holding`
-//! (cells that hold some records), `Used` (the steps of the variables that a plan uses) and
-//! `Stepping` (the numbers of a chunk of records, worked out a variable at a time).
+//! Begin at `put.rt`. `Hold plan cells records` grows by a piece (`held` on `put_all`, for any
+//! records before), so a walk over pieces has an invariant of one line, and `put_totals` makes
+//! `cells_of` of it. Up to 8 cells are tallied (`tallied.rt`): the places and keys of 256 records
+//! go into columns, and `tally` goes over them by vectors for each cell. Places are worked out a
+//! variable at a time as far as 32 bits go: a larger one is none of 8 cells.
 #![tactic(auto)]
 
 mod put;

@@ -1,4 +1,8 @@
 // The recodes of a classification, read from their file.
+//
+// Whether a recode's variable and code are known depends on its own record alone. Still both are
+// tested beside the earlier records, since the order of faults puts NameTwice between them, and
+// BadCode after CodeTwice.
 
 ghost use Rattle.std.specs.Prelude.{◌≡◌, ◌≢◌, ◌<◌, ◌≤◌, ◌+◌, ◌∷◌, ◌++◌, [], Ok, Err, Some, None};
 ghost use Rattle.std.specs.Prelude.{true, false, is_some, length, IfErr, IfOk, MatchResult, OnOk};

@@ -1,14 +1,14 @@
-//! The bytes of a list of edits, as the journal keeps them in a payload: each list has one
-//! spelling, which is written by `spell` and read back by `read_payload`.
+//! The bytes of a list of edits, as a journal keeps them in a payload: each list has one spelling,
+//! written by `spell_behind` and read back by `read_payload`.
 //!
-//! It stands on `tb_base` and `tb_release` (edits). Its contracts cite `specs/Spelling` (the bytes
-//! of edits) and `Payloads` (which edits have a payload, which can be written, and how bytes are
-//! read). `Fields` (reading field by field) and `Reading` (edits read so) are for the functions
-//! inside and for `laws`.
+//! Bytes that are no payload are refused whole, and nothing of them is kept. `payload_len` is
+//! exact, so `put` of `tb_journal` takes memory once for all that it writes.
 //!
-//! Of the proofs, `Formats` has what of a reader and a spelling makes a format, for each way to
-//! make one of others, and `Edits` that edits are one; `Lengths` how long spellings are, `OneMore`
-//! what is written item by item, and `Rereading` what is read so. `Vectors` has worked payloads.
+//! Begin at `write.rt`, `read.rt` and `specs/Spelling`. A reader and a spelling are one record
+//! (`IsFormat` of `proofs/Formats`), proved once for each way to make one of others; functions that
+//! read follow these ways one by one, each with the one clause `Gives`, and need no answer. One
+//! more kind of edit is an arm each in `Spelling`, `Payloads` and `Reading`, in `write.rt` and
+//! `read.rt`, and in `proofs/Edits`.
 #![tactic(auto)]
 
 mod fault;

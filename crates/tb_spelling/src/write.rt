@@ -1,4 +1,7 @@
 // Edits to bytes.
+//
+// That an edit's numbers fit their fields follows from their types, and is told as the elements are
+// read (`in_format`): so who calls `spell` need not show it.
 
 ghost use Rattle.std.specs.Prelude.{◌≡◌, ◌≤◌, ◌++◌, All, IfOk, OnOk, length};
 ghost use Rattle.std.specs.Int.{w16, to_be_bytes};

@@ -3,3 +3,4 @@ pub mod ReplyLines
 pub mod ReplyTexts
 pub mod Counting
 pub mod Homes
+pub mod HomesWorlds

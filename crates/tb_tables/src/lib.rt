@@ -1,23 +1,19 @@
-//! The reply to a query's line over one release, without a board: the query's table, or the line's
-//! first fault. And the steps to it, which a party over a board takes too: the line is read, the
-//! query is planned, its cells are counted by a cube or from the records, and the table is prepared
-//! and written.
+//! The reply to a query's line over one release, without a board (`answer_at`), and the steps to
+//! it, which a party over a board takes too: the line is read, the query planned, its cells are
+//! counted by a cube or from the records, and the table is prepared and written.
 //!
-//! It stands on `tb_query` (the line), `tb_plan`, `tb_scan`, `tb_rollup` and `tb_build` (the
-//! cells), `tb_release` (the records), `tb_text` (the table), `tb_io` (where the reply goes) and
-//! `tb_lines` (what a reply is). Its contracts cite `specs/Answers` (what the reply to a query's
-//! line is, at a price that the caller names), `Counting` (cells that were counted over a release),
-//! `ReplyLines` (the lines of a reply that is no table) and `ReplyTexts` (the text of a
-//! `TableReply`).
+//! A cube is built anew and none is kept. A line at fault writes its refusal without memory; where
+//! memory is refused at any step the reply is `memory`. All of it is taken before the first byte.
 //!
-//! Of the proofs, `Cubed` has the cube of a plan's variables, `FewCells` and `Counts` that no cell
-//! counts too many persons and that the text of what was counted is the table's; `QueryAnswers`
-//! leads from a query's table, or from a line's fault, to the reply.
+//! Begin at `answer.rt`, then `count.rt` and `reply.rt` (`TableReply`, a value without a sink). A
+//! query answered over something else takes these steps in a crate of its own, with `by-text` and
+//! `by-fault` of `proofs/QueryAnswers`.
 #![tactic(auto)]
 
 mod answer;
 mod count;
 mod homes;
+pub mod laws;
 mod query;
 mod reply;
 mod writing;

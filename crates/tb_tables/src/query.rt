@@ -1,4 +1,7 @@
 // A query's line, and what is worked out of the query before anything is counted.
+//
+// These are small, so that a large function never opens the setup: `plan_for` and `shape_in` speak
+// of its value, where a field of it would tell of what stands inside.
 
 ghost use Rattle.std.specs.Prelude.{◌≡◌, ◌≤◌, IfErr, IfOk, length};
 ghost use Rattle.tb_io.specs.declared.limits.TheConstants.{MOST_LINE_BYTES};

@@ -1,8 +1,8 @@
 //! Tests of dwellings: both files with their faults, and the cells of tables that count dwellings,
-//! worked by hand over the small setup and beside a plain count. Their calls have ample memory.
+//! worked by hand over the small setup and beside a plain count. Their calls have ample memory, and
+//! are public.
 //!
-//! They call public functions alone. Tests stand in crates of their own since a crate that has
-//! tests is proved twice. Whole runs stand in `tb_top_tests`.
+//! Begin at `worked.rt`, or at `refused.rt` for the files; `making.rt` has what they share.
 #![tactic(auto)]
 
 #[cfg(test)]

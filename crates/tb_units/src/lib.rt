@@ -1,22 +1,13 @@
 //! Dwellings beside the persons of the microdata, and who lives in them: read from two files, or
-//! the first fault of the first file that has one.
+//! the first fault of the first file that has one (`Units::read`).
 //!
-//! `Units` is seen as the lists of dwellings and of links of `tb_model`, in the order of their
-//! files. It also keeps the links of each dwelling as a chain, along which a count goes from one
-//! person of a dwelling to the next, and an array in which a person's link is found by one access.
-//! It stands on `tb_rows`, which reads files with a header, on `tb_records`, whose numbers and keys
-//! it reads, and on `indexmap`.
+//! No person need be in the microdata, and no release changes a link. A refused file leaves
+//! nothing.
 //!
-//! Its contracts cite `specs/Units` (what both files say) over `specs/Dwellings` and `specs/Links`
-//! (what each says, or its first fault), `specs/Whole` (what is true of all that was read),
-//! `specs/Pairs` (pairs by their first numbers), `specs/Chains` and `specs/Slots` (the chains and
-//! the array), `specs/Forms` (how links are kept), `specs/Faults` (which file a fault is in) and
-//! `specs/FaultNames` (the numbers and words of the faults); `laws` says what that means for a
-//! whole file (`specs/WholeFiles`).
-//!
-//! Of the lemmas, `proofs/PairLemmas` serves the look-ups by hash, `SlotLemmas` those by the array,
-//! `ChainLemmas` one more link in the chains, `Sound` what is true of all that was read, and
-//! `WholeFiles` the laws.
+//! Begin at `units.rt`, then `formats.rt` (one `FileFormat` a file). Beside the lists, in the order
+//! of their files, it keeps the links of each dwelling as a chain, along which a count goes from
+//! person to person (`chains.rt`), and for persons whose numbers aren't too large an array in which
+//! a link is one access (`slots.rt`), else a look-up by hash (`pairs.rt`).
 #![tactic(auto)]
 
 mod chains;

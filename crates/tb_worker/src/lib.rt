@@ -1,9 +1,11 @@
-//! A worker: it serves the sessions of one listener, one after another, as one that answers lines.
+//! A worker: it serves the sessions of one listener, one after another, as one that answers lines
+//! (`serve_sessions`): accept, `tb_lines::answer_lines`, give back.
 //!
-//! It stands on `tb_lines` (one session) and `tb_io` (what gives sessions). Its contracts cite
-//! `specs/Visits` (sessions one after another, and where they lead) and `Work` (what a worker did).
-//! Of the proofs, `Visiting` leads from one session to a visit, and `Working` from one visit to
-//! what a worker did.
+//! It knows of no other worker, no port and no board. A session that ends by a fault ends no other;
+//! it stops after so many sessions, where none is to come, or where an accept failed.
+//!
+//! Begin at `worker.rt`. `visits_as` (`proofs/Visiting`) maps any relation of legal replies to
+//! another over sessions and visits, so a list of sessions is said of batches and held edits alone.
 #![tactic(auto)]
 
 mod next;
