@@ -4,8 +4,8 @@
 // another requires that there is none. So no error is 'refused or out of memory'.
 //
 // A draft counts its edits, so there is always a number for one page more: release 0 and changes
-// together are at most two million adds, and each page but the last was full once. So a page's
-// number fits 16 bits, and no call has a bound on pages.
+// together are at most 101 million adds, and each page but the last was full once. So a page's
+// number fits 32 bits, and no call has a bound on pages.
 
 ghost use Rattle.std.specs.Prelude.{◌≡◌, ◌+◌, ◌==◌, ◌<◌, ◌≤◌, [], true, false, not, All, IfOk};
 ghost use Rattle.std.specs.Prelude.{IfErr, length};
