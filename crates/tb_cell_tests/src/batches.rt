@@ -14,7 +14,7 @@ use tb_small_values::{edits_of, release, schema};
 
 // The number and the word of what came of the last batch, and the number of the edit that is
 // refused or how many persons are left.
-type Told = (u8, &'static str, u32);
+pub(crate) type Told = (u8, &'static str, u32);
 
 // The lines of a batch and of one over the release that it made, if there is one, and what comes of
 // the last.
@@ -26,7 +26,7 @@ type Case = (
     u32,
 );
 
-static CASES: [Case; 8] = [
+static CASES: [Case; 14] = [
     // A person comes, is amended and goes, and doesn't return with another key.
     (
         &[
@@ -87,6 +87,25 @@ static CASES: [Case; 8] = [
         "NoSuchPerson",
         2,
     ),
+    // Releases are taken back up to the one that the batch makes, and none is shown again.
+    (&[b"oldest 0", b"oldest 1"], &[b"oldest 2"], 0, "left", 4),
+    (&[b"oldest 2"], &[], 6, "BadRelease", 1),
+    (&[b"threshold 3"], &[b"oldest 3"], 6, "BadRelease", 1),
+    (
+        &[b"oldest 1", b"threshold 3", b"oldest 0"],
+        &[],
+        6,
+        "BadRelease",
+        3,
+    ),
+    (
+        &[b"oldest 1"],
+        &[b"drop 104", b"oldest 0"],
+        6,
+        "BadRelease",
+        2,
+    ),
+    (&[b"drop 999", b"oldest 2"], &[], 2, "NoSuchPerson", 1),
 ];
 
 fn cases() -> &'static [Case] {
@@ -94,7 +113,7 @@ fn cases() -> &'static [Case] {
 }
 
 // The next release after some lines.
-fn lead(
+pub(crate) fn lead(
     alloc: Global,
     schema: &Schema,
     old: &Release,
@@ -122,7 +141,7 @@ fn led(
     lead(alloc, schema, &made, second)
 }
 
-fn fault_told(fault: EditFault) -> Told {
+pub(crate) fn fault_told(fault: EditFault) -> Told {
     match fault {
         EditFault::Refused { kind, edit } => (kind.name().number(), kind.name().word(), edit),
         EditFault::Memory => (0, "memory", 0),

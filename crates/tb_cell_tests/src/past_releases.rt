@@ -32,7 +32,7 @@ fn lines_of(i: u32) -> &'static [&'static [u8]] {
             b"threshold 3",
             b"amend 200 AGE=0-15",
         ],
-        2 => &[b"pvalue 3 64 5", b"threshold 5"],
+        2 => &[b"pvalue 3 64 5", b"oldest 2", b"threshold 5"],
         3 => &[
             b"pvalue 3 64 -2",
             b"add 104 7 SEX=1 AGE=0-15 AREA=E2",
@@ -47,14 +47,15 @@ fn lines_of(i: u32) -> &'static [&'static [u8]] {
     }
 }
 
-// How many records release n has, its threshold, and the pvalue at row 3 and cell key 64.
-fn wanted(n: u32) -> (usize, u32, Option<i16>) {
+// How many records release n has, its threshold, the oldest release that it shows, and the pvalue at
+// row 3 and cell key 64.
+fn wanted(n: u32) -> (usize, u32, u32, Option<i16>) {
     match n {
-        0 => (4, 0, None),
-        1 => (3, 0, None),
-        2 => (4, 3, None),
-        3 => (4, 5, Some(5)),
-        _ => (3, 5, Some(-2)),
+        0 => (4, 0, 0, None),
+        1 => (3, 0, 0, None),
+        2 => (4, 3, 0, None),
+        3 => (4, 5, 2, Some(5)),
+        _ => (3, 5, 2, Some(-2)),
     }
 }
 
@@ -93,8 +94,11 @@ fn first_desk(alloc: Global, schema: &Schema) -> Result<Desk, Memory> {
     Desk::new(alloc, schema.shape(), base, 1)
 }
 
-fn has_rules(rules: &Rules, want: (usize, u32, Option<i16>)) -> bool {
-    rules.threshold() == want.1 && rules.find(3, 64) == want.2 && rules.find(3, 63).is_none()
+fn has_rules(rules: &Rules, want: (usize, u32, u32, Option<i16>)) -> bool {
+    rules.threshold() == want.1
+        && rules.oldest() == want.2
+        && rules.find(3, 64) == want.3
+        && rules.find(3, 63).is_none()
 }
 
 // Whether the rules alone are those that are wanted.

@@ -253,7 +253,7 @@ ends release batch rest register way none fewer =
         edits = release.edits + batch_length batch;
         rules = fold edited_rules release.rules batch.rule_edits;
       }) (sym last ∙ same_ruled release way.now register release.rules way.same)
-      ∙ ap (λ (m : ℕ). registered register m (release.number + 1) (release.changes + length batch.changes) (release.edits + batch_length batch) (fold edited_rules release.rules batch.rule_edits))
+          ∙ ap (λ (m : ℕ). registered register m (release.number + 1) (release.changes + length batch.changes) (release.edits + batch_length batch) (fold edited_rules release.rules batch.rule_edits))
           (sym (same_limit release batch.changes));
       whole = way.whole;
       sound = record { distinct = sound.distinct; in_book = sound.in_book; few = sound.few; most = sound.most; in_pages = sound.in_pages };
