@@ -87,6 +87,15 @@ KEYS = (
     "the `variable` `*` states the key range: in the first record alone, with the `code` `keys` and the `label` 256"
     " or 4096"
 )
+PERSONS = (
+    "the `variable` `*` with the `code` `persons` bounds the persons: once, before the categories, with a `label`"
+    " from 1 to 100000000"
+)
+TOO_MANY = "there must be at most 1000000 records, or as many as the classification says"
+TOO_LONG = (
+    "the file must have at most 268435456 bytes, or 34359738368 where the classification states more than 1000000"
+    " persons"
+)
 LINE = (
     "the line must be the name of a lane (a letter and up to 15 more letters and digits), a blank and the lane's"
     " line, or begin with #; it may have 4096 bytes, and a script 64 lanes"
@@ -102,6 +111,8 @@ VARIABLES = "".join(f"V{i},1,\n" for i in range(65))
 GROUPS = "".join(f"R{i},SEX,1,all\n" for i in range(257))
 # More bytes than a file may have, without taking as many on the disk.
 LONG = 268_435_457
+# The same of a census's files where the classification states more than a million persons.
+LONGER = 34_359_738_369
 # How many seconds a run may take; a program that checks as it goes takes minutes over a million records.
 PATIENCE = 600
 LONG_SCRIPT = 16_777_217
@@ -112,6 +123,10 @@ FILES = [
     ("classes.csv", "variable,code\n", "fault classes 1 BadHeader 0",
      "classes.csv, header: the header must have each of `variable`, `code` and `label` once", 3),
     ("classes.csv", CLASSES + "*,keys,512\n", "fault classes 13 BadKeys 1", f"classes.csv, record 1: {KEYS}", 3),
+    ("classes.csv", CLASSES + "*,persons,0\n", "fault classes 14 BadPersons 1",
+     f"classes.csv, record 1: {PERSONS}", 3),
+    ("classes.csv", CLASSES + "*,persons,4\n*,keys,256\n", "fault classes 13 BadKeys 2",
+     f"classes.csv, record 2: {KEYS}", 3),
     ("classes.csv", CLASSES + "SEX,1\n", "fault classes 10 BadCsv 1",
      "classes.csv, record 1: the record has not as many fields as the header", 3),
     ("classes.csv", CLASSES + "SEX,1,\n1SEX,1,\n", "fault classes 2 BadName 2",
@@ -174,8 +189,8 @@ FILES = [
     ("people.csv", PEOPLE + "101,200,1,0-15,E1\n101,200,1,0-15,E1\n", "fault people 5 PersonTwice 2",
      "people.csv, record 2: an earlier record has the same person", 5),
     ("people.csv", PEOPLE + "".join(f"{i},0,1,65+,E1\n" for i in range(1, 1_000_002)), "fault people 7 TooMany 1000001",
-     "people.csv, record 1000001: there must be at most 1000000 records", 5),
-    ("people.csv", LONG, "fault people TooLong", "people.csv: the file must have at most 268435456 bytes", 5),
+     f"people.csv, record 1000001: {TOO_MANY}", 5),
+    ("people.csv", LONG, "fault people TooLong", f"people.csv: {TOO_LONG}", 5),
     ("people.csv", None, "fault read people", f"people.csv: {UNREAD}", 7),
     ("script.txt", "a table SEX\na table AREA\n!x\n", "fault script 3", f"script.txt, line 3: {LINE}", 6),
     ("script.txt", LONG_SCRIPT, "fault script TooLong", "script.txt: the file must have at most 16777216 bytes", 6),
@@ -183,7 +198,6 @@ FILES = [
 ]
 
 DWELLING = "dwelling must be a number from 1 to 4294967295"
-TOO_MANY = "there must be at most 1000000 records"
 ONES = "".join(f"{i},1\n" for i in range(1, 1_000_002))
 
 # The same of the files that `units` reads besides.
@@ -199,7 +213,7 @@ UNITS_FILES = [
      "dwellings.csv, record 3: an earlier record has the same dwelling", 13),
     ("dwellings.csv", DWELLINGS + ONES, "fault dwellings 9 TooMany 1000001",
      f"dwellings.csv, record 1000001: {TOO_MANY}", 13),
-    ("dwellings.csv", LONG, "fault dwellings TooLong", "dwellings.csv: the file must have at most 268435456 bytes", 13),
+    ("dwellings.csv", LONG, "fault dwellings TooLong", f"dwellings.csv: {TOO_LONG}", 13),
     ("dwellings.csv", None, "fault read dwellings", f"dwellings.csv: {UNREAD}", 7),
     ("links.csv", "person,home\n101,1\n", "fault links 1 BadHeader 0",
      "links.csv, header: the header must have each of `person` and `dwelling` once", 13),
@@ -212,7 +226,7 @@ UNITS_FILES = [
     ("links.csv", LINKS + "101,1\n101,2\n", "fault links 6 PersonTwice 2",
      "links.csv, record 2: an earlier record has the same person", 13),
     ("links.csv", LINKS + ONES, "fault links 9 TooMany 1000001", f"links.csv, record 1000001: {TOO_MANY}", 13),
-    ("links.csv", LONG, "fault links TooLong", "links.csv: the file must have at most 268435456 bytes", 13),
+    ("links.csv", LONG, "fault links TooLong", f"links.csv: {TOO_LONG}", 13),
     ("links.csv", None, "fault read links", f"links.csv: {UNREAD}", 7),
 ]
 
@@ -242,7 +256,7 @@ JOURNAL = b"TBJOURN1" + RECORD + b"\0"
 JOURNALS = [
     (b"0123456789", "fault journal 1 NotJournal 0", f"journal: {NOT_JOURNAL}"),
     (JOURNAL[:-1], "fault journal 2 BadRecord 1", f"journal, record 1: {BAD_RECORD}"),
-    (JOURNAL.replace(b"\2", b"\6"), "fault journal 2 BadRecord 1", f"journal, record 1: {BAD_RECORD}"),
+    (JOURNAL.replace(b"\2", b"\7"), "fault journal 2 BadRecord 1", f"journal, record 1: {BAD_RECORD}"),
     (JOURNAL[:-1] + b"\1", "fault journal 2 BadRecord 2", f"journal, record 2: {BAD_RECORD}"),
     (JOURNAL[:-1] + RECORD + b"\0", "fault journal 3 DoesNotFollow 2", f"journal, record 2: {NOT_FOLLOWING}"),
     (JOURNAL.replace(b"\x68", b"\0"), "fault journal 3 DoesNotFollow 1", f"journal, record 1: {NOT_FOLLOWING}"),
@@ -397,8 +411,7 @@ def units(runs):
         runs.put(name, text)
         runs.run(words, "fault dwellings 1 BadHeader 0\n", said, 13)
     runs.put("links.csv", LONG)
-    said = "links.csv: the file must have at most 268435456 bytes\n"
-    runs.run(words, "fault links TooLong\n", said, 13)
+    runs.run(words, "fault links TooLong\n", f"links.csv: {TOO_LONG}\n", 13)
     runs.put("links.csv", None)
     runs.run(words, "fault read links\n", f"links.csv: {UNREAD}\n", 7)
     runs.put("people.csv", "")
@@ -409,6 +422,20 @@ def units(runs):
     refused = "refused 2 Syntax 1\n"
     runs.run(words, f"{table}refused 3 UnknownName 2\n{refused}", "", 0)
     runs.run(SCRIPT.split(), 3 * refused, "", 0)
+
+
+def limits(runs):
+    """What comes of the census's files under a limit of persons: their lengths and their records."""
+    with open(os.path.join(SMALL, "classes.csv"), encoding="utf-8", newline="") as file:
+        classes = file.read()
+    words = UNITS.split()
+    for stated, length in [(1_000_000, LONG), (1_000_001, LONGER)]:
+        runs.fill("classes.csv", classes.replace(CLASSES, f"{CLASSES}*,persons,{stated}\n"))
+        for name, status in (("links", 13), ("dwellings", 13), ("people", 5)):
+            runs.put(f"{name}.csv", length)
+            runs.run(words, f"fault {name} TooLong\n", f"{name}.csv: {TOO_LONG}\n", status)
+    runs.fill("classes.csv", classes.replace(CLASSES, f"{CLASSES}*,keys,256\n*,persons,3\n"))
+    runs.run(SCRIPT.split(), "fault people 7 TooMany 4\n", f"people.csv, record 4: {TOO_MANY}\n", 5)
 
 
 def others(runs):
@@ -491,6 +518,7 @@ def main():
         units(runs)
         journals(runs)
         hosts(runs)
+        limits(runs)
         others(runs)
         first_looks(runs)
     if runs.passed:

@@ -36,7 +36,8 @@ impl Listed for SchemaKind {
             SchemaKind::BadCsv => Some(SchemaKind::BadLabel),
             SchemaKind::BadLabel => Some(SchemaKind::TooMany),
             SchemaKind::TooMany => Some(SchemaKind::BadKeys),
-            SchemaKind::BadKeys => None,
+            SchemaKind::BadKeys => Some(SchemaKind::BadPersons),
+            SchemaKind::BadPersons => None,
         }
     }
 }

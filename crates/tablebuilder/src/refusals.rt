@@ -5,7 +5,8 @@ use crate::usage::{BadArgument, Usage};
 use tb_base::{Status, read_number};
 use tb_command::{Arguments, Command, Lines, Service, Task};
 use tb_endings::Input;
-use tb_top::most_bytes_of;
+use tb_schema::MOST_UNSTATED;
+use tb_top::{LARGE_BYTES, most_bytes_of};
 use thiserror::Error;
 
 /// Why a run was refused, or couldn't be finished. A file has the name that the arguments gave it.
@@ -14,45 +15,85 @@ pub enum Refusal<'a> {
     #[error("{0}")]
     Usage(Usage<'a>),
     #[error("{file}: the file must have at most {most} bytes")]
-    TooLong { file: &'a str, most: u64 },
+    TooLong {
+        file: &'a str,
+        most: u64,
+    },
+    #[error("{file}: the file must have at most {most} bytes, or {large} where the classification \
+        states more than {persons} persons")]
+    CensusTooLong {
+        file: &'a str,
+        most: u64,
+        large: u64,
+        persons: usize,
+    },
     #[error("{file}: the file must be there, and this user must be allowed to read it")]
-    Unread { file: &'a str },
+    Unread {
+        file: &'a str,
+    },
     #[error("{file}, header: {kind}")]
-    Header { file: &'a str, kind: Kind },
+    Header {
+        file: &'a str,
+        kind: Kind,
+    },
     #[error("{file}, record {at}: {kind}")]
-    Record { file: &'a str, kind: Kind, at: u32 },
+    Record {
+        file: &'a str,
+        kind: Kind,
+        at: u32,
+    },
     #[error("{file}, line {at}: the line must be the name of a lane (a letter and up to 15 more \
         letters and digits), a blank and the lane's line, or begin with #; it may have 4096 \
         bytes, and a script 64 lanes")]
-    BadLine { file: &'a str, at: u32 },
+    BadLine {
+        file: &'a str,
+        at: u32,
+    },
     #[error("{file}: the file must be a journal that `keep` or `host` has written, or not be there \
         yet")]
-    NotJournal { file: &'a str },
+    NotJournal {
+        file: &'a str,
+    },
     #[error("{file}, record {at}: the record must be as `keep` or `host` wrote it; the file was \
         changed since then, so put a copy of the journal in its place")]
-    BadRecord { file: &'a str, at: u32 },
+    BadRecord {
+        file: &'a str,
+        at: u32,
+    },
     #[error("{file}, record {at}: the batch must fit the classification and follow the microdata \
         and the batches before it, so name the files that this journal was begun with")]
-    DoesNotFollow { file: &'a str, at: u32 },
+    DoesNotFollow {
+        file: &'a str,
+        at: u32,
+    },
     #[error("{file}: the file must be there or its folder, this user must be allowed to read and \
         write it, no other process may have it, and the disk must take what is written")]
-    Disk { file: &'a str },
+    Disk {
+        file: &'a str,
+    },
     #[error("{file}: the file must be there or its folder, this user must be allowed to read and \
         write it, no other process may have it, and the disk must take what is written, and memory \
         suffice behind it; each `publish` after such a fault was answered `unkept`, so start anew \
         from the file")]
-    HostDisk { file: &'a str },
+    HostDisk {
+        file: &'a str,
+    },
     #[error("the standard output must take what is written")]
     Unwritten,
     #[error("out of memory")]
     Memory,
     #[error("port {port} and the {workers} after it must be free on this machine, and memory suffice \
         for their buffers")]
-    Unbound { port: u16, workers: u32 },
+    Unbound {
+        port: u16,
+        workers: u32,
+    },
     #[error("each port must go on accepting clients until it has served its {sessions} sessions, \
         and this machine have files and memory for them; one that could not was closed, so start \
         anew")]
-    Unaccepted { sessions: u32 },
+    Unaccepted {
+        sessions: u32,
+    },
 }
 
 /// How a run ended: its status, its last line where that tells of a refusal, and whether a report
@@ -118,6 +159,22 @@ fn journal_of<'a>(command: &Command<'a>) -> Option<&'a str> {
     Some(command.journal()?.as_str())
 }
 
+// What the most bytes of this file are, which has more.
+fn too_long(input: Input, file: &str) -> Refusal<'_> {
+    let most = most_bytes_of(input);
+    match input {
+        Input::People | Input::Dwellings | Input::Links => Refusal::CensusTooLong {
+            file,
+            most,
+            large: LARGE_BYTES,
+            persons: MOST_UNSTATED,
+        },
+        Input::Classes | Input::Recodes | Input::Ptable | Input::Script => {
+            Refusal::TooLong { file, most }
+        }
+    }
+}
+
 fn read_at(word: &str) -> Option<u32> {
     read_number(word.as_bytes())
 }
@@ -134,8 +191,7 @@ fn of_file<'a>(command: &Command<'a>, line: &str) -> Option<Refusal<'a>> {
     let input = input_named(first)?;
     let file = name_of(command, input)?;
     if second == "TooLong" {
-        let most = most_bytes_of(input);
-        return Some(Refusal::TooLong { file, most });
+        return Some(too_long(input, file));
     }
     if input == Input::Script {
         let at = read_at(second)?;

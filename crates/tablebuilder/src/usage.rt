@@ -3,11 +3,12 @@
 use crate::version::VERSION;
 use std::fmt;
 use std::fmt::{Display, Formatter, Write};
-use tb_base::{MOST_PERSONS, MOST_THRESHOLD, read_number};
+use tb_base::{MOST_THRESHOLD, read_number};
 use tb_command::{
     Dwellings, Form, MOST_PORT, MOST_SESSIONS, MOST_WORKERS, all_forms, form_named, of_gen,
     of_inputs,
 };
+use tb_gen::MOST_GENERATED;
 
 /// What an argument must be.
 #[derive(Clone, Copy, Debug)]
@@ -34,7 +35,7 @@ impl Rule {
             "PORT" => Rule::within(1, u32::from(MOST_PORT)),
             "WORKERS" => Rule::within(1, MOST_WORKERS),
             "SESSIONS" => Rule::within(1, MOST_SESSIONS),
-            "N" => Rule::within(1, MOST_PERSONS as u32),
+            "N" => Rule::within(1, MOST_GENERATED as u32),
             "START" => Rule::within(0, u32::MAX),
             _ => Rule::File,
         }

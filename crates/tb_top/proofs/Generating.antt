@@ -23,7 +23,7 @@ use Rattle.tb_endings.specs.declared.endings.Input.{Input}
 use Rattle.tb_endings.specs.declared.endings.Input.TheVariants as input
 use Rattle.tb_endings.specs.declared.endings.End.{End}
 use Rattle.tb_endings.specs.declared.endings.End.TheVariants as end
-use Rattle.tb_top.specs.Asking.{AskedValue, CensusValue, Contents, asked_with, bytes_in, generated_asked, most_bytes, people_in, perturbation_in, schema_in, script_in, scripted_in, sums_over}
+use Rattle.tb_top.specs.Asking.{AskedValue, CensusValue, Contents, asked_with, bytes_within, census_bytes, generated_asked, most_bytes, people_in, perturbation_in, schema_in, script_in, scripted_in, sums_over}
 use Rattle.tb_top.specs.InputFiles.{NamedFile, scripted_files}
 use Rattle.tb_endings.specs.Endings.{input_name, status_of}
 use Rattle.tb_base.specs.declared.status.Status.TheVariants as status
@@ -173,8 +173,8 @@ memory-alone (end.Refused file name at) never = absurd (never (λ h. cc))
 memory-alone (end.BadLine at) never = absurd (never (λ h. cc))
 
 -- a file that isn't too long
-short-bytes : (file : Input) (bytes : List ℕ) → length bytes ≤ most_bytes file → bytes_in file (Some bytes) ≡ Ok bytes
-short-bytes file bytes short = rw (le-ltb (most_bytes file) (length bytes) short) refl
+short-bytes : (most : ℕ) (file : Input) (bytes : List ℕ) → length bytes ≤ most → bytes_within most file (Some bytes) ≡ Ok bytes
+short-bytes most file bytes short = rw (le-ltb most (length bytes) short) refl
 
 module _ (p : Population) (has : HasPersons p) where
   abbrev contents : Contents
@@ -186,18 +186,18 @@ module _ (p : Population) (has : HasPersons p) where
   schema-there : schema_in generated_inputs.recodes contents ≡ Ok whole_schema
   schema-there =
       rw (
-        short-bytes input.Classes generated_classes (omega (arith, classes-short)),
-        short-bytes input.Recodes generated_recodes (omega (arith, recodes-short)),
+        short-bytes (most_bytes input.Classes) input.Classes generated_classes (omega (arith, classes-short)),
+        short-bytes (most_bytes input.Recodes) input.Recodes generated_recodes (omega (arith, recodes-short)),
         schema-said,
       ) refl
 
   table-there : perturbation_in whole_schema.keys contents ≡ Ok (generated_table p.start)
-  table-there = rw (short-bytes input.Ptable (generated_ptable p.start) (table-short p.start), table-accepted p.start) refl
+  table-there = rw (short-bytes (most_bytes input.Ptable) input.Ptable (generated_ptable p.start) (table-short p.start), table-accepted p.start) refl
 
   people-there : people_in whole_schema contents ≡ Ok (generated_records p.persons p.start)
   people-there =
       rw (
-        short-bytes input.People (generated_people p.persons p.start) (people-short p.persons p.start has.few),
+        short-bytes (census_bytes whole_schema) input.People (generated_people p.persons p.start) (people-short p.persons p.start has.few),
         people-accepted p.persons p.start has.few whole_schema schema-is,
       ) refl
 
@@ -205,13 +205,14 @@ module _ (p : Population) (has : HasPersons p) where
   script-there =
       let text = script-is p.persons (omega (arith, has.some)) has.few p.start in
       rw (
-        short-bytes input.Script (generated_script p.persons p.start) (omega (arith, text.short)),
+        short-bytes (most_bytes input.Script) input.Script (generated_script p.persons p.start) (omega (arith, text.short)),
         text-accepted (generated_script p.persons p.start) 17746 text,
       ) refl
 
   abbrev census : CensusValue
   census = record {
     setup = record { schema = whole_schema; lines = (generated_table p.start).lines; units = None };
+    most = whole_schema.persons;
     threshold = generated_inputs.threshold;
     records = generated_records p.persons p.start;
   }

@@ -34,7 +34,7 @@ use Rattle.tb_endings.specs.declared.endings.Input.{Input}
 use Rattle.tb_endings.specs.declared.endings.Input.TheVariants as input
 use Rattle.tb_endings.specs.declared.endings.End.{End}
 use Rattle.tb_endings.specs.declared.endings.End.TheVariants as end
-use Rattle.tb_top.specs.Asking.{◌>>=◌, CensusValue, Contents, base_in, bytes_in, census_in, census_of, census_over, contents_for, counted_in, input_place, or_end, people_added, people_in, perturbation_in, recodes_in, schema_in, setup_in, setup_over, units_in, with_units}
+use Rattle.tb_top.specs.Asking.{◌>>=◌, CensusValue, Contents, base_in, bytes_in, bytes_within, census_bytes, census_bytes_in, census_in, census_of, census_over, contents_for, counted_in, input_place, most_bytes, or_end, people_added, people_in, perturbation_in, recodes_in, schema_in, setup_in, setup_over, units_in, with_units}
 use Rattle.tb_endings.specs.Endings.{input_status, status_of}
 use Rattle.tb_endings.specs.Refusals.{file_end, schema_end, units_end}
 use Rattle.tb_top.specs.Calls.{IsReadTo, readings_more}
@@ -184,11 +184,11 @@ same_place input.Dwellings = refl
 same_place input.Links = refl
 same_place input.Script = refl
 
-pub Loads-unread : {A : Type 0} (view : A → List ℕ) (file : Input) (name : List ℕ) {saw : Reading} → saw.faults ≤ saw.faults_after
+pub Loads-unread : {A : Type 0} (view : A → List ℕ) (most : ℕ) (file : Input) (name : List ℕ) {saw : Reading} → saw.faults ≤ saw.faults_after
     → saw.content_after ≡ saw.content → HasRisen saw.faults saw.faults_after
     → saw.readings_after ≡ option_map one_more saw.readings → Loads saw (input_place file) (named file name ∷ []) view
-    (λ contents. bytes_in file (contents file)) (Err (end.Unread file))
-Loads-unread {A} view file name {saw} count same rose readings = record {
+    (λ contents. bytes_within most file (contents file)) (Err (end.Unread file))
+Loads-unread {A} view most file name {saw} count same rose readings = record {
   usage = λ k. cc;
   count = count;
   same = same;
@@ -323,14 +323,14 @@ no-units-by-reader : {K : Type 0} (file : Input) (name_of : K → FaultNameValue
 no-units-by-reader file name_of (fault.Refused kind at) other h = other h
 no-units-by-reader file name_of fault.Memory other h = cc
 
-pub Loads-refused : {V A B K : Type 0} (items : V → List ℕ) (view : A → B) (file : Input) (name_of : K → FaultNameValue)
+pub Loads-refused : {V A B K : Type 0} (items : V → List ℕ) (view : A → B) (most : ℕ) (file : Input) (name_of : K → FaultNameValue)
     (read : List ℕ → Result B (Fault K)) (x : V) (f : Fault K) {saw : Reading} {place : ℕ} {files : List NamedFile}
-    → input_status file ≢ status.Units → (f ≢ fault.Memory → read (items x) ≡ Err f) → Loads saw place files items (λ contents. bytes_in file (contents file)) (Ok x)
-    → Loads saw place files view (λ contents. bytes_in file (contents file) >>= (λ bytes. or_end (file_end file name_of) (read bytes)))
+    → input_status file ≢ status.Units → (f ≢ fault.Memory → read (items x) ≡ Err f) → Loads saw place files items (λ contents. bytes_within most file (contents file)) (Ok x)
+    → Loads saw place files view (λ contents. bytes_within most file (contents file) >>= (λ bytes. or_end (file_end file name_of) (read bytes)))
     (Err (file_end file name_of f))
-Loads-refused {V} {A} {B} {K} items view file name_of read x f other given h =
+Loads-refused {V} {A} {B} {K} items view most file name_of read x f other given h =
     let not = not_by_reader file name_of f in
-    Loads-refuses items view (λ contents. bytes_in file (contents file)) (λ contents bytes. or_end (file_end file name_of) (read bytes)) x
+    Loads-refuses items view (λ contents. bytes_within most file (contents file)) (λ contents bytes. or_end (file_end file name_of) (read bytes)) x
     (file_end file name_of f) not.0 not.1
     (λ contents ne. ap (or_end (file_end file name_of)) (given (λ m. ne (ap (file_end file name_of) m)))) h
     (λ k. absurd (no-units-by-reader file name_of f other k))
@@ -358,14 +358,14 @@ not_by_units : (f : UnitsFault) → (units_end f ≢ end.Usage) × ((other : Inp
 not_by_units (units_fault.Refused file kind at) = (λ h. cc, λ other h. cc)
 not_by_units units_fault.Memory = (λ h. cc, λ other h. cc)
 
-pub Loads-refused-units : {V : Type 0} (items : V → List ℕ) (keys : Keys) (dwellings : List ℕ) (x : V)
+pub Loads-refused-units : {V : Type 0} (items : V → List ℕ) (schema : SchemaValue) (dwellings : List ℕ) (x : V)
     (f : UnitsFault) {saw : Reading} {place : ℕ} {files : List NamedFile}
-    → (f ≢ units_fault.Memory → units_of keys dwellings (items x) ≡ Err f) → Loads saw place files items (λ contents. bytes_in input.Links (contents input.Links)) (Ok x)
+    → (f ≢ units_fault.Memory → units_of schema.persons schema.keys dwellings (items x) ≡ Err f) → Loads saw place files items (λ contents. census_bytes_in schema input.Links (contents input.Links)) (Ok x)
     → have_dwellings files ≡ true → Loads saw place files (λ (u : UnitsValue). u)
-    (λ contents. bytes_in input.Links (contents input.Links) >>= (λ links. or_end units_end (units_of keys dwellings links))) (Err (units_end f))
-Loads-refused-units items keys dwellings x f given h have =
+    (λ contents. census_bytes_in schema input.Links (contents input.Links) >>= (λ links. or_end units_end (units_of schema.persons schema.keys dwellings links))) (Err (units_end f))
+Loads-refused-units items schema dwellings x f given h have =
     let not = not_by_units f in
-    Loads-refuses items (λ u. u) (λ contents. bytes_in input.Links (contents input.Links)) (λ contents links. or_end units_end (units_of keys dwellings links)) x (units_end f) not.0 not.1
+    Loads-refuses items (λ u. u) (λ contents. census_bytes_in schema input.Links (contents input.Links)) (λ contents links. or_end units_end (units_of schema.persons schema.keys dwellings links)) x (units_end f) not.0 not.1
     (λ contents ne. ap (or_end units_end) (given (λ m. ne (ap units_end m)))) h (λ k. have)
 
 -- without a file from a place on, each file before it has its bytes
@@ -393,19 +393,19 @@ Skips-then {B} {D} defined next place h k contents e u =
     ap (λ (r : Result B End). r >>= next (contents_for e contents)) (h contents e u) ∙ bind_same (defined contents)
     (next (contents_for e contents)) (next contents) (λ x. k x contents e u)
 
-pub skips-bytes : (file : Input) (place : ℕ) → input_place file < place → Skips (λ contents. bytes_in file (contents file)) place
-skips-bytes file place below contents e h = ap (bytes_in file) (same-before e contents file place h below)
+pub skips-bytes : (most : ℕ) (file : Input) (place : ℕ) → input_place file < place → Skips (λ contents. bytes_within most file (contents file)) place
+skips-bytes most file place below contents e h = ap (bytes_within most file) (same-before e contents file place h below)
 
 skips-recodes : (recodes : Option (List ℕ)) (place : ℕ) → 1 < place → Skips (recodes_in recodes) place
 skips-recodes None place below contents e h = refl
 skips-recodes (Some name) place below contents e h = ap (λ r. r >>= (λ bytes. Ok (Some bytes)))
-    (skips-bytes input.Recodes place below contents e h)
+    (skips-bytes (most_bytes input.Recodes) input.Recodes place below contents e h)
 
 pub skips-schema : (recodes : Option (List ℕ)) (place : ℕ) → 1 < place → Skips (schema_in recodes) place
 skips-schema recodes place below =
     Skips-then (λ contents. bytes_in input.Classes (contents input.Classes))
     (λ contents classes. recodes_in recodes contents >>= (λ r. or_end schema_end (schema_of classes r))) place
-    (skips-bytes input.Classes place (omega (arith, below)))
+    (skips-bytes (most_bytes input.Classes) input.Classes place (omega (arith, below)))
     (λ classes. Skips-then (recodes_in recodes) (λ contents r. or_end schema_end (schema_of classes r)) place
     (skips-recodes recodes place below) (λ r contents e h. refl))
 
@@ -413,13 +413,13 @@ pub skips-perturbation : (keys : Keys) (place : ℕ) → 2 < place → Skips (pe
 skips-perturbation keys place below =
     Skips-then (λ contents. bytes_in input.Ptable (contents input.Ptable))
     (λ contents bytes. or_end (file_end input.Ptable ptable_name) (perturbation_of keys bytes)) place
-    (skips-bytes input.Ptable place below) (λ bytes contents e h. refl)
+    (skips-bytes (most_bytes input.Ptable) input.Ptable place below) (λ bytes contents e h. refl)
 
 pub skips-people : (schema : SchemaValue) (place : ℕ) → 3 < place → Skips (people_in schema) place
 skips-people schema place below =
-    Skips-then (λ contents. bytes_in input.People (contents input.People))
+    Skips-then (λ contents. census_bytes_in schema input.People (contents input.People))
     (λ contents bytes. or_end (file_end input.People people_name) (people_of schema bytes)) place
-    (skips-bytes input.People place below) (λ bytes contents e h. refl)
+    (skips-bytes (census_bytes schema) input.People place below) (λ bytes contents e h. refl)
 
 -- what comes after a classification, a setup, microdata and release 0
 abbrev pub setup_with : SchemaValue → TableValue → SetupValue
@@ -440,7 +440,7 @@ skips-setup inputs place below =
 
 skips-base : (inputs : Inputs) (schema : SchemaValue) (place : ℕ) → 3 < place → Skips (base_in inputs schema) place
 skips-base inputs schema place below =
-    Skips-then (people_in schema) (λ contents records. Ok (first_release inputs.threshold records)) place
+    Skips-then (people_in schema) (λ contents records. Ok (first_release schema.persons inputs.threshold records)) place
     (skips-people schema place below) (λ records contents e h. refl)
 
 pub skips-census : (inputs : Inputs) (place : ℕ) → 3 < place → Skips (census_in inputs) place
@@ -449,23 +449,23 @@ skips-census inputs place below =
     (λ setup. Skips-then (base_in inputs setup.schema) (λ contents base. Ok (census_over setup base)) place
     (skips-base inputs setup.schema place below) (λ base contents e h. refl))
 
-pub skips-units : (keys : Keys) (place : ℕ) → 5 < place → Skips (units_in keys) place
-skips-units keys place below =
-    Skips-then (λ contents. bytes_in input.Dwellings (contents input.Dwellings))
-    (λ contents dwellings. bytes_in input.Links (contents input.Links) >>= (λ links. or_end units_end (units_of keys dwellings links))) place
-    (skips-bytes input.Dwellings place (omega (arith, below)))
-    (λ dwellings. Skips-then (λ contents. bytes_in input.Links (contents input.Links)) (λ contents links. or_end units_end (units_of keys dwellings links)) place
-    (skips-bytes input.Links place below) (λ links contents e h. refl))
+pub skips-units : (schema : SchemaValue) (place : ℕ) → 5 < place → Skips (units_in schema) place
+skips-units schema place below =
+    Skips-then (λ contents. census_bytes_in schema input.Dwellings (contents input.Dwellings))
+    (λ contents dwellings. census_bytes_in schema input.Links (contents input.Links) >>= (λ links. or_end units_end (units_of schema.persons schema.keys dwellings links))) place
+    (skips-bytes (census_bytes schema) input.Dwellings place (omega (arith, below)))
+    (λ dwellings. Skips-then (λ contents. census_bytes_in schema input.Links (contents input.Links)) (λ contents links. or_end units_end (units_of schema.persons schema.keys dwellings links)) place
+    (skips-bytes (census_bytes schema) input.Links place below) (λ links contents e h. refl))
 
 -- what comes after a census, where there are dwellings
 abbrev pub after_census : Contents → CensusValue → Result CensusValue End
-after_census contents census = units_in census.setup.schema.keys contents >>= (λ units. Ok (with_units census units))
+after_census contents census = units_in census.setup.schema contents >>= (λ units. Ok (with_units census units))
 
 pub skips-counted : (inputs : Inputs) (place : ℕ) → 5 < place → Skips (counted_in inputs) place
 skips-counted inputs place below =
     Skips-then (census_in inputs) after_census place (skips-census inputs place (omega (arith, below)))
-    (λ census. Skips-then (units_in census.setup.schema.keys) (λ contents units. Ok (with_units census units)) place
-    (skips-units census.setup.schema.keys place below) (λ units contents e h. refl))
+    (λ census. Skips-then (units_in census.setup.schema) (λ contents units. Ok (with_units census units)) place
+    (skips-units census.setup.schema place below) (λ units contents e h. refl))
 
 -- a census that is read, with dwellings or without
 pub skips-census-of : (inputs : Inputs) (units : Option UnitFiles) (place : ℕ) → 5 < place → Skips (census_of inputs units) place

@@ -1,6 +1,6 @@
 -- What the arguments and the files ask for: a task over a census; or why the run ends before it
 -- begins.
-use Rattle.std.specs.Prelude.{◌==◌, ℕ, Bool, true, false, List, [], ◌∷◌, length, Option, Some, None, Result, Ok, Err, is_some, ok_or, nat_lt, if◌then◌else◌}
+use Rattle.std.specs.Prelude.{◌==◌, ℕ, Bool, true, false, List, [], ◌∷◌, length, Option, Some, None, Result, Ok, Err, is_some, ok_or, nat_le, nat_lt, if◌then◌else◌}
 use Rattle.tb_base.specs.declared.records.Record.{Record}
 use Rattle.tb_base.specs.declared.keys.Keys.{Keys}
 use Rattle.tb_model.specs.Releases.{ReleaseValue, first_release}
@@ -22,7 +22,8 @@ use Rattle.tb_endings.specs.declared.endings.End.{End}
 use Rattle.tb_endings.specs.declared.endings.End.TheVariants as end
 use Rattle.tb_top.specs.declared.asked.AskedLines.{AskedLines}
 use Rattle.tb_top.specs.declared.asked.AskedLines.TheVariants as lines
-use Rattle.tb_top.specs.declared.load.TheConstants.{MOST_BYTES}
+use Rattle.tb_top.specs.declared.load.TheConstants.{LARGE_BYTES, MOST_BYTES}
+use Rattle.tb_schema.specs.declared.limits.TheConstants.{MOST_UNSTATED}
 use Rattle.tb_script.specs.declared.limits.TheConstants.{MOST_SCRIPT_BYTES}
 use Rattle.tb_command.specs.declared.command.Command.{Command}
 use Rattle.tb_command.specs.declared.command.Command.TheVariants as command
@@ -48,7 +49,7 @@ abbrev pub ◌>>=◌ : {A B : Type 0} → Result A End → (A → Result B End) 
 (Ok x) >>= next = next x
 (Err e) >>= next = Err e
 
--- the most bytes that a file may have
+-- the most bytes that a file may have; a census's may have more (`census_bytes`)
 abbrev pub most_bytes : Input → ℕ
 most_bytes input.Classes = MOST_BYTES
 most_bytes input.Recodes = MOST_BYTES
@@ -58,11 +59,23 @@ most_bytes input.Dwellings = MOST_BYTES
 most_bytes input.Links = MOST_BYTES
 most_bytes input.Script = MOST_SCRIPT_BYTES
 
--- the bytes of a file, which may not be there or be too long
+-- the most bytes that one of a census's files may have, its persons, dwellings or links: more where
+-- the classification bounds the persons above what it does unstated
+abbrev pub census_bytes : SchemaValue → ℕ
+census_bytes schema = if nat_le schema.persons MOST_UNSTATED then MOST_BYTES else LARGE_BYTES
+
+-- the bytes of a file, which may not be there or have more than so many
+abbrev pub bytes_within : ℕ → Input → Option (List ℕ) → Result (List ℕ) End
+bytes_within most file None = Err (end.Unread file)
+bytes_within most file (Some bytes) =
+    if nat_lt most (length bytes) then Err (end.TooLong file) else Ok bytes
+
+-- the bytes of a file, and those of one of a census's
 abbrev pub bytes_in : Input → Option (List ℕ) → Result (List ℕ) End
-bytes_in file None = Err (end.Unread file)
-bytes_in file (Some bytes) =
-    if nat_lt (most_bytes file) (length bytes) then Err (end.TooLong file) else Ok bytes
+bytes_in file bytes = bytes_within (most_bytes file) file bytes
+
+abbrev pub census_bytes_in : SchemaValue → Input → Option (List ℕ) → Result (List ℕ) End
+census_bytes_in schema file bytes = bytes_within (census_bytes schema) file bytes
 
 -- what a reader gives, or the end for what it refuses
 abbrev pub or_end : {A E : Type 0} → (E → End) → Result A E → Result A End
@@ -90,7 +103,7 @@ perturbation_in keys contents =
 
 abbrev pub people_in : SchemaValue → Contents → Result (List Record) End
 people_in schema contents =
-    bytes_in input.People (contents input.People) >>= (λ bytes.
+    census_bytes_in schema input.People (contents input.People) >>= (λ bytes.
     or_end (file_end input.People people_name) (people_of schema bytes))
 
 abbrev pub script_in : Contents → Result ScriptValue End
@@ -98,20 +111,26 @@ script_in contents =
     bytes_in input.Script (contents input.Script) >>= (λ bytes.
     or_end end.BadLine (script_of bytes))
 
--- a census: the setup, the threshold of release 0 and the microdata's records
+-- a census: the setup, the limit and the threshold of release 0 and the microdata's records
 pub record CensusValue : Type 0 where
   pub setup : SetupValue
+  pub most : ℕ
   pub threshold : ℕ
   pub records : List Record
 
 -- release 0 of a census
 abbrev pub base_of : CensusValue → ReleaseValue
-base_of census = first_release census.threshold census.records
+base_of census = first_release census.most census.threshold census.records
 
 -- the census of a setup and its release 0
 abbrev pub census_over : SetupValue → ReleaseValue → CensusValue
 census_over setup base =
-    record { setup = setup; threshold = base.rules.threshold; records = base.records }
+    record {
+      setup = setup;
+      most = base.most;
+      threshold = base.rules.threshold;
+      records = base.records;
+    }
 
 -- the setup of a classification, without dwellings
 abbrev pub setup_over : SchemaValue → Contents → Result SetupValue End
@@ -127,7 +146,8 @@ setup_in inputs contents =
 -- release 0 of the microdata that the files hold
 abbrev pub base_in : Inputs → SchemaValue → Contents → Result ReleaseValue End
 base_in inputs schema contents =
-    people_in schema contents >>= (λ records. Ok (first_release inputs.threshold records))
+    people_in schema contents >>= (λ records.
+    Ok (first_release schema.persons inputs.threshold records))
 
 -- the census of a setup
 abbrev pub people_added : Inputs → SetupValue → Contents → Result CensusValue End
@@ -140,11 +160,11 @@ census_in inputs contents =
     setup_in inputs contents >>= (λ setup. people_added inputs setup contents)
 
 -- the dwellings and the links are both read before either is checked
-abbrev pub units_in : Keys → Contents → Result UnitsValue End
-units_in keys contents =
-    bytes_in input.Dwellings (contents input.Dwellings) >>= (λ dwellings.
-    bytes_in input.Links (contents input.Links) >>= (λ links.
-    or_end units_end (units_of keys dwellings links)))
+abbrev pub units_in : SchemaValue → Contents → Result UnitsValue End
+units_in schema contents =
+    census_bytes_in schema input.Dwellings (contents input.Dwellings) >>= (λ dwellings.
+    census_bytes_in schema input.Links (contents input.Links) >>= (λ links.
+    or_end units_end (units_of schema.persons schema.keys dwellings links)))
 
 -- a census with these dwellings
 abbrev pub with_units : CensusValue → UnitsValue → CensusValue
@@ -154,7 +174,7 @@ with_units census units =
 -- a census with the dwellings that the files hold
 abbrev pub units_added : CensusValue → Contents → Result CensusValue End
 units_added census contents =
-    units_in census.setup.schema.keys contents >>= (λ units. Ok (with_units census units))
+    units_in census.setup.schema contents >>= (λ units. Ok (with_units census units))
 
 -- what the files of inputs hold, with dwellings
 abbrev pub counted_in : Inputs → Contents → Result CensusValue End

@@ -91,9 +91,9 @@ scripted_value read = (census_value read.census, read.script)
 abbrev pub asked_value : Asked → AskedValue
 asked_value asked = asked_with (census_value asked.census) asked.owner asked.lines
 
--- a release is release 0 of its records, with its threshold and no other rules
+-- a release is release 0 of its records, with its limit, its threshold and no other rules
 abbrev pub IsBase : ReleaseValue → Type 0
-IsBase base = base ≡ first_release base.rules.threshold base.records
+IsBase base = base ≡ first_release base.most base.rules.threshold base.records
 
 -- a census begins at release 0 of its records, which fit its schema
 abbrev pub IsFirst : Census → Type 0

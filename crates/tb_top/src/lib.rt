@@ -31,5 +31,5 @@ mod top;
 
 pub use asked::{Asked, AskedLines, Census};
 pub use generated::GENERATED_THRESHOLD;
-pub use load::{MOST_BYTES, most_bytes_of};
+pub use load::{LARGE_BYTES, MOST_BYTES, most_bytes_of};
 pub use top::tablebuilder;

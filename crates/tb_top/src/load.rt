@@ -9,7 +9,6 @@
 
 ghost use Rattle.std.specs.Prelude.{◌≡◌, ◌≤◌, ◌++◌, [], ◌∷◌, Some, true, length, is_some};
 ghost use Rattle.std.specs.Prelude.{IfErr, IfOk, flat_map, option_map};
-ghost use Rattle.tb_base.specs.declared.people.TheConstants.{MOST_PERSONS};
 ghost use Rattle.tb_base.specs.Persons.{AreDistinct};
 ghost use Rattle.tb_base.specs.Records.{AllFit};
 ghost use Rattle.tb_command.specs.Commands.{asks_to_generate, asks_to_keep, asks_to_serve};
@@ -17,12 +16,12 @@ ghost use Rattle.tb_command.specs.Commands.{ports_service};
 ghost use Rattle.tb_model.specs.Schemas.{shape_of};
 ghost use Rattle.tb_endings.specs.declared.endings.End.TheVariants as end;
 ghost use Rattle.tb_endings.specs.declared.endings.Input.TheVariants as input;
-ghost use Rattle.tb_top.specs.Asking.{asked_after, asked_over, base_in, bytes_in, census_in};
-ghost use Rattle.tb_top.specs.Asking.{census_of, people_added, setup_in, setup_over};
+ghost use Rattle.tb_top.specs.Asking.{asked_after, asked_over, base_in, bytes_in, bytes_within};
+ghost use Rattle.tb_top.specs.Asking.{census_bytes, census_in, census_of, people_added};
 ghost use Rattle.tb_top.specs.Asking.{come_at_ports, input_place, is_keep, is_service};
 ghost use Rattle.tb_top.specs.Asking.{lines_over, most_bytes, people_in, perturbation_in};
 ghost use Rattle.tb_top.specs.Asking.{recodes_in, schema_in, script_in, scripted_in, task_over};
-ghost use Rattle.tb_top.specs.Asking.{units_added, units_in};
+ghost use Rattle.tb_top.specs.Asking.{setup_in, setup_over, units_added, units_in};
 ghost use Rattle.tb_top.specs.Asking.{with_units as census_with_units};
 ghost use Rattle.tb_top.specs.InputFiles.{class_files, command_files, counted_files, input_files};
 ghost use Rattle.tb_top.specs.InputFiles.{lines_files, named, recodes_files, script_files};
@@ -41,7 +40,7 @@ use tb_io::{FileRead, Files};
 use tb_ptable::PTable;
 use tb_records::read_people_in_parts;
 use tb_release::Release;
-use tb_schema::Schema;
+use tb_schema::{MOST_UNSTATED, Schema};
 use tb_script::{MOST_SCRIPT_BYTES, Script, ScriptFault};
 use tb_text::Setup;
 use tb_units::Units;
@@ -49,7 +48,12 @@ use tb_units::Units;
 /// The most bytes that a file may have, the script apart: 256 MiB.
 pub const MOST_BYTES: u64 = 268_435_456;
 
-/// The most bytes that a file may have.
+/// The most bytes that the persons, the dwellings and the links may each have where the
+/// classification states a limit above `MOST_UNSTATED`: 32 GiB.
+pub const LARGE_BYTES: u64 = 34_359_738_368;
+
+/// The most bytes that a file may have. Persons, dwellings and links may have more, where the
+/// classification states a limit above `MOST_UNSTATED`.
 pub fn most_bytes_of(file: Input) -> u64
     ensures { result ≡ most_bytes file }
 {
@@ -60,8 +64,43 @@ pub fn most_bytes_of(file: Input) -> u64
     }
 }
 
-// The bytes of an input, whose file has this name.
+// The most bytes that each of a census's files may have, its persons, dwellings and links.
+fn census_bytes_of(schema: &Schema) -> u64
+    ensures { result ≡ census_bytes schema.now }
+{
+    if schema.persons() <= MOST_UNSTATED {
+        MOST_BYTES
+    } else {
+        LARGE_BYTES
+    }
+}
+
+// The bytes of an input, whose file has this name, and so many at most.
 #[tactic(auto, using(crate::proofs::LoadSteps::units_of_one))]
+fn read_within<F: Files>(
+    alloc: Global,
+    files: &mut F,
+    most: u64,
+    file: Input,
+    name: &FileName<'_>,
+) -> Result<Vec<u8>, End>
+    ensures within { IfOk result (λ bytes. length bytes.items ≤ most) }
+    ensures loads { Loads
+        (reading F.content F.faults F.readings files.old files.new)
+        (input_place file)
+        (named file name.now ∷ [])
+        (λ bytes. bytes.items)
+        (λ contents. bytes_within most file (contents file)) result }
+{
+    match files.read(alloc, name.as_str(), most) {
+        FileRead::Bytes(bytes) => Ok(bytes),
+        FileRead::TooLong => Err(End::TooLong(file)),
+        FileRead::Failed => Err(End::Unread(file)),
+        FileRead::Memory => Err(End::Memory),
+    }
+}
+
+// The bytes of an input, whose file has this name.
 fn read_bytes<F: Files>(
     alloc: Global,
     files: &mut F,
@@ -76,12 +115,8 @@ fn read_bytes<F: Files>(
         (λ bytes. bytes.items)
         (λ contents. bytes_in file (contents file)) result }
 {
-    match files.read(alloc, name.as_str(), most_bytes_of(file)) {
-        FileRead::Bytes(bytes) => Ok(bytes),
-        FileRead::TooLong => Err(End::TooLong(file)),
-        FileRead::Failed => Err(End::Unread(file)),
-        FileRead::Memory => Err(End::Memory),
-    }
+    let most = most_bytes_of(file);
+    read_within(alloc, files, most, file, name)
 }
 
 // The bytes of the recodes, where they are named.
@@ -159,7 +194,7 @@ fn load_people<F: Files, R: Threads + Sync>(
     ensures distinct { IfOk result (λ lists.
         AreDistinct (flat_map (λ list. list.items) lists.items)) }
     ensures few { IfOk result (λ lists.
-        length (flat_map (λ list. list.items) lists.items) ≤ MOST_PERSONS) }
+        length (flat_map (λ list. list.items) lists.items) ≤ schema.now.persons) }
     ensures fit { IfOk result (λ lists.
         AllFit (shape_of schema.now) (flat_map (λ list. list.items) lists.items)) }
     ensures loads { Loads
@@ -169,7 +204,8 @@ fn load_people<F: Files, R: Threads + Sync>(
         (λ lists. flat_map (λ list. list.items) lists.items)
         (people_in schema.now) result }
 {
-    let bytes = read_bytes(alloc, files, Input::People, name)?;
+    let most = census_bytes_of(schema);
+    let bytes = read_within(alloc, files, most, Input::People, name)?;
     match read_people_in_parts(rt, alloc, schema, &bytes) {
         Ok(people) => Ok(people),
         Err(fault) => Err(End::of(Input::People, fault)),
@@ -230,7 +266,8 @@ fn load_base<F: Files, R: Threads + Sync>(
 {
     let people = load_people(rt, alloc, files, &inputs.people, schema)?;
     let rules = Rules::new(alloc, inputs.threshold);
-    let release = Release::first_in_parts(rt, alloc, people, rules)?;
+    let most = schema.persons();
+    let release = Release::first_in_parts(rt, alloc, most, people, rules)?;
     Ok(release)
 }
 
@@ -284,7 +321,7 @@ fn load_census<F: Files, R: Threads + Sync>(
 fn load_units<F: Files>(
     alloc: Global,
     files: &mut F,
-    keys: Keys,
+    schema: &Schema,
     names: &UnitFiles<'_>,
 ) -> Result<Units, End>
     ensures loads { Loads
@@ -292,18 +329,14 @@ fn load_units<F: Files>(
         4
         (unit_files (Some names.now))
         (λ units. units)
-        (units_in keys) result }
+        (units_in schema.now) result }
 {
-    let dwellings = read_bytes(alloc, files, Input::Dwellings, &names.dwellings)?;
-    let links = read_bytes(alloc, files, Input::Links, &names.links)?;
-    Ok(Units::read(alloc, keys, &dwellings, &links)?)
-}
-
-// The key range of a setup.
-fn keys_of(setup: &Setup) -> Keys
-    ensures { result ≡ setup.now.schema.keys }
-{
-    setup.schema.keys()
+    let most = census_bytes_of(schema);
+    let dwellings = read_within(alloc, files, most, Input::Dwellings, &names.dwellings)?;
+    let links = read_within(alloc, files, most, Input::Links, &names.links)?;
+    let persons = schema.persons();
+    let keys = schema.keys();
+    Ok(Units::read(alloc, persons, keys, &dwellings, &links)?)
 }
 
 // A census with these dwellings.
@@ -340,8 +373,7 @@ fn add_units<F: Files>(
         census_value
         (units_added (census_value census)) result }
 {
-    let keys = keys_of(&census.setup);
-    let units = load_units(alloc, files, keys, names)?;
+    let units = load_units(alloc, files, schema_of(&census.setup), names)?;
     Ok(with_units(census, units))
 }
 

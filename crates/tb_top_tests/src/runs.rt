@@ -39,16 +39,20 @@ const WIDE_PEOPLE: &[u8] = b"person,record_key,SEX,AGE,AREA\n101,4000,1,0-15,E1\
     102,100,1,16-64,E1\n103,20,1,65+,E2\n104,7,2,16-64,E2\n";
 
 // The small classification with a limit of persons, before it or behind its categories.
-const FOR_THREE: &[u8] = b"variable,code,label\n*,persons,3\nSEX,1,Male\nSEX,2,Female\nAGE,0-15,Under 16\n\
+const FOR_THREE: &[u8] =
+    b"variable,code,label\n*,persons,3\nSEX,1,Male\nSEX,2,Female\nAGE,0-15,Under 16\n\
     AGE,16-64,Working age\nAGE,65+,65 and over\nAREA,E1,\"North, rural\"\nAREA,E2,South\n";
 
-const FOR_FOUR: &[u8] = b"variable,code,label\n*,persons,4\nSEX,1,Male\nSEX,2,Female\nAGE,0-15,Under 16\n\
+const FOR_FOUR: &[u8] =
+    b"variable,code,label\n*,persons,4\nSEX,1,Male\nSEX,2,Female\nAGE,0-15,Under 16\n\
     AGE,16-64,Working age\nAGE,65+,65 and over\nAREA,E1,\"North, rural\"\nAREA,E2,South\n";
 
-const FOR_FOUR_OF_256: &[u8] = b"variable,code,label\n*,keys,256\n*,persons,4\nSEX,1,Male\nSEX,2,Female\nAGE,0-15,Under 16\n\
+const FOR_FOUR_OF_256: &[u8] =
+    b"variable,code,label\n*,keys,256\n*,persons,4\nSEX,1,Male\nSEX,2,Female\nAGE,0-15,Under 16\n\
     AGE,16-64,Working age\nAGE,65+,65 and over\nAREA,E1,\"North, rural\"\nAREA,E2,South\n";
 
-const FOR_FOUR_AT_LAST: &[u8] = b"variable,code,label\nSEX,1,Male\nSEX,2,Female\nAGE,0-15,Under 16\n\
+const FOR_FOUR_AT_LAST: &[u8] =
+    b"variable,code,label\nSEX,1,Male\nSEX,2,Female\nAGE,0-15,Under 16\n\
     AGE,16-64,Working age\nAGE,65+,65 and over\nAREA,E1,\"North, rural\"\nAREA,E2,South\n*,persons,4\n";
 
 // A person more than four is refused, and taken once another has gone.
@@ -305,7 +309,10 @@ static RUNS: [Over; 45] = [
         "units classes - ptable people 0 dwellings links script",
         &[
             ("classes", FOR_FOUR),
-            ("dwellings", b"dwelling,dwelling_key\n1,50\n2,60\n3,1\n4,1\n5,1\n"),
+            (
+                "dwellings",
+                b"dwelling,dwelling_key\n1,50\n2,60\n3,1\n4,1\n5,1\n",
+            ),
             ("links", b"person,dwelling\n"),
         ],
         13,

@@ -300,7 +300,7 @@ gen_pass words population h =
     let (count, some) = if_some (length words == 3) _ population h in
     let (n, a, h1) = then_some _ (number_within 1 _ (word_at words 1)) population some in
     let (start, b) = map_some _ (number_of (word_at words 2)) population h1 in
-    (eqb-true (length words) 3 count, (passes_within 1 Rattle.tb_base.specs.declared.people.TheConstants.MOST_PERSONS n (word_at words 1) a, (passes_number (word_at words 2) start b, tt)))
+    (eqb-true (length words) 3 count, (passes_within 1 Rattle.tb_gen.specs.declared.limits.TheConstants.MOST_GENERATED n (word_at words 1) a, (passes_number (word_at words 2) start b, tt)))
 
 of_gen : (rows : List FormValue) (words : List (List ℕ)) → AreOf (codes "gen") 2 words → AreOfOne rows words
 of_gen [] words are = are

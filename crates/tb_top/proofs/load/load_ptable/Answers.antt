@@ -3,7 +3,7 @@ use Rattle.std.proofs.lemmas.Result.{err_from_is_err_and}
 use Rattle.tb_endings.specs.declared.endings.Input.TheVariants as input
 use Rattle.tb_ptable.specs.FaultNames.{fault_name as ptable_name}
 use Rattle.tb_ptable.specs.Lines.{perturbation_of}
-use Rattle.tb_top.specs.Asking.{bytes_in, or_end}
+use Rattle.tb_top.specs.Asking.{bytes_in, most_bytes, or_end}
 use Rattle.tb_endings.specs.Refusals.{file_end}
 use Rattle.tb_top.proofs.LoadSteps.{Loads-ends, Loads-fails, Loads-refused}
 use Rattle.tb_top.proofs.load.load_ptable.Goals as goal
@@ -23,5 +23,5 @@ returns-in-Ok-clause-loads g c =
 
 pub returns-clause-loads : goal.returns-clause-loads
 returns-clause-loads g c =
-    rw c.of.ensures (Loads-refused (λ bytes. bytes.items) (λ table. table) input.Ptable ptable_name (perturbation_of c.args.keys) c.in_ok-bytes.bytes c.in-Err.fault
+    rw c.of.ensures (Loads-refused (λ bytes. bytes.items) (λ table. table) (most_bytes input.Ptable) input.Ptable ptable_name (perturbation_of c.args.keys) c.in_ok-bytes.bytes c.in-Err.fault
     (λ k. cc) (rw (← c.deref.ensures.value) c.in-Err.ensures.refused) c.in_ok-bytes.ensures.loads)

@@ -1,8 +1,7 @@
-use Rattle.std.proofs.Common.{refl}
-use Rattle.tb_top.proofs.LoadSteps.{Loads-unread}
 use Rattle.tb_top.proofs.load.read_bytes.Goals as goal
 
-pub returns-in-Failed-clause-loads : goal.returns-in-Failed-clause-loads
-returns-in-Failed-clause-loads g c =
-    Loads-unread (λ bytes. bytes.items) c.args.file c.args.name.now c.read.ensures.count c.read.ensures.same
-    (c.in-Failed.ensures.failed refl) c.read.ensures.reading
+pub returns : goal.returns
+returns g c = record {
+  within = rw c.most_bytes_of-most.ensures at c.read_within.ensures.within;
+  loads = rw c.most_bytes_of-most.ensures at c.read_within.ensures.loads;
+}
