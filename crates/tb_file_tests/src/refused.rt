@@ -109,13 +109,7 @@ static PERSON_ROWS: [Row; 15] = [
         "BadPersons",
         2,
     ),
-    (
-        File::Classes,
-        b"A,1,a\n*,persons,4\n",
-        14,
-        "BadPersons",
-        2,
-    ),
+    (File::Classes, b"A,1,a\n*,persons,4\n", 14, "BadPersons", 2),
     (
         File::Classes,
         b"*,persons,4\n*,keys,256\n",
@@ -126,13 +120,7 @@ static PERSON_ROWS: [Row; 15] = [
     (File::Classes, b"*,Persons,4\n", 13, "BadKeys", 1),
     (File::Classes, b"*,persons\n", 10, "BadCsv", 1),
     (File::Classes, b"**,persons,4\n", 2, "BadName", 1),
-    (
-        File::Classes,
-        b"*,persons,1\nby,1,b\n",
-        2,
-        "BadName",
-        2,
-    ),
+    (File::Classes, b"*,persons,1\nby,1,b\n", 2, "BadName", 2),
     (
         File::Classes,
         b"*,persons,100000000\nby,1,b\n",

@@ -74,12 +74,7 @@ impl Units {
     }
 
     // Dwellings that were read under a limit, and the links of a file.
-    fn over(
-        alloc: Global,
-        most: usize,
-        dwellings: Pairs,
-        file: &[u8],
-    ) -> Result<Units, UnitsFault>
+    fn over(alloc: Global, most: usize, dwellings: Pairs, file: &[u8]) -> Result<Units, UnitsFault>
         requires within { most ≤ MOST_PERSONS }
         requires read { AreRead most dwellings }
         ensures ok { IfOk result (λ units. with_links_of most dwellings file.now ≡ Ok units) }
