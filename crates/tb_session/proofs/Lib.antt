@@ -13,6 +13,7 @@ mod PastPrices
 mod PastCubes
 mod PastCounts
 mod PastReplies
+mod PastShown
 mod Numbers
 mod Publishing
 mod Describing

@@ -1,7 +1,7 @@
 -- What a party has seen, and the numbers of its releases.
 use Rattle.std.proofs.Common.{◌≡◌, ◌∙◌, sym, ap, subst, refl, ℕ, ◌+◌, List, [], ◌∷◌, ◌++◌, length, take, inl, inr, arith}
 use Rattle.std.specs.Prelude.{ℤ, None, Some, codes, decimal, flat_map, if◌then◌else◌, zip}
-use Rattle.std.proofs.lemmas.Bool.{le-leb}
+use Rattle.std.proofs.lemmas.Bool.{le-ltb}
 use Rattle.std.proofs.lemmas.List.{length-take-le}
 use mathlib.Core.List.{IsPrefix}
 use Rattle.tb_base.specs.declared.cells.Cell.{Cell}
@@ -18,6 +18,7 @@ use Rattle.tb_release.specs.Batches.{BatchValue, batch_of}
 use Rattle.tb_release.specs.Chains.{after_batch, release_after}
 use Rattle.tb_session.specs.Asks.{asks_of}
 use Rattle.tb_session.specs.Laws.{NumbersNeverFall, PastTablesNameTheirRelease, TablesNameTheirList}
+use Rattle.tb_session.specs.PastTables.{oldest_of}
 use Rattle.tb_lines.specs.Outputs.{ReplyValue}
 use Rattle.tb_ahead.specs.Publishing.{IsPublishReply, StateValue}
 use Rattle.tb_session.specs.Replies.{IsReplyTo}
@@ -103,9 +104,9 @@ tables_name_their_list setup base chain (Some units) query none = cells_name_the
 
 -- a table of release n of a chain names n
 pub past_tables_name_their_release : PastTablesNameTheirRelease
-past_tables_name_their_release setup base chain n query none low =
+past_tables_name_their_release setup base chain n query none low young =
     let first : List ℕ = line_text (codes "release " ++ decimal n) in
     let long : length (take n chain) ≡ n = length-take-le n chain low in
     let table : IsPrefix first (table_text setup (release_after base (take n chain)) query) =
     subst (λ k. IsPrefix (line_text (codes "release " ++ decimal k)) (table_text setup (release_after base (take n chain)) query)) long (tables_name_their_list setup base (take n chain) None query none) in
-    rw (le-leb n (length chain) low) table
+    rw (le-ltb (length chain) n low) (rw (le-ltb n (oldest_of base chain) young) table)

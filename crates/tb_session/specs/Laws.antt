@@ -14,7 +14,7 @@ use Rattle.tb_release.specs.Chains.{release_after}
 use Rattle.tb_session.specs.Asks.{asks_of}
 use Rattle.tb_lines.specs.Lines.{is_passed_over}
 use Rattle.tb_lines.specs.Outputs.{ReplyValue}
-use Rattle.tb_session.specs.PastTables.{past_text}
+use Rattle.tb_session.specs.PastTables.{oldest_of, past_reply}
 use Rattle.tb_session.specs.Replies.{whole_of}
 use Rattle.tb_ahead.specs.Publishing.{StateValue, published_line}
 use Rattle.tb_session.specs.Transcripts.{IsLegal, IsStep}
@@ -60,13 +60,14 @@ TablesNameTheirList =
     → IsPrefix (line_text (codes "release " ++ decimal (length chain)))
     (whole_of setup (release_after base chain) units query).text
 
--- the first line of a table of release n of a chain names n
+-- the first line of a table of release n of a chain, which wasn't taken back, names n
 abbrev pub PastTablesNameTheirRelease : Type 0
 PastTablesNameTheirRelease =
     (setup : SetupValue) (base : ReleaseValue) (chain : List BatchValue) (n : ℕ)
     (query : QueryValue)
-    → base.number ≡ 0 → n ≤ length chain
-    → IsPrefix (line_text (codes "release " ++ decimal n)) (past_text setup base chain n query)
+    → base.number ≡ 0 → n ≤ length chain → oldest_of base chain ≤ n
+    → IsPrefix (line_text (codes "release " ++ decimal n))
+    (past_reply setup base chain n query).text
 
 -- after the custodian's `published N`, its release is N until it asks to publish again
 abbrev pub PublishedStays : Type 0

@@ -7,6 +7,10 @@ use Rattle.tb_rows.specs.FaultNames.{FaultNameValue}
 abbrev pub no_such_release_line : ℕ → List ℕ
 no_such_release_line last = codes "refused 10 NoSuchRelease " ++ decimal last ++ codes "\n"
 
+-- a query at a release that was taken back: the number of the oldest one that is shown
+abbrev pub withdrawn_line : ℕ → List ℕ
+withdrawn_line oldest = codes "refused 11 Withdrawn " ++ decimal oldest ++ codes "\n"
+
 -- an edit that is held: how many are
 abbrev pub held_line : ℕ → List ℕ
 held_line count = codes "held " ++ decimal count ++ codes "\n"

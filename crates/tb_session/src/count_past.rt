@@ -21,7 +21,8 @@ ghost use Rattle.tb_release.specs.Chains.{change_count};
 ghost use Rattle.tb_release.specs.Revised.{release_at as release_numbered};
 ghost use Rattle.tb_release.specs.declared.limits.TheConstants.{MOST_RELEASES};
 ghost use Rattle.tb_session.specs.Parties.{IsPassOf};
-ghost use Rattle.tb_session.specs.PastTables.{past_price};
+ghost use Rattle.tb_plan.specs.Plans.{PlanValue};
+ghost use Rattle.tb_session.specs.PastTables.{oldest_of, past_price};
 ghost use Rattle.tb_session.specs.PastTaken.{IsPast, IsPastOf, IsTakenFor, base_in, chain_in};
 ghost use Rattle.tb_tables.specs.Counting.{IsCounted};
 
@@ -54,6 +55,22 @@ impl Past {
         ensures { result ≡ length (chain_in self.now) }
     {
         self.chain.batches.len() as u32
+    }
+
+    /// The number of the oldest release that the chain's last one shows. Where that is the release
+    /// that was taken it takes no memory, else memory for its rules.
+    pub(crate) fn oldest(&self, alloc: Global) -> Result<u32, Memory>
+        requires { (plan : PlanValue) × IsPast plan self.now }
+        ensures { IfOk result
+            (λ oldest. oldest ≡ oldest_of (base_in self.now) (chain_in self.now)) }
+    {
+        let last = self.last();
+        let release = &self.taken.release;
+        if release.number() == last {
+            return Ok(release.rules().oldest());
+        }
+        let rules = rules_at(alloc, &self.chain.base, &self.chain.batches, last)?;
+        Ok(rules.oldest())
     }
 }
 

@@ -7,7 +7,7 @@ ghost use Rattle.tb_model.specs.Schemas.{shape_of};
 ghost use Rattle.tb_query.specs.Over.{IsOver};
 ghost use Rattle.tb_session.specs.Parties.{IsPassOf, SawTurn};
 ghost use Rattle.tb_session.specs.PastLines.{past_query as query_in};
-ghost use Rattle.tb_session.specs.PastTables.{past_price, past_reply, past_text};
+ghost use Rattle.tb_session.specs.PastTables.{past_reply};
 ghost use Rattle.tb_session.specs.ReplyTexts.{reply_text};
 ghost use Rattle.tb_tables.specs.Answers.{AnswersBy};
 
@@ -26,7 +26,8 @@ use tb_query::Query;
 use tb_tables::{TableReply, plan_for, read, shape_in};
 use tb_text::Setup;
 
-// A query's table over release n of the chain, or that the chain has no such release.
+// A query's table over release n of the chain, or that the chain has no such release, or that it
+// was taken back. What was seen last decides, not the release that was taken before it.
 fn reply_at<'a, B: Named, R: Threads + Wait + Sync, G: Gate, L: Ledger>(
     rt: &R,
     alloc: Global,
@@ -42,15 +43,20 @@ fn reply_at<'a, B: Named, R: Threads + Wait + Sync, G: Gate, L: Ledger>(
     requires own { IsPassOf B.name (shape_of setup.now.schema) pass.old }
     ensures later { IsLater pass.old pass.new }
     ensures seen { SawTurn pass.old pass.new }
-    ensures price { steps.new ≤ steps.old + past_price pass.new.start.base pass.new.list }
+    ensures price { steps.new ≤ steps.old
+        + (past_reply setup.now pass.new.start.base pass.new.list number query.now).price }
     ensures text { IfOk result (λ reply. reply_text reply
-        ≡ past_text setup.now pass.new.start.base pass.new.list number query.now) }
+        ≡ (past_reply setup.now pass.new.start.base pass.new.list number query.now).text) }
 {
     let plan = plan_for(alloc, setup, query)?;
     let past = look(rt, board, &plan, pass)?;
     let last = past.last();
     if number > last {
         return Ok(Reply::NoSuchRelease(last));
+    }
+    let oldest = past.oldest(alloc)?;
+    if number < oldest {
+        return Ok(Reply::Withdrawn(oldest));
     }
     let shape = shape_in(setup);
     let counted = count_past(
@@ -61,9 +67,10 @@ fn reply_at<'a, B: Named, R: Threads + Wait + Sync, G: Gate, L: Ledger>(
 }
 
 /// The reply to a line `at N QUERY`: the query's table over the release of that number, that there
-/// is no such release, the query's first fault, or that the memory was refused. A query without a
-/// fault is looked for as one at the current release is, also where there is no such release. The
-/// pass has then seen a chain whose length is the number of the last release that there is.
+/// is no such release, that it was taken back, the query's first fault, or that the memory was
+/// refused. A query without a fault is looked for as one at the current release is, also where its
+/// release isn't shown. The pass has then seen a chain whose length is the number of the last
+/// release that there is, and that one tells the oldest that is shown.
 pub(crate) fn answer_past<'a, B: Named, R: Threads + Wait + Sync, G: Gate, L: Ledger>(
     rt: &R,
     alloc: Global,

@@ -28,6 +28,9 @@ pub(crate) enum Reply<'a> {
     Query(TableReply<'a>),
     /// A query is refused since there is no such release: the last one has this number.
     NoSuchRelease(u32),
+    /// A query is refused since its release was taken back: the oldest that is shown has this
+    /// number.
+    Withdrawn(u32),
     /// So many edits are held, with this one.
     Held(u32),
     /// An edit is refused by its first fault.
@@ -119,6 +122,7 @@ impl<'a> Reply<'a> {
             Reply::Description(reply) => reply.write(out),
             Reply::Query(reply) => reply.write(out),
             Reply::NoSuchRelease(last) => write_number(out, b"refused 10 NoSuchRelease ", last),
+            Reply::Withdrawn(oldest) => write_number(out, b"refused 11 Withdrawn ", oldest),
             Reply::Held(count) => write_number(out, b"held ", count),
             Reply::EditRefused(fault) => write_fault(out, b"refused edit ", &fault),
             Reply::Published(number) => write_number(out, b"published ", number),
