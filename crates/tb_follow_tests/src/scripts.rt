@@ -20,7 +20,7 @@ use tb_small_values::setup;
 use tb_text::Setup;
 
 // Scripts, and their replies.
-static ROWS: [(&'static str, &'static str); 14] = [
+static ROWS: [(&'static str, &'static str); 15] = [
     // The message of release 2 comes first, and waits; that of release 1 leads to both.
     (
         "leader begin 2\nleader add 105 30 SEX=2 AGE=0-15 AREA=E2\nleader end\na table SEX\n\
@@ -96,6 +96,15 @@ static ROWS: [(&'static str, &'static str); 14] = [
         "leader begin 2\nleader threshold 5\nleader end\nleader begin 2\nleader drop 999\n\
         leader end\nleader begin 1\nleader pvalue 1 7 5\nleader threshold 2\nleader end\n",
         "begun 2\nheld 1\nkept 0\nbegun 2\nheld 1\nkept 0\nbegun 1\nheld 1\nheld 2\nat 2\n",
+    ),
+    // Releases are taken back up to the next one, never given back, and not further.
+    (
+        "leader begin 1\nleader oldest 2\nleader end\nleader begin 1\nleader drop 104\n\
+        leader oldest 1\nleader end\nleader begin 2\nleader oldest 0\nleader end\n\
+        leader begin 2\nleader oldest 2\nleader end\na table SEX\n",
+        "begun 1\nheld 1\nrefused batch 1 6 BadRelease\nbegun 1\nheld 1\nheld 2\nat 1\n\
+        begun 2\nheld 1\nrefused batch 1 6 BadRelease\nbegun 2\nheld 1\nat 2\n\
+        release 2\nSEX,count\n1,1\n2,0\n.\n",
     ),
     // Analysts are told what may be asked. It is no line of the leader's, whose open message stays.
     (

@@ -115,7 +115,7 @@ fn edits_of_the_rules_that_fit(rt: HostRuntime) -> Result<(), Fail> {
 }
 
 #[test]
-fn drops_and_thresholds_that_fit(rt: HostRuntime) -> Result<(), Fail> {
+fn other_edits_that_fit(rt: HostRuntime) -> Result<(), Fail> {
     let alloc = rt.alloc();
     for (value, wanted) in [(1, true), (0, false)] {
         assert_eq!(rt;
@@ -128,6 +128,9 @@ fn drops_and_thresholds_that_fit(rt: HostRuntime) -> Result<(), Fail> {
             one_fits(alloc, Keys::K256, Edit::Threshold { value })?,
             wanted
         );
+    }
+    for release in [0, 4294967295] {
+        assert!(rt; one_fits(alloc, Keys::K256, Edit::Oldest { release })?);
     }
     Ok(())
 }

@@ -33,7 +33,7 @@ type Row = (
     &'static [u8],
 );
 
-static ROWS: [Row; 19] = [
+static ROWS: [Row; 21] = [
     ("no_batch", b"", SEX, 0, BEFORE),
     ("no_batch", b"012345678", SEX, 0, BEFORE),
     ("no_batch", b"TBJOURN1\x00\x01\x02\x03", SEX, 0, BEFORE),
@@ -84,10 +84,25 @@ static ROWS: [Row; 19] = [
         11,
         b"fault journal 1 NotJournal 0\n",
     ),
+    (
+        "a_release_taken_back",
+        b"TBJOURN1\x01\x00\x00\x00\x09\x00\x00\x00\x01\x06\x00\x00\x00\x01\x00",
+        b"a at 0 table SEX\na at 1 table SEX\n",
+        0,
+        b"refused 11 Withdrawn 1\nrelease 1\nSEX,count\n1,1\n2,2\n.\n",
+    ),
+    // Releases up to a later one than the next.
+    (
+        "does_not_follow",
+        b"TBJOURN1\x01\x00\x00\x00\x09\x00\x00\x00\x01\x06\x00\x00\x00\x02\x00",
+        SEX,
+        11,
+        b"fault journal 3 DoesNotFollow 1\n",
+    ),
     // A kind of edit that is none.
     (
         "bad_record",
-        b"TBJOURN1\x01\x00\x00\x00\x09\x00\x00\x00\x01\x06\x00\x00\x00\x68\x00",
+        b"TBJOURN1\x01\x00\x00\x00\x09\x00\x00\x00\x01\x07\x00\x00\x00\x68\x00",
         SEX,
         11,
         b"fault journal 2 BadRecord 1\n",
@@ -164,7 +179,7 @@ static ROWS: [Row; 19] = [
 // What two runs show, the script of each, and what the second writes.
 type Pair = (&'static str, &'static [u8], &'static [u8], &'static [u8]);
 
-static PAIRS: [Pair; 4] = [
+static PAIRS: [Pair; 5] = [
     (
         "publications_by_two_runs",
         DROP_104,
@@ -176,6 +191,12 @@ static PAIRS: [Pair; 4] = [
         b"custodian pvalue 3 64 5\ncustodian threshold 3\ncustodian publish\n",
         SEX,
         b"release 1\nSEX,count\n1,8\n2,c\n.\n",
+    ),
+    (
+        "releases_taken_back",
+        b"custodian oldest 1\ncustodian publish\n",
+        b"a at 0 table SEX\ncustodian oldest 0\ncustodian publish\n",
+        b"refused 11 Withdrawn 1\nheld 1\nrefused batch 1 6 BadRelease\n",
     ),
     (
         "keys_of_all_releases",

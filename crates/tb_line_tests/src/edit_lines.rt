@@ -311,3 +311,50 @@ fn thresholds_are_read(rt: HostRuntime) -> Result<(), Fail> {
     assert_eq!(rt; wrong_threshold_of_small(rt.alloc())?, None);
     Ok(())
 }
+
+// Lines and their releases: whether there is one is told when it is published.
+static OLDEST: [(&'static str, u32); 3] = [
+    ("oldest 0", 0),
+    ("\toldest  0000000012 ", 12),
+    ("oldest 4294967295", 4294967295),
+];
+
+fn oldest() -> &'static [(&'static str, u32)] {
+    &OLDEST
+}
+
+fn is_oldest(edit: &Edit, want: u32) -> bool {
+    match edit {
+        Edit::Oldest { release } => *release == want,
+        _ => false,
+    }
+}
+
+// Whether a line is read so.
+fn reads_as_oldest(alloc: Global, schema: &Schema, line: &str, want: u32) -> bool {
+    match read_edit(alloc, schema, line.as_bytes()) {
+        Ok(edit) => is_oldest(&edit, want),
+        Err(_) => false,
+    }
+}
+
+// The place of the first line that isn't.
+fn wrong_oldest(alloc: Global, schema: &Schema) -> Option<usize> {
+    for (i, (line, want)) in oldest().iter().enumerate() {
+        if !reads_as_oldest(alloc, schema, line, *want) {
+            return Some(i);
+        }
+    }
+    None
+}
+
+fn wrong_oldest_of_small(alloc: Global) -> Result<Option<usize>, Memory> {
+    let schema = schema(alloc)?;
+    Ok(wrong_oldest(alloc, &schema))
+}
+
+#[test]
+fn oldest_releases_are_read(rt: HostRuntime) -> Result<(), Fail> {
+    assert_eq!(rt; wrong_oldest_of_small(rt.alloc())?, None);
+    Ok(())
+}

@@ -65,7 +65,7 @@ fn refused() -> &'static [Refused] {
 }
 
 // Of the rules.
-static RULES_REFUSED: [Refused; 39] = [
+static RULES_REFUSED: [Refused; 49] = [
     // Another word, a byte that is no text, a word is missing, or one too many.
     (b"Pvalue 3 64 5", 1, "Syntax"),
     (b"thresholds 3", 1, "Syntax"),
@@ -77,6 +77,10 @@ static RULES_REFUSED: [Refused; 39] = [
     (b"pvalue 3 64 5 SEX=1", 1, "Syntax"),
     (b"threshold", 1, "Syntax"),
     (b"threshold 3 4", 1, "Syntax"),
+    (b"Oldest 1", 1, "Syntax"),
+    (b"oldest 1\r", 1, "Syntax"),
+    (b"oldest", 1, "Syntax"),
+    (b"oldest 1 2", 1, "Syntax"),
     // The row is no number from 1 to 750.
     (b"pvalue 0 0 0", 2, "BadNumber"),
     (b"pvalue 751 64 5", 2, "BadNumber"),
@@ -107,10 +111,17 @@ static RULES_REFUSED: [Refused; 39] = [
     (b"threshold -0", 2, "BadNumber"),
     (b"threshold 00000000003", 2, "BadNumber"),
     (b"threshold c", 2, "BadNumber"),
+    // The release is no number.
+    (b"oldest 4294967296", 2, "BadNumber"),
+    (b"oldest -0", 2, "BadNumber"),
+    (b"oldest 00000000001", 2, "BadNumber"),
+    (b"oldest +1", 2, "BadNumber"),
+    (b"oldest now", 2, "BadNumber"),
     // Two faults in one line.
     (b"pvalue 0 256", 1, "Syntax"),
     (b"pvalue 3 64 -4 0", 1, "Syntax"),
     (b"threshold 1000001 c", 1, "Syntax"),
+    (b"oldest 4294967296 x", 1, "Syntax"),
 ];
 
 fn rules_refused() -> &'static [Refused] {

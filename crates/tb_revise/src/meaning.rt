@@ -251,10 +251,10 @@ fn oldest_meant(schema: &Schema, release: &[u8]) -> Result<Edit, EditTextFault>
     ensures refused { IfErr result (λ e. RefusesBy e
         (refusal schema.now (NamedOldest release.now))) }
 {
-    match read_number(release) {
-        Some(release) => Ok(Edit::Oldest { release }),
-        _ => Err(EditTextFault::BadNumber),
-    }
+    let Some(release) = read_number(release) else {
+        return Err(EditTextFault::BadNumber);
+    };
+    Ok(Edit::Oldest { release })
 }
 
 /// The edit that the words stand for, or the first fault of what they stand for.

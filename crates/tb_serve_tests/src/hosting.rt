@@ -19,10 +19,13 @@ use tb_io::MemListen;
 use tb_mem_disk::MemDisk;
 use tb_serve::Port;
 
-// A journal without a batch, and that of one which drops a person.
+// A journal without a batch, that of one which drops a person, and that of one which takes release
+// 0 back.
 const NO_BATCH: &[u8] = b"TBJOURN1\x00";
 
 const ONE_BATCH: &[u8] = b"TBJOURN1\x01\x00\x00\x00\x09\x00\x00\x00\x01\x02\x00\x00\x00\x68\x00";
+
+const TAKEN_BACK: &[u8] = b"TBJOURN1\x01\x00\x00\x00\x09\x00\x00\x00\x01\x06\x00\x00\x00\x01\x00";
 
 // One worker, and one session at each port, or two.
 const ONE: &str = "host classes recodes ptable people 0 - - journal 5000 1 1";
@@ -51,7 +54,7 @@ type Row = (
     &'static [u8],
 );
 
-static ROWS: [Row; 12] = [
+static ROWS: [Row; 13] = [
     (
         "host_recovers",
         b"",
@@ -200,6 +203,21 @@ static ROWS: [Row; 12] = [
         Status::Done,
         b"worker 0 sessions 1\nworker 1 sessions 1\nrelease 1\n",
         ONE_BATCH,
+    ),
+    // A batch that takes a release back is played before the first accept.
+    (
+        "a_release_taken_back",
+        TAKEN_BACK,
+        ONE,
+        ("at 0 table SEX\n", "refused 11 Withdrawn 1\n"),
+        (
+            "at 0 table SEX\nat 1 table SEX\n",
+            "refused 11 Withdrawn 1\nrelease 1\nSEX,count\n1,1\n2,2\n.\n",
+        ),
+        (false, 0, ALL),
+        Status::Done,
+        b"worker 0 sessions 1\nworker 1 sessions 1\nrelease 1\n",
+        TAKEN_BACK,
     ),
     // Without dwellings it is a query whose first word is wrong.
     (

@@ -37,6 +37,10 @@ pub enum Client {
     HomesLeader,
     /// An analyst, who waits for the reply to that message between two tables of dwellings.
     HomesBehind,
+    /// A leader, whose message takes back a release after the analyst's first table of it.
+    TakingLeader,
+    /// An analyst, who asks for that release before the message came, and after.
+    TakenBehind,
 }
 
 /// How many replies two clients got, and how many clients got just those that they are to get.
@@ -62,6 +66,9 @@ fn part(client: Client, step: u32) -> Option<(u32, &'static [u8])> {
         (Client::HomesLeader, 0) => Some((1, b"begin 1\ndrop 104\nend\n")),
         (Client::HomesBehind, 0) => Some((0, b"dwellings SEX\n")),
         (Client::HomesBehind, 1) => Some((3, b"dwellings SEX\n")),
+        (Client::TakingLeader, 0) => Some((1, b"begin 1\noldest 1\nend\n")),
+        (Client::TakenBehind, 0) => Some((0, b"at 0 table SEX\n")),
+        (Client::TakenBehind, 1) => Some((3, b"at 0 table SEX\nat 1 table SEX\n")),
         (Client::Late | Client::One | Client::Other | Client::LateBehind, 0) => {
             Some((0, b"table SEX\n"))
         }
@@ -85,7 +92,11 @@ fn replies_to(client: Client) -> &'static [u8] {
         Client::LateLeader => {
             b"begun 1\nheld 1\nat 1\nstats release 1 looks 2 hits 1 entries 1 capacity 64\n"
         }
-        Client::HomesLeader => b"begun 1\nheld 1\nat 1\n",
+        Client::HomesLeader | Client::TakingLeader => b"begun 1\nheld 1\nat 1\n",
+        Client::TakenBehind => {
+            b"release 0\nSEX,count\n1,1\n2,2\n.\nrefused 11 Withdrawn 1\nrelease 1\nSEX,count\n\
+                1,1\n2,2\n.\n"
+        }
         Client::HomesBehind => {
             b"release 0\nSEX,count\n1,2\n2,1\n.\nrelease 1\nSEX,count\n1,2\n2,0\n.\n"
         }
@@ -229,7 +240,8 @@ impl<'a> Talk<'a> {
             | Client::Other
             | Client::Behind
             | Client::LateBehind
-            | Client::HomesBehind => Talk::with(client, second, first, right),
+            | Client::HomesBehind
+            | Client::TakenBehind => Talk::with(client, second, first, right),
             _ => Talk::with(client, first, second, right),
         }
     }

@@ -25,6 +25,7 @@ enum Run {
     Led,
     LateLed,
     HomesLed,
+    TakenBack,
 }
 
 // The client at the port of a number.
@@ -40,6 +41,8 @@ fn client_at(run: Run, number: u32) -> Client {
         (Run::LateLed, 1) => Client::LateBehind,
         (Run::HomesLed, 0) => Client::HomesLeader,
         (Run::HomesLed, 1) => Client::HomesBehind,
+        (Run::TakenBack, 0) => Client::TakingLeader,
+        (Run::TakenBack, 1) => Client::TakenBehind,
         _ => Client::None,
     }
 }
@@ -152,4 +155,10 @@ fn sessions_share_cubes_of_a_mirror(rt: HostRuntime) {
 fn dwellings_of_a_mirror(rt: HostRuntime) {
     let command = "mirror classes recodes ptable people 0 dwellings links 5000 1 1";
     assert!(&rt; both_get_theirs(&rt, rt.alloc(), Run::HomesLed, command, LATE));
+}
+
+#[test]
+fn release_taken_back_at_a_mirror(rt: HostRuntime) {
+    let command = "mirror classes recodes ptable people 0 - - 5000 1 1";
+    assert!(&rt; both_get_theirs(&rt, rt.alloc(), Run::TakenBack, command, LATE));
 }

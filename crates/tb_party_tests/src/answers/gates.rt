@@ -61,18 +61,45 @@ impl Gate for Flagged<'_> {
     }
 }
 
-// What the first caller gets, whose cube is built at release 3, and what the others get. Release 4
-// has another threshold and pvalue: the first table is shown by the rules of its own release.
-const FIRST: &[u8] = b"release 3\nSEX,count\n1,1\n2,2\n.\nrelease 4\nSEX,count\n1,8\n2,c\n.\n";
+// What the first caller asks twice, and what it gets, whose cube is built at release 3; what the
+// custodian publishes meanwhile, and what it and the other caller get.
+struct Talk {
+    line: &'static str,
+    first: &'static [u8],
+    edits: &'static str,
+    others: &'static [u8],
+}
 
-const OTHERS: &[u8] = b"held 1\nheld 2\nheld 3\npublished 4\nrelease 4\nSEX,count\n1,8\n2,c\n.\n\
-    stats release 4 looks 3 hits 1 entries 1 capacity 64\n";
+static TALKS: [Talk; 2] = [
+    // Release 4 has another threshold and pvalue: the first table is shown by the rules of its own
+    // release.
+    Talk {
+        line: "table SEX",
+        first: b"release 3\nSEX,count\n1,1\n2,2\n.\nrelease 4\nSEX,count\n1,8\n2,c\n.\n",
+        edits: "threshold 1\ndrop 104\npvalue 3 64 5\npublish",
+        others: b"held 1\nheld 2\nheld 3\npublished 4\nrelease 4\nSEX,count\n1,8\n2,c\n.\n\
+            stats release 4 looks 3 hits 1 entries 1 capacity 64\n",
+    },
+    // Release 4 takes back those before it: the first table goes by what was seen before.
+    Talk {
+        line: "at 3 table SEX",
+        first: b"release 3\nSEX,count\n1,1\n2,2\n.\nrefused 11 Withdrawn 4\n",
+        edits: "oldest 4\npublish",
+        others: b"held 1\npublished 4\nrelease 4\nSEX,count\n1,1\n2,2\n.\n\
+            stats release 4 looks 3 hits 1 entries 1 capacity 64\n",
+    },
+];
+
+fn talks() -> &'static [Talk] {
+    &TALKS
+}
 
 // The first caller asks, and waits at the gate; then it asks again, and isn't there again.
 fn ask_twice<B: Named, R: Threads + Wait + Sync>(
     setting: &Setting<'_, B, R>,
     party: &mut Party,
     flags: &Flags,
+    talk: &Talk,
     sink: &mut MemSink,
 ) -> bool
     requires own { IsPartyOf B.name (shape_of setting.now.setup.now.schema) party.old }
@@ -82,10 +109,10 @@ fn ask_twice<B: Named, R: Threads + Wait + Sync>(
         times: 0,
         late: false,
     };
-    let lines = "table SEX\ntable SEX";
-    let all = ask_all(setting, party, lines, sink, &mut gate);
+    let once = ask_all(setting, party, talk.line, sink, &mut gate);
+    let again = ask_all(setting, party, talk.line, sink, &mut gate);
     flags.answered.store(true, Ordering::SeqCst);
-    all && gate.times == 1 && !gate.late
+    once && again && gate.times == 1 && !gate.late
 }
 
 // Whether the first caller gets its replies so.
@@ -93,12 +120,13 @@ fn ask_first<B: Named, R: Threads + Wait + Sync + Eprint>(
     setting: &Setting<'_, B, R>,
     mut party: Party,
     flags: &Flags,
+    talk: &Talk,
 ) -> Option<bool>
     requires own { IsPartyOf B.name (shape_of setting.now.setup.now.schema) party }
 {
     let mut sink = MemSink::new(setting.alloc, 200).ok()?;
-    let right = ask_twice(setting, &mut party, flags, &mut sink);
-    Some(is_text(setting.rt, sink.taken(), FIRST) && right)
+    let right = ask_twice(setting, &mut party, flags, talk, &mut sink);
+    Some(is_text(setting.rt, sink.taken(), talk.first) && right)
 }
 
 // The custodian publishes and another caller is answered before the first may go on; in the end
@@ -108,14 +136,14 @@ fn publish_and_ask<B: Named, R: Threads + Wait + Sync>(
     own: &mut Party,
     party: &mut Party,
     flags: &Flags,
+    talk: &Talk,
     sink: &mut MemSink,
 ) -> bool
     requires own { IsPartyOf B.name (shape_of setting.now.setup.now.schema) own.old }
     requires party { IsPartyOf B.name (shape_of setting.now.setup.now.schema) party.old }
 {
     let there = waits_for(&flags.there);
-    let edits = "threshold 1\ndrop 104\npvalue 3 64 5\npublish";
-    let published = ask_all(setting, own, edits, sink, &mut Open);
+    let published = ask_all(setting, own, talk.edits, sink, &mut Open);
     let asked = ask_all(setting, party, "table SEX", sink, &mut Open);
     flags.open.store(true, Ordering::SeqCst);
     let answered = waits_for(&flags.answered);
@@ -129,13 +157,14 @@ fn go_on<B: Named, R: Threads + Wait + Sync + Eprint>(
     mut own: Party,
     mut party: Party,
     flags: &Flags,
+    talk: &Talk,
 ) -> Option<bool>
     requires own { IsPartyOf B.name (shape_of setting.now.setup.now.schema) own }
     requires party { IsPartyOf B.name (shape_of setting.now.setup.now.schema) party }
 {
     let mut sink = MemSink::new(setting.alloc, 400).ok()?;
-    let right = publish_and_ask(setting, &mut own, &mut party, flags, &mut sink);
-    Some(is_text(setting.rt, sink.taken(), OTHERS) && right)
+    let right = publish_and_ask(setting, &mut own, &mut party, flags, talk, &mut sink);
+    Some(is_text(setting.rt, sink.taken(), talk.others) && right)
 }
 
 // Whether the custodian publishes three releases.
@@ -158,6 +187,7 @@ fn are_answered<B: Named + Send + Sync, R: Threads + Wait + Sync + Eprint>(
     own: Party,
     one: Party,
     two: Party,
+    talk: &Talk,
 ) -> bool
     requires own { IsPartyOf B.name (shape_of setting.now.setup.now.schema) own }
     requires one { IsPartyOf B.name (shape_of setting.now.setup.now.schema) one }
@@ -172,11 +202,11 @@ fn are_answered<B: Named + Send + Sync, R: Threads + Wait + Sync + Eprint>(
         setting.rt,
         || -> Option<bool>
             requires { IsPartyOf B.name (shape_of setting.now.setup.now.schema) one }
-        { ask_first(setting, one, &flags) },
+        { ask_first(setting, one, &flags, talk) },
         || -> Option<bool>
             requires { IsPartyOf B.name (shape_of setting.now.setup.now.schema) own
                 × IsPartyOf B.name (shape_of setting.now.setup.now.schema) two }
-        { go_on(setting, own, two, &flags) },
+        { go_on(setting, own, two, &flags, talk) },
     );
     first == Some(true) && others == Some(true)
 }
@@ -187,6 +217,7 @@ fn beside<B: Named + Send + Sync, R: Threads + Wait + Sync + Eprint>(
     alloc: Global,
     setup: &Setup,
     opening: Opening,
+    talk: &Talk,
 ) -> bool
     requires name { opening.name ≡ B.name }
     requires shape { opening.start.shape ≡ shape_of setup.now.schema }
@@ -202,28 +233,32 @@ fn beside<B: Named + Send + Sync, R: Threads + Wait + Sync + Eprint>(
         alloc,
     };
     let published = publish_three(&setting, &mut own);
-    are_answered(&setting, own, one, two) && published == Some(true)
+    are_answered(&setting, own, one, two, talk) && published == Some(true)
 }
 
 fn beside_over<R: Threads + Wait + Sync + Eprint>(
     rt: &R,
     alloc: Global,
     setup: &Setup,
+    talk: &Talk,
 ) -> Result<bool, Memory> {
     let opening = opening(alloc, setup)?;
-    Ok(beside::<Brand, R>(rt, alloc, setup, opening))
+    Ok(beside::<Brand, R>(rt, alloc, setup, opening, talk))
 }
 
 fn beside_over_small<R: Threads + Wait + Sync + Eprint>(
     rt: &R,
     alloc: Global,
+    talk: &Talk,
 ) -> Result<bool, Memory> {
     let setup = setup(alloc)?;
-    beside_over(rt, alloc, &setup)
+    beside_over(rt, alloc, &setup, talk)
 }
 
 #[test]
 fn cube_is_built_outside_the_lock(rt: HostRuntime) -> Result<(), Fail> {
-    assert!(rt; beside_over_small(&rt, rt.alloc())?);
+    for (i, talk) in talks().iter().enumerate() {
+        assert!(&rt; beside_over_small(&rt, rt.alloc(), talk)?, "at {i}");
+    }
     Ok(())
 }

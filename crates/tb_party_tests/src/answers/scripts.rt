@@ -25,7 +25,7 @@ struct Row {
     replies: &'static [u8],
 }
 
-static ROWS: [Row; 7] = [
+static ROWS: [Row; 10] = [
     Row {
         name: "cache_and_price",
         script: b"custodian cache 1\na table SEX\na table AREA\na table AREA\ncustodian drop 104\n\
@@ -72,6 +72,46 @@ static ROWS: [Row; 7] = [
             refused 2 Syntax 1\nrefused 2 Syntax 1\nrefused 2 Syntax 1\nrefused 2 Syntax 1\n\
             refused 2 Syntax 1\nrefused 2 Syntax 1\n\
             stats release 0 looks 2 hits 0 entries 1 capacity 64\n",
+    },
+    // What a threshold came too late for is taken back; what was printed is another matter.
+    Row {
+        name: "releases_taken_back",
+        script: b"custodian threshold 2\ncustodian publish\na at 0 table SEX\ncustodian oldest 1\n\
+            custodian publish\na at 0 table SEX\na at 1 table SEX\ncustodian oldest 0\n\
+            custodian publish\ncustodian oldest 9\ncustodian publish\n",
+        replies: b"held 1\npublished 1\nrelease 0\nSEX,count\n1,1\n2,2\n.\nheld 1\npublished 2\n\
+            refused 11 Withdrawn 1\nrelease 1\nSEX,count\n1,c\n2,2\n.\n\
+            held 1\nrefused batch 1 6 BadRelease\nheld 1\nrefused batch 1 6 BadRelease\n",
+    },
+    // Each edit goes by those before it in its batch. The faults of the query come first, then that
+    // there is no such release; whoever asks is refused, and whatever it has seen; the look counts,
+    // and no cube is made.
+    Row {
+        name: "taken_back_among_other_edits",
+        script: b"a at 0 table SEX\ncustodian drop 104\ncustodian oldest 1\ncustodian oldest 0\n\
+            custodian publish\ncustodian at 0 table SEX\ncustodian oldest 1\n\
+            custodian drop 104\ncustodian oldest 1\ncustodian publish\na at 0 table SEX\n\
+            b at 0 table SEX\ncustodian at 0 table SEX\na at 0 table FOO\na at 2 table SEX\n\
+            a at 1 table SEX\ncustodian stats\n",
+        replies: b"release 0\nSEX,count\n1,1\n2,2\n.\nheld 1\nheld 2\nheld 3\n\
+            refused batch 3 6 BadRelease\nrelease 0\nSEX,count\n1,1\n2,2\n.\n\
+            held 1\nheld 2\nheld 3\npublished 1\nrefused 11 Withdrawn 1\n\
+            refused 11 Withdrawn 1\nrefused 11 Withdrawn 1\nrefused 3 UnknownName 2\n\
+            refused 10 NoSuchRelease 1\nrelease 1\nSEX,count\n1,1\n2,0\n.\n\
+            stats release 1 looks 7 hits 6 entries 1 capacity 64\n",
+    },
+    // All up to the next release may be, and none beyond it; and the first edit that can't be made
+    // tells why.
+    Row {
+        name: "taken_back_to_the_next_release",
+        script: b"custodian oldest 2\ncustodian drop 999\ncustodian publish\n\
+            custodian drop 999\ncustodian oldest 2\ncustodian publish\ncustodian oldest 0\n\
+            custodian publish\ncustodian oldest 2\ncustodian publish\na at 1 table SEX\n\
+            a table SEX\na at 2 table SEX\n",
+        replies: b"held 1\nheld 2\nrefused batch 1 6 BadRelease\nheld 1\nheld 2\n\
+            refused batch 1 2 NoSuchPerson\nheld 1\npublished 1\nheld 1\npublished 2\n\
+            refused 11 Withdrawn 2\nrelease 2\nSEX,count\n1,1\n2,2\n.\n\
+            release 2\nSEX,count\n1,1\n2,2\n.\n",
     },
     Row {
         name: "what_can_be_asked",

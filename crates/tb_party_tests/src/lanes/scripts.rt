@@ -19,7 +19,7 @@ struct Row {
     text: &'static [u8],
 }
 
-static ROWS: [Row; 8] = [
+static ROWS: [Row; 9] = [
     Row {
         name: "no_line_at_all",
         script: b"",
@@ -70,6 +70,15 @@ static ROWS: [Row; 8] = [
             2,2\n.\nlane b\nrelease 0\nSEX,count\n1,1\n2,2\n.\nphase 2\nlane custodian\n\
             release 0\nSEX,count\n1,1\n2,2\n.\nlane a\nrelease 1\nSEX,count\n1,1\n2,0\n.\n\
             lane b\nrelease 0\nSEX,count\n1,1\n2,2\n.\nrefused 10 NoSuchRelease 1\n",
+    },
+    // A lane that was answered before, and one that wasn't.
+    Row {
+        name: "taken_back",
+        script: b"a at 0 table SEX\n--\ncustodian oldest 1\ncustodian publish\n--\n\
+            a at 0 table SEX\nb at 0 table SEX\nb at 1 table SEX\n",
+        text: b"phase 1\nlane a\nrelease 0\nSEX,count\n1,1\n2,2\n.\nphase 2\nlane custodian\n\
+            held 1\npublished 1\nphase 3\nlane a\nrefused 11 Withdrawn 1\nlane b\n\
+            refused 11 Withdrawn 1\nrelease 1\nSEX,count\n1,1\n2,2\n.\n",
     },
 ];
 
