@@ -19,7 +19,7 @@ when it is whole and on the disk, so that a stop leaves what was there before.
 to which the batches lead from these files, and `left.csv`, the record keys of the persons who ever
 stood in the microdata and aren't in it any more. It prints the threshold that was set last, if one
 was. With these files, the same CLASSES and RECODES, and a new journal the chain of releases begins
-anew, with the same tables.
+anew, with the same tables, and no earlier release is there, whether it was taken back or not.
 
 A file that isn't a journal, a record that is bad and a batch that doesn't fit CLASSES, or can't be
 made, are told on the standard error, the last two with their number, and the status is 1: `print`
@@ -63,6 +63,7 @@ __all__ = [
     "Error",
     "Last",
     "NotJournal",
+    "Oldest",
     "Pvalue",
     "Reader",
     "Threshold",
@@ -161,7 +162,14 @@ class Threshold:
     threshold: int
 
 
-Edit = Union[Add, Drop, Amend, Pvalue, Threshold]
+@dataclass(frozen=True)
+class Oldest:
+    """The releases before this one are taken back."""
+
+    release: int
+
+
+Edit = Union[Add, Drop, Amend, Pvalue, Threshold, Oldest]
 
 
 # ---- the records of a journal
@@ -281,6 +289,8 @@ def _edit(fields: _Fields) -> Edit:
         return Pvalue(*fields.take("HHh"))
     if kind == 5:
         return Threshold(*fields.take("I"))
+    if kind == 6:
+        return Oldest(*fields.take("I"))
     raise ValueError(f"it has an edit of kind {kind}")
 
 
@@ -402,6 +412,8 @@ def _line(edit: Edit, classes: Classes) -> str:
         if not -edit.row <= edit.pvalue <= LARGEST_PVALUE:
             raise ValueError(f"a pvalue of row {edit.row} is {edit.pvalue}")
         return f"pvalue {edit.row} {_key(edit.cell_key, classes)} {edit.pvalue}"
+    if isinstance(edit, Oldest):
+        return f"oldest {edit.release}"
     if edit.threshold > LARGEST_THRESHOLD:
         raise ValueError(f"a threshold is {edit.threshold}")
     return f"threshold {edit.threshold}"
@@ -472,12 +484,14 @@ def _sync_folder(folder: str) -> None:
 
 class Last(NamedTuple):
     """What a release has: the record key and the codes of each person, the record keys of those who
-    left, the pvalue of each row and cell key, and the threshold that was set last, if one was."""
+    left, the pvalue of each row and cell key, the threshold that was set last, if one was, and the
+    number of the oldest release that wasn't taken back."""
 
     people: dict[int, tuple[int, list[str]]]
     left: dict[int, int]
     pvalues: dict[tuple[int, int], int]
     threshold: Optional[int]
+    oldest: int
 
 
 def last(classes: Classes, ptable: str, people: str, path: str) -> Last:
@@ -492,12 +506,12 @@ def last(classes: Classes, ptable: str, people: str, path: str) -> Last:
         Where a file lacks a column or has one twice, a record has not as many fields as the header,
         or a number isn't one. What else the program refuses isn't looked for.
     """
-    release = Last(_persons(people, classes), {}, _pvalues(ptable), None)
+    release = Last(_persons(people, classes), {}, _pvalues(ptable), None, 0)
     for number, edits in enumerate(batches(path), 1):
         lines(number, edits, classes)
         try:
             for edit in edits:
-                release = _edited(release, edit, classes)
+                release = _edited(release, edit, classes, number)
         except ValueError as fault:
             raise DoesNotFit(number, str(fault)) from fault
     return release
@@ -520,10 +534,15 @@ def _pvalues(path: str) -> dict[tuple[int, int], int]:
         raise BadFile(path, str(fault)) from fault
 
 
-def _edited(release: Last, edit: Edit, classes: Classes) -> Last:
-    """The release after an edit that fits. ValueError where it can't be made."""
+def _edited(release: Last, edit: Edit, classes: Classes, number: int) -> Last:
+    """The release after an edit that fits, in the batch of that number. ValueError where it can't be
+    made."""
     if isinstance(edit, Threshold):
         return release._replace(threshold=edit.threshold)
+    if isinstance(edit, Oldest):
+        if not release.oldest <= edit.release <= number:
+            raise ValueError(f"the oldest release is {release.oldest} to {number}, not {edit.release}")
+        return release._replace(oldest=edit.release)
     if isinstance(edit, Pvalue):
         release.pvalues[edit.row, edit.cell_key] = edit.pvalue
         return release

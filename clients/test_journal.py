@@ -14,7 +14,7 @@ import threading
 import unittest
 
 import journal
-from journal import Add, Amend, BadRecord, Drop, NotJournal, Pvalue, Threshold
+from journal import Add, Amend, BadRecord, Drop, NotJournal, Oldest, Pvalue, Threshold
 
 SMALL = os.path.join(os.path.dirname(os.path.abspath(__file__)), "../examples/small")
 PROGRAM = os.environ.get("TABLEBUILDER_PROGRAM")
@@ -41,6 +41,8 @@ KINDS = [
     ("04 02ee 0000 fd12", Pvalue(750, 0, -750), "pvalue 750 0 -750"),
     ("05 00000003", Threshold(3), "threshold 3"),
     ("05 000f4240", Threshold(1_000_000), "threshold 1000000"),
+    ("06 00000000", Oldest(0), "oldest 0"),
+    ("06 ffffffff", Oldest(4294967295), "oldest 4294967295"),
 ]
 # Edits that the format has and no line of the custodian says, and what is told of each.
 UNFIT = [
@@ -71,7 +73,7 @@ BAD_PAYLOADS = [
     ("", "an edit is cut off"),
     ("00000001", "an edit is cut off"),
     ("00000001 00 00000068", "it has an edit of kind 0"),
-    ("00000001 06 00000068", "it has an edit of kind 6"),
+    ("00000001 07 00000068", "it has an edit of kind 7"),
     ("00000002 02 00000068", "an edit is cut off"),
     ("00000001 02 00000068 02 00000067", "bytes stand behind its last edit"),
     ("00000001 01 000000c8 0009 0002 0000 0001 0002", "bytes stand behind its last edit"),
@@ -447,12 +449,22 @@ class TheLastRelease(Files):
         self.assertEqual(self.read("last/left.csv"), b"person,record_key\n")
         self.assertIn(b"104,7,1,16-64,E1\n", self.read("last/people.csv"))
 
+    def test_releases_that_were_taken_back(self):
+        back = payload_of("06 00000001"), payload_of("06 00000001", "06 00000002")
+        done, _ = self.last(journal_of(*back))
+        self.assertEqual(done, (0, "", ""))
+        done, path = self.last(journal_of(*back, payload_of("06 00000001")))
+        self.assertEqual(
+            done, (1, "", f"{path}: record 3: the oldest release is 2 to 3, not 1\n")
+        )
+
     def test_edits_that_can_not_be_made(self):
         for code, why in [
             ("02 000003e7", "there is no person 999"),
             ("03 000003e7 0001 0000 0000", "there is no person 999"),
             ("01 00000068 0007 0003 0000 0001 0000", "person 104 is there already"),
             ("02 00000000", "a person is 0"),
+            ("06 00000002", "the oldest release is 0 to 1, not 2"),
         ]:
             with self.subTest(code):
                 done, path = self.last(journal_of(payload_of("02 00000067", code)))

@@ -42,8 +42,25 @@ _BATCH = {
     "KeyChanged": "it adds a person who once had another key",
     "TooMany": "there would be too many records, releases or edits",
     "Nothing": "no edit is held",
+    "BadRelease": "releases are taken back up to the next one at most, and none comes back",
 }
-_OWN_WORDS = ("add", "amend", "drop", "pvalue", "threshold", "publish", "stats", "clear", "cache")
+_OWN_WORDS = (
+    "add",
+    "amend",
+    "drop",
+    "pvalue",
+    "threshold",
+    "oldest",
+    "publish",
+    "stats",
+    "clear",
+    "cache",
+)
+# Of these the number behind the word is that of a release, and no place in the line.
+_RELEASE = {
+    "NoSuchRelease": "the last release is {}",
+    "Withdrawn": "the release was taken back: the oldest one that is shown is {}",
+}
 # How much of a long line is shown.
 _WIDTH = 76
 
@@ -71,7 +88,8 @@ class Refused(Error):
         The fault's word, such as ``UnknownName``.
     position : int or None
         Of a query: the token at fault, from 1, or the byte for ``NotText``; for ``NoSuchRelease``
-        the number of the last release. None where the fault has no place, and for edits.
+        the number of the last release, and for ``Withdrawn`` that of the oldest one that is shown.
+        None where the fault has no place, and for edits.
     edit : int or None
         Of `Session.publish`: the edit that can't be made, from 1; 0 where it is for all of them
         together. None for queries and for an edit's own line.
@@ -117,8 +135,8 @@ class Refused(Error):
             return _BATCH.get(self.word)
         if self._is_of_edit():
             return _EDIT[self.word]
-        if self.word == "NoSuchRelease":
-            return f"the last release is {self.position}"
+        if self.word in _RELEASE:
+            return _RELEASE[self.word].format(self.position)
         if self.word == "Syntax":
             return self._why_syntax()
         return _QUERY.get(self.word)
@@ -133,7 +151,7 @@ class Refused(Error):
 
     def _span(self) -> tuple[int, int]:
         """Where in the line the fault is, and how many characters it has, or 0."""
-        if self.position is None or self.edit is not None or self.word == "NoSuchRelease":
+        if self.position is None or self.edit is not None or self.word in _RELEASE:
             return 0, 0
         start = query_start(self.line)
         if self.word == "NotText":

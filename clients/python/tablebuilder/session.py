@@ -162,7 +162,8 @@ class Session:
         at : int, optional
             The number of the release over which to count; None counts over the current one. Where
             there is no such release, `Refused` has the word ``NoSuchRelease`` and as its position
-            the number of the last one.
+            the number of the last one; where it was taken back, the word ``Withdrawn`` and as its
+            position the number of the oldest one that is shown.
         dwellings : bool
             Whether to count dwellings in place of persons. A server that has none, and a line with
             ``at``, is `Refused` with the word ``Syntax``.
@@ -208,6 +209,14 @@ class Session:
     def set_threshold(self, threshold: int, /) -> int:
         """Holds an edit that sets the threshold, below which a perturbed count is hidden."""
         return self._held(f"threshold {threshold}")
+
+    def set_oldest(self, release: int, /) -> int:
+        """Holds an edit that takes back the releases before this one.
+
+        From the release on that `publish` makes, `table` with ``at`` refuses them. What was printed
+        of them stays printed, and none comes back.
+        """
+        return self._held(f"oldest {release}")
 
     def publish(self) -> int:
         """Makes the held edits the next release, all or none, and returns its number.

@@ -259,6 +259,11 @@ class Explanations(unittest.TestCase):
             "    at 7 table SEX",
         )
         self.assertTold(
+            Refused("at 0 table SEX", 11, "Withdrawn", 2),
+            "refused 11 Withdrawn 2: the release was taken back: the oldest one that is shown is 2",
+            "    at 0 table SEX",
+        )
+        self.assertTold(
             Refused("publish", 5, "Nothing", edit=0),
             "refused batch 0 5 Nothing: no edit is held",
             "    publish",
@@ -268,7 +273,7 @@ class Explanations(unittest.TestCase):
             "refused edit 2 BadNumber: a number is out of its range",
             "    drop 0",
         )
-        self.assertTold(Refused("table SEX", 11, "Later", 2), "refused 11 Later 2", *[
+        self.assertTold(Refused("table SEX", 12, "Later", 2), "refused 12 Later 2", *[
             "    table SEX",
             "          ^^^",
         ])

@@ -151,6 +151,7 @@ class Refusals(unittest.TestCase):
                 (lambda: session.set_pvalue(3, 64, -4), 2, "BadNumber"),
                 (lambda: session.set_pvalue(3, 256, 0), 2, "BadNumber"),
                 (lambda: session.set_threshold(1000001), 2, "BadNumber"),
+                (lambda: session.set_oldest(4294967296), 2, "BadNumber"),
             ]:
                 self.assertRefused(call, *fault)
 
@@ -253,6 +254,24 @@ class Custodians(unittest.TestCase):
                 other.table("SEX", at=release + 3)
             told = (caught.exception.number, caught.exception.word, caught.exception.position)
             self.assertEqual(told, (10, "NoSuchRelease", release + 2))
+
+    def test_a_release_that_is_taken_back(self):
+        with custodian() as session, analyst() as other:
+            release = session.stats().release
+            self.assertEqual(session.set_oldest(release + 1), 1)
+            self.assertEqual(other.table("SEX", at=release).counts, [1, 2])
+            self.assertEqual(session.publish(), release + 1)
+            with self.assertRaises(Refused) as caught:
+                other.table("SEX", at=release)
+            told = (caught.exception.number, caught.exception.word, caught.exception.position)
+            self.assertEqual(told, (11, "Withdrawn", release + 1))
+            table = other.table("SEX", at=release + 1)
+            self.assertEqual((table.release, table.counts), (release + 1, [1, 2]))
+            # None comes back.
+            session.set_oldest(release)
+            with self.assertRaises(Refused) as caught:
+                session.publish()
+            self.assertEqual((caught.exception.word, caught.exception.edit), ("BadRelease", 1))
 
     def test_kept_cubes(self):
         with custodian("NEW") as session, analyst("NEW") as other:

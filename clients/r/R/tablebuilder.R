@@ -24,10 +24,11 @@
 #
 #     tb_refused      the server refused the line, for its first fault. It has the `line`, the
 #                     fault's `number` and `word`, its `position` (of a query: the token, from 1, or
-#                     the byte for NotText; for NoSuchRelease the number of the last release; else
-#                     NA) and, of tb_publish, the `edit` that can't be made (from 1; 0 for all of
-#                     them together; else NA). Of a query that ends too early or goes on otherwise
-#                     than it may the message says what was expected there. The session goes on.
+#                     the byte for NotText; for NoSuchRelease the number of the last release, for
+#                     Withdrawn that of the oldest one that is shown; else NA) and, of tb_publish,
+#                     the `edit` that can't be made (from 1; 0 for all of them together; else NA).
+#                     Of a query that ends too early or goes on otherwise than it may the message
+#                     says what was expected there. The session goes on.
 #     tb_memory       the server had no memory for the reply. Nothing has changed, and the same may
 #                     be tried again.
 #     tb_cannot_describe
@@ -103,7 +104,8 @@ tb_codes <- function(session, name) {
 #'   "dwellings" and then has its filters and the rest in it.
 #' @param where The filters, as "AGE in (16-64, 65+) and SEX not in (1)".
 #' @param totals,labels Whether to add totals, and to give labels in place of a variable's codes.
-#' @param at The number of the release over which to count, else the current one.
+#' @param at The number of the release over which to count, else the current one. One that was taken
+#'   back is refused: Withdrawn.
 #' @param dwellings Whether to count dwellings in place of persons. A server that has none, and a line
 #'   with `at`, is refused for Syntax.
 #' @return A data frame, which prints its first places. It has a factor for each dimension, whose
@@ -196,6 +198,14 @@ tb_set_pvalue <- function(session, row, cell_key, pvalue) {
 #' Hold an edit that sets the threshold, below which a perturbed count is hidden.
 tb_set_threshold <- function(session, threshold) {
   tb_hold(session, c("threshold", tb_digits(threshold)))
+}
+
+#' Hold an edit that takes back the releases before this one.
+#'
+#' From the release on that tb_publish makes, tb_table with `at` refuses them. What was printed of
+#' them stays printed, and none comes back.
+tb_set_oldest <- function(session, release) {
+  tb_hold(session, c("oldest", tb_digits(release)))
 }
 
 #' Make the held edits the next release, all or none.

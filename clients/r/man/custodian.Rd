@@ -4,6 +4,7 @@
 \alias{tb_drop}
 \alias{tb_set_pvalue}
 \alias{tb_set_threshold}
+\alias{tb_set_oldest}
 \alias{tb_publish}
 \alias{tb_stats}
 \alias{tb_clear}
@@ -18,6 +19,7 @@ tb_amend(session, person, ...)
 tb_drop(session, person)
 tb_set_pvalue(session, row, cell_key, pvalue)
 tb_set_threshold(session, threshold)
+tb_set_oldest(session, release)
 tb_publish(session)
 tb_stats(session)
 tb_clear(session)
@@ -32,10 +34,13 @@ tb_cache(session, capacity)
 \item{row, cell_key, pvalue}{A row and a cell key of the perturbation table, and the pvalue there.
 It goes before the pvalue of the server's file from the release on that \code{tb_publish} makes.}
 \item{threshold}{Below which a perturbed count is hidden.}
+\item{release}{The releases before this one are taken back: from the release on that
+\code{tb_publish} makes, \code{\link{tb_table}} with \code{at} refuses them. What was printed of them
+stays printed, and none comes back.}
 \item{capacity}{How many cubes are kept at most, 1 to 256.}
 }
 \details{
-The first five hold an edit. \code{tb_publish} makes the held edits the next release, all or none.
+The first six hold an edit. \code{tb_publish} makes the held edits the next release, all or none.
 No edit is held after it, also where it is refused. After \code{tb_memory} and \code{tb_unkept} all
 are still held. \code{tb_clear} forgets the kept cubes; no table changes by it.
 }

@@ -12,9 +12,10 @@ What goes wrong is signalled as a condition that inherits from \code{tb_error}.
 \describe{
 \item{\code{tb_refused}}{The server refused the line, for its first fault. It has the \code{line},
 the fault's \code{number} and \code{word}, its \code{position} (of a query: the token, from 1, or
-the byte for \code{NotText}; for \code{NoSuchRelease} the number of the last release; else
-\code{NA}) and, of \code{tb_publish}, the \code{edit} that can't be made (from 1; 0 for all of them
-together; else \code{NA}). The session goes on.}
+the byte for \code{NotText}; for \code{NoSuchRelease} the number of the last release, for
+\code{Withdrawn} that of the oldest one that is shown; else \code{NA}) and, of \code{tb_publish}, the
+\code{edit} that can't be made (from 1; 0 for all of them together; else \code{NA}). The session goes
+on.}
 \item{\code{tb_cannot_describe}}{The server is of an earlier version, which tells nothing of what
 may be asked. It is a \code{tb_refused} too.}
 \item{\code{tb_memory}}{The server had no memory for the reply. Nothing has changed, and the same

@@ -16,7 +16,8 @@ tb_table(session, query, where = NULL, totals = FALSE, labels = FALSE, at = NULL
 \code{table} or \code{dwellings} and then has its filters and the rest in it.}
 \item{where}{The filters, as \code{"AGE in (16-64, 65+) and SEX not in (1)"}.}
 \item{totals, labels}{Whether to add totals, and to give labels in place of a variable's codes.}
-\item{at}{The number of the release over which to count, else the current one.}
+\item{at}{The number of the release over which to count, else the current one. One that was taken
+back is refused: \code{Withdrawn}.}
 \item{dwellings}{Whether to count dwellings in place of persons. A server that has none, and a line
 with \code{at}, is refused for Syntax.}
 \item{x}{A table.}

@@ -170,6 +170,7 @@ server_tests <- list(
     expect_refused(tb_set_pvalue(session, 3, 64, -4), 2, "BadNumber")
     expect_refused(tb_set_pvalue(session, 3, 256, 0), 2, "BadNumber")
     expect_refused(tb_set_threshold(session, 1000001), 2, "BadNumber")
+    expect_refused(tb_set_oldest(session, 4294967296), 2, "BadNumber")
     # As R prints numbers this is 1e+05.
     expect(tb_drop(session, 100000), 1)
     tb_close(session)
@@ -236,6 +237,24 @@ server_tests <- list(
       tb_table(other, "SEX", at = release + 3), 10, "NoSuchRelease",
       position = release + 2
     )
+    tb_close(session)
+    tb_close(other)
+  },
+  a_release_that_is_taken_back = function() {
+    session <- custodian()
+    other <- analyst()
+    release <- tb_stats(session)[["release"]]
+    expect(tb_set_oldest(session, release + 1), 1)
+    expect(tb_table(other, "SEX", at = release)$count, c(1L, 2L))
+    expect(tb_publish(session), release + 1)
+    expect_refused(
+      tb_table(other, "SEX", at = release), 11, "Withdrawn",
+      position = release + 1
+    )
+    expect(tb_table(other, "SEX", at = release + 1)$count, c(1L, 2L))
+    # None comes back.
+    tb_set_oldest(session, release)
+    expect_refused(tb_publish(session), 6, "BadRelease", edit = 1)
     tb_close(session)
     tb_close(other)
   },
