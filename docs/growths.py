@@ -190,6 +190,13 @@ a at 1 table AREA by SEX with totals
 a at 3 table SEX
 custodian at 0 table AREA by AGE by SEX
 custodian at 2 table SEX
+custodian oldest 2
+custodian oldest 1
+custodian publish
+custodian oldest 2
+custodian publish
+a at 1 table SEX
+a at 2 table SEX
 custodian stats
 """),
     "a batch beside a table": ("lanes", """
@@ -302,11 +309,13 @@ def rows_of(path):
 
 
 class Release(typing.NamedTuple):
-    """The persons of a release, the pvalues that were set, and its threshold."""
+    """The persons of a release, the pvalues that were set, its threshold, and the number of the
+    oldest release that it shows."""
 
     people: tuple
     pvalues: dict
     threshold: int
+    oldest: int
 
 
 class Model:
@@ -325,7 +334,7 @@ class Model:
         self.pvalues = {(int(row["pcv"]), int(row["ckey"])): int(row["pvalue"])
                         for row in rows_of(f"{folder}/ptable.csv")}
         people = tuple(tuple(sorted(row.items())) for row in rows_of(f"{folder}/people.csv"))
-        self.first = Release(people, {}, 0)
+        self.first = Release(people, {}, 0, 0)
         self.keys = {row["dwelling"]: int(row["dwelling_key"])
                      for row in rows_of(f"{folder}/dwellings.csv")}
         self.homes = {row["person"]: row["dwelling"] for row in rows_of(f"{folder}/links.csv")}
@@ -388,6 +397,8 @@ class Model:
         _, number, query = line.split(" ", 2)
         if int(number) > last:
             return f"refused 10 NoSuchRelease {last}\n"
+        if int(number) < chain[last].oldest:
+            return f"refused 11 Withdrawn {chain[last].oldest}\n"
         return self.table(int(number), chain[int(number)], query)
 
 
@@ -396,15 +407,18 @@ def keys_of(people):
     return {dict(one)["person"]: dict(one)["record_key"] for one in people}
 
 
-def edited(release, keys, edit):
-    """A release after an edit; None where it can't be made. Persons of earlier releases and edits
-    have these keys; a new person's key is put there."""
+def edited(release, keys, edit, number):
+    """A release after an edit, which is to have this number; None where it can't be made. Persons
+    of earlier releases and edits have these keys; a new person's key is put there."""
     word, *rest = edit.split()
     if word == "pvalue":
         row, key, pvalue = map(int, rest)
         return release._replace(pvalues=release.pvalues | {(row, key): pvalue})
     if word == "threshold":
         return release._replace(threshold=int(rest[0]))
+    if word == "oldest":
+        oldest = int(rest[0])
+        return release._replace(oldest=oldest) if release.oldest <= oldest <= number else None
     people = edited_people(release.people, keys, word, *rest)
     return None if people is None else release._replace(people=people)
 
@@ -465,7 +479,7 @@ class Custodian:
             return reply == "refused batch 0 5 Nothing\n"
         held, self.held = self.held, []
         for place, edit in enumerate(held, 1):
-            release = edited(release, keys, edit)
+            release = edited(release, keys, edit, len(self.chain))
             if release is None:
                 # (perhaps an edit before it found no memory, so this one doesn't follow)
                 return reply.startswith(f"refused batch {place} ")
@@ -485,7 +499,7 @@ class Keeper(Custodian):
     def follows(self):
         release, keys = self.chain[-1], dict(self.keys)
         for edit in self.held:
-            release = edited(release, keys, edit)
+            release = edited(release, keys, edit, len(self.chain))
             if release is None:
                 return False
         return bool(self.held)
@@ -530,7 +544,7 @@ class Follower(Custodian):
         """Applies the edits of the next message; whether they can be."""
         release, keys = self.chain[-1], dict(self.keys_at[-1])
         for edit in edits:
-            release = edited(release, keys, edit)
+            release = edited(release, keys, edit, len(self.chain))
             if release is None:
                 return False
         self.chain.append(release)
