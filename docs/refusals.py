@@ -260,6 +260,8 @@ JOURNALS = [
     (JOURNAL[:-1] + b"\1", "fault journal 2 BadRecord 2", f"journal, record 2: {BAD_RECORD}"),
     (JOURNAL[:-1] + RECORD + b"\0", "fault journal 3 DoesNotFollow 2", f"journal, record 2: {NOT_FOLLOWING}"),
     (JOURNAL.replace(b"\x68", b"\0"), "fault journal 3 DoesNotFollow 1", f"journal, record 1: {NOT_FOLLOWING}"),
+    (JOURNAL.replace(b"\2\0\0\0\x68", b"\6\0\0\0\2"), "fault journal 3 DoesNotFollow 1",
+     f"journal, record 1: {NOT_FOLLOWING}"),
 ]
 
 
