@@ -355,8 +355,10 @@ class Descriptions(unittest.TestCase):
 
 class Scripts(unittest.TestCase):
     def test_the_command_writes_what_the_server_writes(self):
+        with custodian() as session:
+            release = session.stats().release
         lines = b"table SEX\n\n# none\ntable AREA by AGE2 with totals with labels\r\ntable FOO\n"
-        lines += b"at 0 table SEX where AGE in (0-15,16-64)\nat 9999 table SEX\ntable SEX"
+        lines += b"at %d table SEX where AGE in (0-15,16-64)\nat 9999 table SEX\ntable SEX" % release
         address = ("127.0.0.1", port_of("TWO_WORKERS") + 1)
         with socket.create_connection(address, 60) as session, session.makefile("rb") as replies:
             session.sendall(lines)
