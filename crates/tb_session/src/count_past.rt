@@ -65,9 +65,9 @@ impl Past {
             (λ oldest. oldest ≡ oldest_of (base_in self.now) (chain_in self.now)) }
     {
         let last = self.last();
-        let release = &self.taken.release;
-        if release.number() == last {
-            return Ok(release.rules().oldest());
+        let number = self.taken.release.number();
+        if number == last {
+            return Ok(self.taken.release.rules().oldest());
         }
         let rules = rules_at(alloc, &self.chain.base, &self.chain.batches, last)?;
         Ok(rules.oldest())

@@ -13,7 +13,7 @@ pub returns-in-NoSuchRelease : goal.returns-in-NoSuchRelease
 returns-in-NoSuchRelease g c = written_as {w = c.write_number.result} (ap reply_text (sym c.in-NoSuchRelease.is)) c.write_number.ensures.written
 
 pub returns-in-Withdrawn : goal.returns-in-Withdrawn
-returns-in-Withdrawn g c = written_as {w = c.write_number-2.result} (ap reply_text (sym c.in-Withdrawn.is)) c.write_number-2.ensures.written
+returns-in-Withdrawn g c = written_as {w = c.write_number-in-Withdrawn.result} (ap reply_text (sym c.in-Withdrawn.is)) c.write_number-in-Withdrawn.ensures.written
 
 pub returns-in-EditRefused : goal.returns-in-EditRefused
 returns-in-EditRefused g c = written_as {w = c.write_fault.result} (ap reply_text (sym c.in-EditRefused.is)) c.write_fault.ensures.written
