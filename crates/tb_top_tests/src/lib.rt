@@ -1,6 +1,7 @@
-//! Tests of the top call over files and a sink in memory: worked runs and scripts, generated
-//! populations, scripts that a follower answers, tables of dwellings, files that are cut, readings
-//! and sinks that fail, tables of many places, arguments at each edge, and calls with ample memory.
+//! Tests of the top call over files and a sink in memory: worked runs and scripts, limits of
+//! persons, generated populations, scripts that a follower answers, tables of dwellings, files that
+//! are cut, readings and sinks that fail, tables of many places, arguments at each edge, and calls
+//! with ample memory.
 //!
 //! Begin at `runs.rt`; `running.rt` makes a run of a row. Tables of rows stand behind functions
 //! without a clause, so that no proof of a loop reads them.
@@ -20,6 +21,8 @@ mod follows;
 mod generated;
 #[cfg(test)]
 mod large;
+#[cfg(test)]
+mod limits;
 #[cfg(test)]
 mod memory;
 #[cfg(test)]

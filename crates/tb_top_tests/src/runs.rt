@@ -8,7 +8,7 @@ use std::thread::Threads;
 use tb_base::Memory;
 use tb_small::{CLASSES, PEOPLE, PTABLE, WIDE_CLASSES};
 
-const SEX: &[u8] = b"release 0\nSEX,count\n1,1\n2,2\n.\n";
+pub const SEX: &[u8] = b"release 0\nSEX,count\n1,1\n2,2\n.\n";
 
 const USAGE: &[u8] = b"fault usage\n";
 
@@ -38,30 +38,7 @@ const WITH_KEY_24: &[u8] = b"pcv,ckey,pvalue\n3,64,-2\n1,7,1\n4,71,2\n3,127,3\n2
 const WIDE_PEOPLE: &[u8] = b"person,record_key,SEX,AGE,AREA\n101,4000,1,0-15,E1\n\
     102,100,1,16-64,E1\n103,20,1,65+,E2\n104,7,2,16-64,E2\n";
 
-// The small classification with a limit of persons, before it or behind its categories.
-const FOR_THREE: &[u8] =
-    b"variable,code,label\n*,persons,3\nSEX,1,Male\nSEX,2,Female\nAGE,0-15,Under 16\n\
-    AGE,16-64,Working age\nAGE,65+,65 and over\nAREA,E1,\"North, rural\"\nAREA,E2,South\n";
-
-const FOR_FOUR: &[u8] =
-    b"variable,code,label\n*,persons,4\nSEX,1,Male\nSEX,2,Female\nAGE,0-15,Under 16\n\
-    AGE,16-64,Working age\nAGE,65+,65 and over\nAREA,E1,\"North, rural\"\nAREA,E2,South\n";
-
-const FOR_FOUR_OF_256: &[u8] =
-    b"variable,code,label\n*,keys,256\n*,persons,4\nSEX,1,Male\nSEX,2,Female\nAGE,0-15,Under 16\n\
-    AGE,16-64,Working age\nAGE,65+,65 and over\nAREA,E1,\"North, rural\"\nAREA,E2,South\n";
-
-const FOR_FOUR_AT_LAST: &[u8] =
-    b"variable,code,label\nSEX,1,Male\nSEX,2,Female\nAGE,0-15,Under 16\n\
-    AGE,16-64,Working age\nAGE,65+,65 and over\nAREA,E1,\"North, rural\"\nAREA,E2,South\n*,persons,4\n";
-
-// A person more than four is refused, and taken once another has gone.
-const ONE_MORE: &[u8] = b"custodian add 105 1 SEX=1 AGE=65+ AREA=E1\ncustodian publish\n\
-    custodian drop 104\ncustodian add 105 1 SEX=1 AGE=65+ AREA=E1\ncustodian publish\n";
-
-const AT_THE_LIMIT: &[u8] = b"held 1\nrefused batch 1 4 TooMany\nheld 1\nheld 2\npublished 1\n";
-
-static RUNS: [Over; 45] = [
+static RUNS: [Over; 39] = [
     ("one_variable", WITHOUT_RECODES, &[], 0, SEX),
     ("one_variable", WITH_RECODES, &[], 0, SEX),
     (
@@ -268,55 +245,6 @@ static RUNS: [Over; 45] = [
         )],
         3,
         b"fault classes 13 BadKeys 1\n",
-    ),
-    (
-        "limit_of_the_classification",
-        WITHOUT_RECODES,
-        &[("classes", FOR_THREE)],
-        5,
-        b"fault people 7 TooMany 4\n",
-    ),
-    (
-        "limit_of_the_classification",
-        WITHOUT_RECODES,
-        &[("classes", FOR_FOUR)],
-        0,
-        SEX,
-    ),
-    (
-        "limit_of_the_classification",
-        WITHOUT_RECODES,
-        &[("classes", FOR_FOUR), ("script", ONE_MORE)],
-        0,
-        AT_THE_LIMIT,
-    ),
-    (
-        "limit_of_the_classification",
-        WITHOUT_RECODES,
-        &[("classes", FOR_FOUR_OF_256), ("script", ONE_MORE)],
-        0,
-        AT_THE_LIMIT,
-    ),
-    (
-        "limit_of_the_classification",
-        WITHOUT_RECODES,
-        &[("classes", FOR_FOUR_AT_LAST)],
-        3,
-        b"fault classes 14 BadPersons 8\n",
-    ),
-    (
-        "limit_of_the_classification",
-        "units classes - ptable people 0 dwellings links script",
-        &[
-            ("classes", FOR_FOUR),
-            (
-                "dwellings",
-                b"dwelling,dwelling_key\n1,50\n2,60\n3,1\n4,1\n5,1\n",
-            ),
-            ("links", b"person,dwelling\n"),
-        ],
-        13,
-        b"fault dwellings 9 TooMany 5\n",
     ),
     (
         "a_threshold_above_all_counts",
