@@ -68,18 +68,20 @@ const NOT_JOURNAL: &[u8] = b"fault journal 1 NotJournal 0\n";
 
 const BAD_RECORD: &[u8] = b"fault journal 2 BadRecord 1\n";
 
+const NOT_FOLLOWING: &[u8] = b"fault journal 3 DoesNotFollow 1\n";
+
 // Up to which place of the journal of one batch, and how the text of a run begins where a byte
-// there is another: one of two ways.
+// there is another: one of two ways. By another kind of the edit there is a third.
 static CHANGES: [(usize, &[u8], &[u8]); 6] = [
     (7, NOT_JOURNAL, NOT_JOURNAL),
     // The gate is closed.
     (8, BEFORE, BEFORE),
     // The length of the payload, and the number of edits.
     (16, BAD_RECORD, BAD_RECORD),
-    // The kind of the edit: a threshold is as long as a drop.
+    // The kind of the edit: a threshold is as long as a drop, and so is an oldest release.
     (17, BAD_RECORD, b"release 1\nSEX,count\n1,c\n2,c\n.\n"),
     // The person: another, or none.
-    (21, b"fault journal 3 DoesNotFollow 1\n", b"release 1\n"),
+    (21, NOT_FOLLOWING, b"release 1\n"),
     // The gate behind the record: closed, or open.
     (
         22,
@@ -92,8 +94,12 @@ fn changes() -> &'static [(usize, &'static [u8], &'static [u8])] {
     &CHANGES
 }
 
-// How a text may begin where the byte at this place is another.
-fn beginnings(place: usize) -> (&'static [u8], &'static [u8]) {
+// How a text may begin where the byte at this place is this one: by the kind of an oldest release
+// more releases would be taken back than there are.
+fn beginnings(place: usize, byte: u8) -> (&'static [u8], &'static [u8]) {
+    if place == 17 && byte == 6 {
+        return (NOT_FOLLOWING, NOT_FOLLOWING);
+    }
     match changes().iter().find(|change| place <= change.0) {
         Some((_, one, other)) => (*one, *other),
         None => (b"-", b"-"),
@@ -129,7 +135,7 @@ fn ends_by<R: Threads + Wait + Sync>(
 ) -> Result<bool, Memory> {
     let file = changed(alloc, place, byte)?;
     let left = keep(rt, alloc, file.as_slice(), &[], SEX)?;
-    let (one, other) = beginnings(place);
+    let (one, other) = beginnings(place, byte);
     Ok(told_so(&left, one, other))
 }
 
