@@ -19,7 +19,8 @@ const FOR_FOUR_OF_256: &[u8] =
 
 const FOR_FOUR_AT_LAST: &[u8] =
     b"variable,code,label\nSEX,1,Male\nSEX,2,Female\nAGE,0-15,Under 16\n\
-    AGE,16-64,Working age\nAGE,65+,65 and over\nAREA,E1,\"North, rural\"\nAREA,E2,South\n*,persons,4\n";
+    AGE,16-64,Working age\nAGE,65+,65 and over\nAREA,E1,\"North, rural\"\nAREA,E2,South\n\
+    *,persons,4\n";
 
 // A person more than four is refused, and taken once another has gone.
 const ONE_MORE: &[u8] = b"custodian add 105 1 SEX=1 AGE=65+ AREA=E1\ncustodian publish\n\
