@@ -14,6 +14,7 @@ use Rattle.tb_host.specs.Endings.{disk_line}
 use Rattle.tb_host.specs.Sessions.{AreHostedFrom, IsLeftAt}
 use Rattle.tb_release.specs.declared.edits.Edit.{Edit}
 use Rattle.tb_serve.specs.Each.{Each}
+use Rattle.tb_serve.specs.Places.{door_number}
 use Rattle.tb_serve.specs.Ports.{PortValue}
 use Rattle.tb_serve.specs.Serves.{IsEnded, IsOutOfMemory, IsUnbound, Output}
 
@@ -36,8 +37,8 @@ pub record HostsAll (setup : SetupValue) (base : ReleaseValue) (first most : ℕ
   pub first_faults : ℕ
   pub since : saw.faults ≤ first_faults
   pub until : StandsAsBeforeUntil first_moment saw
-  pub hosted : AreHostedFrom (after_playing base batches first_moment first_faults) setup base most
-      before after saw out ended
+  pub hosted : AreHostedFrom (after_playing base batches first_moment first_faults) setup base first
+      most before after saw out ended
   pub bound : Each (λ i _. IsLeftAt first i) before after
 
 -- What a call wrote and did that ended by its last line: memory was refused, and the file is left
@@ -46,10 +47,10 @@ pub record HostsAll (setup : SetupValue) (base : ReleaseValue) (first most : ℕ
 abbrev pub HostsUntil : SetupValue → ReleaseValue → ℕ → ℕ → List PortValue → List PortValue
     → JournalSeen → Output → Status → Type 0
 HostsUntil setup base first most before after saw out ended =
-    IsOutOfMemory first before after out ended × IsAsItWas saw
+    IsOutOfMemory (door_number first) before after out ended × IsAsItWas saw
     ⊎ ((after ≡ before) × HasRisen saw.faults saw.faults_after × StandsAsBefore saw
     × IsEnded disk_line status.DiskFault out ended
-    ⊎ (IsUnbound first before after out ended × IsRecovered setup base saw
+    ⊎ (IsUnbound (door_number first) before after out ended × IsRecovered setup base saw
     ⊎ HostsAll setup base first most before after saw out ended))
 
 -- What a call did with its ports, each of which is to serve so many sessions, and with the

@@ -1,5 +1,5 @@
 -- The sessions of a server that keeps a journal, and what a stop after them may leave of its file.
-use Rattle.std.specs.Prelude.{◌≡◌, ℕ, zero, suc, ◌+◌, List, Bool, false, None, Some, is_none}
+use Rattle.std.specs.Prelude.{◌≡◌, ℕ, zero, suc, List, Bool, false, None, Some, is_none}
 use Rattle.std.specs.Prelude.{length}
 use Rattle.tb_ahead.specs.Keepers.{KeeperValue, Reaches}
 use Rattle.tb_ahead.specs.Keeping.{KeptState}
@@ -16,6 +16,7 @@ use Rattle.tb_model.specs.Releases.{ReleaseValue}
 use Rattle.tb_model.specs.Setups.{SetupValue}
 use Rattle.tb_host.specs.Endings.{IsHostReported}
 use Rattle.tb_serve.specs.Each.{Each}
+use Rattle.tb_serve.specs.Places.{door_number}
 use Rattle.tb_serve.specs.Ports.{PortValue}
 use Rattle.tb_serve.specs.Serves.{HasServed, IsVisited, Output}
 
@@ -49,7 +50,8 @@ HostsFrom Continues live faults standing setup most old new before after =
 -- a stop now may leave stands for the batches to which its sessions led, whose chain the custodian
 -- has, and at most one further batch; and what a stop since then may have left, for a beginning of
 -- them that has all that he had then.
-pub record AreHostedFrom (first : KeptState) (setup : SetupValue) (base : ReleaseValue) (most : ℕ)
+pub record AreHostedFrom (first : KeptState) (setup : SetupValue) (base : ReleaseValue)
+    (port most : ℕ)
     (before after : List PortValue) (saw : JournalSeen) (out : Output) (ended : Status)
     : Type 0 where
   pub last : KeptState
@@ -59,10 +61,11 @@ pub record AreHostedFrom (first : KeptState) (setup : SetupValue) (base : Releas
   pub ever : WhereTold saw.content_after
       (λ _. EachStandsBetween saw.left_since first.since (all_of last.batches last.further))
   pub counted : last.faults ≡ saw.faults_after
-  pub reported : IsHostReported (is_none last.further) after (length last.state.chain) out ended
+  pub reported : IsHostReported (is_none last.further) port after (length last.state.chain) out ended
 
--- port i is left bound to the port of its number, without a party and a reader of lines
+-- listener i is left bound, the first to the first number and all others to the door, without a party
+-- and a reader of lines
 pub record IsLeftAt (first i : ℕ) (after : PortValue) : Type 0 where
-  pub port : after.listener.port ≡ Some (first + i)
+  pub port : after.listener.port ≡ Some (door_number first i)
   pub party : after.party ≡ None
   pub lines : after.has_lines ≡ false

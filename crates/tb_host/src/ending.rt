@@ -7,7 +7,7 @@ ghost use Rattle.tb_serve.specs.Serves.{output};
 
 use tb_base::Status;
 use tb_io::{Listen, Sink, Wrote};
-use tb_serve::{Port, end_with_report, write_release, write_workers};
+use tb_serve::{Port, end_with_door_report, write_door, write_release};
 
 // Writes that the disk failed.
 fn write_disk_fault<O: Sink>(out: &mut O) -> Wrote
@@ -17,7 +17,7 @@ fn write_disk_fault<O: Sink>(out: &mut O) -> Wrote
     out.write(b"fault disk\n")
 }
 
-// Writes the lines after those of the workers, where the journal isn't live.
+// Writes the lines after those of both ports, where the journal isn't live.
 fn write_disk_closing<O: Sink>(out: &mut O, release: u32) -> Wrote
     ensures written { IsWritten result (O.faults out.old) (O.faults out.new) (O.taken out.old)
         (O.taken out.new) (disk_closing release) }
@@ -29,12 +29,19 @@ fn write_disk_closing<O: Sink>(out: &mut O, release: u32) -> Wrote
 }
 
 // Writes the whole report then.
-fn write_disk_report<O: Sink, N: Listen>(out: &mut O, ports: &[Port<N>], release: u32) -> Wrote
+fn write_disk_report<O: Sink, N: Listen>(
+    out: &mut O,
+    first: u16,
+    ports: &[Port<N>],
+    release: u32,
+) -> Wrote
+    requires first { first < 65535 }
+    requires some { 0 < length ports.now }
     requires few { length ports.now < 2 ^ 32 }
     ensures written { IsWritten result (O.faults out.old) (O.faults out.new) (O.taken out.old)
-        (O.taken out.new) (disk_report ports.now release) }
+        (O.taken out.new) (disk_report first ports.now release) }
 {
-    match write_workers(out, ports) {
+    match write_door(out, first, ports) {
         Wrote::All => write_disk_closing(out, release),
         Wrote::Failed => Wrote::Failed,
     }
@@ -44,18 +51,21 @@ fn write_disk_report<O: Sink, N: Listen>(out: &mut O, ports: &[Port<N>], release
 /// `fault net`, where the journal isn't live.
 pub(crate) fn end_hosting<O: Sink, N: Listen>(
     out: &mut O,
+    first: u16,
     ports: &[Port<N>],
     release: u32,
     live: bool,
 ) -> Status
+    requires first { first < 65535 }
+    requires some { 0 < length ports.now }
     requires few { length ports.now < 2 ^ 32 }
-    ensures ended { IsHostReported live ports.now release (output (O.taken out.old)
+    ensures ended { IsHostReported live first ports.now release (output (O.taken out.old)
         (O.taken out.new) (O.faults out.old) (O.faults out.new)) result }
 {
     if live {
-        return end_with_report(out, ports, release);
+        return end_with_door_report(out, first, ports, release);
     }
-    match write_disk_report(out, ports, release) {
+    match write_disk_report(out, first, ports, release) {
         Wrote::All => Status::DiskFault,
         Wrote::Failed => Status::WriteFault,
     }

@@ -35,7 +35,7 @@ use tb_io::{Listen, Sink};
 use tb_journal::Journal;
 use tb_journal_file::JournalFile;
 use tb_keep::{BoardPublisher, JournalFault, JournalOwner, Recovery, recover};
-use tb_serve::{Port, Readiness, prepare, serve_from, write_end};
+use tb_serve::{Places, Port, Readiness, prepare, serve_from, write_end};
 use tb_session::{Custody, Owner, Setting};
 
 // Serves the sessions of ports that are ready, at the first as the custodian, who holds no edits
@@ -100,12 +100,14 @@ fn serve_ready<
     custodian: Custodian,
     disk: &mut D,
     journal: Journal,
+    first: u16,
     sessions: u32,
     out: &mut O,
     ports: &mut [Port<N>],
 ) -> Status
     requires own { IsCustodianOf B.name (shape_of setting.now.setup.now.schema) custodian [] }
     requires live { journal.live ≡ true }
+    requires number { first < 65535 }
     requires puts { CanPut (D.attached disk.old) (D.content disk.old) (D.may_leave disk.old)
         journal }
     requires some { 0 < length ports.old }
@@ -120,7 +122,7 @@ fn serve_ready<
         → EachStandsFor (D.may_leave disk.old) batches None
         → AreHostedFrom (after_playing custodian.writer.start.base batches (D.moment disk.old)
         (D.faults disk.old))
-        setting.now.setup.now custodian.writer.start.base sessions ports.old ports.new (record {
+        setting.now.setup.now custodian.writer.start.base first sessions ports.old ports.new (record {
           content = D.content disk.old;
           content_after = D.content disk.new;
           moment = D.moment disk.old;
@@ -150,7 +152,7 @@ fn serve_ready<
         disk: _lent,
         journal: _,
     } = ahead;
-    end_hosting(out, ports, release, live)
+    end_hosting(out, first, ports, release, live)
 }
 
 // The whole call, over just the ports that are served.
@@ -173,7 +175,8 @@ fn serve_ports<
     requires first { custodian.writer.list ≡ [] }
     requires attached { D.attached disk.old ≡ true }
     requires some { 0 < length ports.old }
-    requires numbers { first + length ports.old ≤ 65536 }
+    requires few { length ports.old ≤ 65536 }
+    requires numbers { first < 65535 }
     requires fresh { All IsFresh ports.old }
     ensures attached { D.attached disk.new ≡ true }
     ensures count { D.faults disk.old ≤ D.faults disk.new }
@@ -197,9 +200,11 @@ fn serve_ports<
         Recovery::DiskFault => return Ok(write_end(out, b"fault disk\n", Status::DiskFault)),
         Recovery::Memory => return Ok(write_end(out, b"fault memory\n", Status::Memory)),
     };
-    match prepare(setting.alloc, first, ports) {
+    match prepare(setting.alloc, Places::Door(first), ports) {
         Readiness::Ready => {
-            Ok(serve_ready(setting, custodian, disk, journal, sessions, out, ports))
+            Ok(serve_ready(
+                setting, custodian, disk, journal, first, sessions, out, ports,
+            ))
         }
         Readiness::NoMemory => Ok(write_end(out, b"fault memory\n", Status::Memory)),
         Readiness::NotBound => Ok(write_end(out, b"fault net\n", Status::NetFault)),
@@ -207,8 +212,8 @@ fn serve_ports<
 }
 
 /// Serves sessions with the journal in a disk's file, which was attached: opens it, publishes its
-/// batches, and then serves the custodian's sessions at the first port and analysts' at the
-/// `workers` ports after it, all over one board. The custodian is at release 0, and holds no edits.
+/// batches, and then serves the custodian's sessions at the port `first` and analysts' at a door, the
+/// one after it, at which `workers` listeners accept, all over one board. The custodian is at release 0, and holds no edits.
 /// Ports past these stay as they are.
 ///
 /// Each batch that is published is written into the journal first. Where the disk fails, or memory
@@ -216,8 +221,9 @@ fn serve_ports<
 /// is then answered `unkept`, and all else is answered as ever. Sessions, binds and accepts are as
 /// in `serve`; the journal is opened and played before the first bind.
 ///
-/// `out` takes what it takes in `serve`, but `fault disk` last, and no `fault net`, where the
-/// journal isn't live at the end. Only `fault disk` is written where the disk failed before the
+/// `out` takes `port P sessions N` for the first port and for the door, `release R` and `fault net`
+/// where an accept failed; but `fault disk` last, and no `fault net`, where the journal isn't live at
+/// the end. Only `fault disk` is written where the disk failed before the
 /// first bind. A journal's file that is refused is an error, for which nothing is written. Memory
 /// is taken before the first accept, as `recover` and `prepare` do, and then only for the replies.
 pub fn serve_with_journal<
@@ -240,7 +246,8 @@ pub fn serve_with_journal<
     requires first { custodian.writer.list ≡ [] }
     requires attached { D.attached disk.old ≡ true }
     requires there { workers < length net.old }
-    requires numbers { first + workers < 65536 }
+    requires few { workers < 65536 }
+    requires numbers { first < 65535 }
     requires fresh { All IsFresh net.old }
     ensures attached { D.attached disk.new ≡ true }
     ensures count { D.faults disk.old ≤ D.faults disk.new }

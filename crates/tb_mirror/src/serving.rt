@@ -6,7 +6,7 @@ ghost use Rattle.tb_leader.specs.Lanes.{LaneValue};
 ghost use Rattle.tb_mirror.specs.Mirroring.{HasMirrored, Mirrors};
 ghost use Rattle.tb_model.specs.Schemas.{shape_of};
 ghost use Rattle.tb_serve.specs.Each.{Each};
-ghost use Rattle.tb_serve.specs.Serves.{IsReported, output};
+ghost use Rattle.tb_serve.specs.Serves.{IsDoorReported, output};
 ghost use Rattle.tb_serve.specs.Stages.{IsFresh, IsLeft, IsReady};
 
 use crate::mirror::Mirror;
@@ -18,7 +18,7 @@ use tb_base::{Memory, Status};
 use tb_board::{Board, Named, Opening};
 use tb_io::{Listen, Sink};
 use tb_release::Release;
-use tb_serve::{Port, Readiness, end_with_report, prepare, serve_from, write_end};
+use tb_serve::{Places, Port, Readiness, end_with_door_report, prepare, serve_from, write_end};
 use tb_session::{FIRST_CAPACITY, Owner, Setting};
 use tb_text::Setup;
 
@@ -39,18 +39,20 @@ fn serve_opened<B: Named + Send + Sync, O: Sink, N: Listen + Send, R: Threads + 
     alloc: Global,
     setup: &Setup,
     opening: Opening,
+    first: u16,
     sessions: u32,
     out: &mut O,
     ports: &mut [Port<N>],
 ) -> Status
     requires name { opening.name ≡ B.name }
     requires shape { opening.start.shape ≡ shape_of setup.now.schema }
+    requires number { first < 65535 }
     requires some { 0 < length ports.old }
     requires few { length ports.old < 2 ^ 32 }
     requires can { All IsReady ports.old }
     ensures mirrored { (last : LaneValue)
         × Each (HasMirrored setup.now opening.start.base sessions last) ports.old ports.new
-        × IsReported ports.new last.follower.chain.batches (output (O.taken out.old)
+        × IsDoorReported first ports.new last.follower.chain.batches (output (O.taken out.old)
         (O.taken out.new) (O.faults out.old) (O.faults out.new)) result }
     ensures left { Each (λ _. IsLeft) ports.old ports.new }
 {
@@ -64,7 +66,7 @@ fn serve_opened<B: Named + Send + Sync, O: Sink, N: Listen + Send, R: Threads + 
     let mirror = Mirror::new(alloc, custodian);
     let mirror = serve_from(&setting, &setting, sessions, mirror, ports);
     let release = Owner::<Setting<'_, B, R>, B>::release(&mirror, &setting);
-    end_with_report(out, ports, release)
+    end_with_door_report(out, first, ports, release)
 }
 
 // The whole call, over just the ports that are served.
@@ -81,7 +83,8 @@ fn serve_ports<O: Sink, N: Listen + Send, R: Threads + Wait + Sync>(
     requires first { base.number ≡ 0 }
     requires fit { AllFit (shape_of setup.now.schema) base.records }
     requires some { 0 < length ports.old }
-    requires numbers { first + length ports.old ≤ 65536 }
+    requires few { length ports.old ≤ 65536 }
+    requires numbers { first < 65535 }
     requires fresh { All IsFresh ports.old }
     ensures { Mirrors setup.now base first sessions ports.old ports.new (output (O.taken out.old)
         (O.taken out.new) (O.faults out.old) (O.faults out.new)) result }
@@ -89,9 +92,9 @@ fn serve_ports<O: Sink, N: Listen + Send, R: Threads + Wait + Sync>(
     let Ok(opening) = open(alloc, setup, base) else {
         return write_end(out, b"fault memory\n", Status::Memory);
     };
-    match prepare(alloc, first, ports) {
+    match prepare(alloc, Places::Door(first), ports) {
         Readiness::Ready => {
-            serve_opened::<Brand, O, N, R>(rt, alloc, setup, opening, sessions, out, ports)
+            serve_opened::<Brand, O, N, R>(rt, alloc, setup, opening, first, sessions, out, ports)
         }
         Readiness::NoMemory => write_end(out, b"fault memory\n", Status::Memory),
         Readiness::NotBound => write_end(out, b"fault net\n", Status::NetFault),
@@ -125,7 +128,8 @@ pub fn serve_mirror<O: Sink, N: Listen + Send, R: Threads + Wait + Sync>(
     requires first { base.number ≡ 0 }
     requires fit { AllFit (shape_of setup.now.schema) base.records }
     requires there { workers < length net.old }
-    requires numbers { first + workers < 65536 }
+    requires few { workers < 65536 }
+    requires numbers { first < 65535 }
     requires fresh { All IsFresh net.old }
     ensures mirrors { Mirrors setup.now base first sessions (take (workers + 1) net.old)
         (take (workers + 1) net.new) (output (O.taken out.old) (O.taken out.new)

@@ -9,6 +9,7 @@ use Rattle.tb_model.specs.Releases.{ReleaseValue}
 use Rattle.tb_model.specs.Setups.{SetupValue}
 use Rattle.tb_release.specs.Batches.{BatchValue}
 use Rattle.tb_serve.specs.Each.{Each}
+use Rattle.tb_serve.specs.Places.{row_number}
 use Rattle.tb_serve.specs.Ports.{PortValue}
 use Rattle.tb_serve.specs.Reports.{some_failed}
 use Rattle.tb_serve.specs.Serves.{HasServed, IsEnded, IsPortServed, IsReported, Output, ServesAll, final_status, output}
@@ -33,7 +34,7 @@ final_is b ports is = ap (λ c. if c then status.NetFault else status.Done) is
 
 -- all was served from the ports as they were made
 pub served_all : (setup : SetupValue) (base given : ReleaseValue) (first most : ℕ) (o a e : List PortValue) (out : Output)
-    (ended : Status) → given ≡ base → Each (GetsReady first) o a
+    (ended : Status) → given ≡ base → Each (GetsReady (row_number first)) o a
     → (chain : List BatchValue) × Each (HasServed setup given most [] chain) a e × IsReported e chain out ended → Each (λ _. IsLeft) a e
     → ServesAll setup base first most o e out ended
 served_all setup base given first most o a e out ended is ready served left =
@@ -44,7 +45,7 @@ served_all setup base given first most o a e out ended is ready served left =
     } in
     subst (λ (b : ReleaseValue). ServesAll setup b first most o e out ended) is (
       served.0,
-      each_then (GetsReady first) (λ i p t. HasServed setup given most [] served.0 i p t × IsLeft p t)
+      each_then (GetsReady (row_number first)) (λ i p t. HasServed setup given most [] served.0 i p t × IsLeft p t)
           (IsPortServed setup given first most served.0) o a e ready both
           (λ i d lt x y. port_served setup given first most served.0 i _ _ _ x y.0 y.1),
       served.2,

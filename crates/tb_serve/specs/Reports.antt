@@ -13,6 +13,22 @@ abbrev pub worker_lines : ℕ → List PortValue → List (List ℕ)
 worker_lines i [] = []
 worker_lines i (port ∷ ports) = worker_line i port.served ∷ worker_lines (i + 1) ports
 
+-- how many sessions were served at some ports together
+abbrev pub served_at : List PortValue → ℕ
+served_at [] = 0
+served_at (port ∷ ports) = port.served + served_at ports
+
+-- the line of a port of the system: its number, and how many sessions were served there
+abbrev pub port_line : ℕ → ℕ → List ℕ
+port_line number served =
+    codes "port " ++ decimal number ++ codes " sessions " ++ decimal served ++ codes "\n"
+
+-- the lines of a server with a door: that of its first port, and that of the door, the port after
+-- it, where all other listeners accept
+abbrev pub door_lines : ℕ → List PortValue → List ℕ
+door_lines first [] = []
+door_lines first (port ∷ ports) = port_line first port.served ++ port_line (first + 1) (served_at ports)
+
 -- the line of the last release
 abbrev pub release_line : ℕ → List ℕ
 release_line release = codes "release " ++ decimal release ++ codes "\n"
@@ -36,6 +52,10 @@ last_lines failed = if failed then net_line ∷ [] else []
 -- the lines after those of the workers
 abbrev pub closing : ℕ → Bool → List ℕ
 closing release failed = release_line release ++ concat (last_lines failed)
+
+-- the whole report of a server with a door
+abbrev pub door_report : ℕ → List PortValue → ℕ → List ℕ
+door_report first ports release = door_lines first ports ++ closing release (some_failed ports)
 
 -- the whole report
 abbrev pub report : List PortValue → ℕ → List ℕ

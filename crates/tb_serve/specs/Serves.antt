@@ -11,8 +11,9 @@ use Rattle.tb_model.specs.Setups.{SetupValue}
 use Rattle.tb_lines.specs.Outputs.{ReplyValue}
 use Rattle.tb_release.specs.Batches.{BatchValue}
 use Rattle.tb_serve.specs.Each.{Each}
+use Rattle.tb_serve.specs.Places.{row_number}
 use Rattle.tb_serve.specs.Ports.{PortValue}
-use Rattle.tb_serve.specs.Reports.{memory_line, net_line, report, some_failed}
+use Rattle.tb_serve.specs.Reports.{door_report, memory_line, net_line, report, some_failed}
 use Rattle.tb_serve.specs.Stages.{IsOneNotBound, IsUntouched}
 use Rattle.tb_ahead.specs.Publishing.{StateValue, after_seeing, let_go}
 use Rattle.tb_session.specs.Transcripts.{IsLegal}
@@ -90,6 +91,11 @@ abbrev pub IsReported : List PortValue → List BatchValue → Output → Status
 IsReported ports chain out ended =
     IsEnded (report ports (length chain)) (final_status ports) out ended
 
+-- the same of a server with a door, whose first port has this number
+abbrev pub IsDoorReported : ℕ → List PortValue → List BatchValue → Output → Status → Type 0
+IsDoorReported first ports chain out ended =
+    IsEnded (door_report first ports (length chain)) (final_status ports) out ended
+
 -- all was served along one chain of batches, and reported
 abbrev pub ServesAll : SetupValue → ReleaseValue → ℕ → ℕ → List PortValue → List PortValue
     → Output → Status → Type 0
@@ -99,21 +105,21 @@ ServesAll setup base first most before after out ended =
     × IsReported after chain out ended
 
 -- memory was refused, and nothing was accepted
-abbrev pub IsOutOfMemory : ℕ → List PortValue → List PortValue → Output → Status → Type 0
-IsOutOfMemory first before after out ended =
-    Each (IsUntouched first) before after × IsEnded memory_line status.Memory out ended
+abbrev pub IsOutOfMemory : (ℕ → ℕ) → List PortValue → List PortValue → Output → Status → Type 0
+IsOutOfMemory number before after out ended =
+    Each (IsUntouched number) before after × IsEnded memory_line status.Memory out ended
 
 -- a bind failed, so that a port is left unbound whose listener's count rose, and nothing was
 -- accepted
-abbrev pub IsUnbound : ℕ → List PortValue → List PortValue → Output → Status → Type 0
-IsUnbound first before after out ended =
-    Each (IsUntouched first) before after × IsOneNotBound before after
+abbrev pub IsUnbound : (ℕ → ℕ) → List PortValue → List PortValue → Output → Status → Type 0
+IsUnbound number before after out ended =
+    Each (IsUntouched number) before after × IsOneNotBound before after
     × IsEnded net_line status.NetFault out ended
 
 -- what a call did with its ports, each of which is to serve so many sessions
 abbrev pub Serves : SetupValue → ReleaseValue → ℕ → ℕ → List PortValue → List PortValue
     → Output → Status → Type 0
 Serves setup base first most before after out ended =
-    IsOutOfMemory first before after out ended
-    ⊎ (IsUnbound first before after out ended
+    IsOutOfMemory (row_number first) before after out ended
+    ⊎ (IsUnbound (row_number first) before after out ended
     ⊎ ServesAll setup base first most before after out ended)

@@ -14,6 +14,7 @@
 
 mod closing;
 mod over_board;
+mod places;
 mod port;
 mod preparing;
 mod readiness;
@@ -23,8 +24,11 @@ mod serving;
 mod workers;
 
 pub use over_board::serve_from;
+pub use places::Places;
 pub use port::Port;
 pub use preparing::prepare;
 pub use readiness::Readiness;
-pub use report::{end_with_report, write_end, write_release, write_workers};
+pub use report::{
+    end_with_door_report, end_with_report, write_door, write_end, write_release, write_workers,
+};
 pub use serving::serve;

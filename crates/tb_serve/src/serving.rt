@@ -12,6 +12,7 @@ ghost use Rattle.tb_serve.specs.Stages.{IsFresh, IsLeft, IsReady};
 
 use crate::closing::clear_all;
 use crate::over_board::serve_from;
+use crate::places::Places;
 use crate::port::Port;
 use crate::preparing::prepare;
 use crate::readiness::Readiness;
@@ -91,7 +92,7 @@ fn serve_ports<O: Sink, N: Listen + Send, R: Threads + Wait + Sync>(
     ensures { Serves setup.now base first sessions ports.old ports.new (output (O.taken out.old)
         (O.taken out.new) (O.faults out.old) (O.faults out.new)) result }
 {
-    match prepare(alloc, first, ports) {
+    match prepare(alloc, Places::Row(first), ports) {
         Readiness::Ready => {}
         Readiness::NoMemory => return write_end(out, b"fault memory\n", Status::Memory),
         Readiness::NotBound => return write_end(out, b"fault net\n", Status::NetFault),

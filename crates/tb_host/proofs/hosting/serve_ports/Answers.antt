@@ -1,8 +1,14 @@
 use Rattle.std.proofs.Common.{refl, inl, inr, arith}
 use Rattle.tb_disk.proofs.Past.{past-then}
+use Rattle.tb_serve.specs.Places.{door_number}
 use Rattle.tb_serve.specs.Serves.{output}
 use Rattle.tb_host.proofs.Served.{hosts_all, hosts_counted, untouched}
 use Rattle.tb_host.proofs.hosting.serve_ports.Goals as goal
+
+pub serve_ready-requires-clause-can : goal.serve_ready-requires-clause-can
+serve_ready-requires-clause-can g c = λ κs within_κs i d lt.
+    let same = c.in-Ready.ensures.same_length in
+    (c.in-Ready.ensures.at i d (omega (arith, same, lt))).can
 
 pub returns-in-Refused-clause-hosts : goal.returns-in-Refused-clause-hosts
 returns-in-Refused-clause-hosts g c = (refl, refl, refl, c.in-Refused.ensures.recovered.0, c.in-Refused.ensures.recovered.1)
@@ -11,7 +17,7 @@ pub returns-in-DiskFault-clause-hosts : goal.returns-in-DiskFault-clause-hosts
 returns-in-DiskFault-clause-hosts g c = inr (inl (refl, c.in-DiskFault.ensures.recovered.0, c.in-DiskFault.ensures.recovered.1, c.write_end.ensures.ended))
 
 pub returns-in-Memory-clause-hosts : goal.returns-in-Memory-clause-hosts
-returns-in-Memory-clause-hosts g c = inl ((untouched c.args.first c.args.ports.now, c.write_end-in-Memory.ensures.ended), c.in-Memory.ensures.recovered)
+returns-in-Memory-clause-hosts g c = inl ((untouched (door_number c.args.first) c.args.ports.now, c.write_end-in-Memory.ensures.ended), c.in-Memory.ensures.recovered)
 
 pub returns-in-NoMemory-clause-hosts : goal.returns-in-NoMemory-clause-hosts
 returns-in-NoMemory-clause-hosts g c = inl ((c.in-NoMemory.ensures, c.write_end-in-NoMemory.ensures.ended), c.in-Recovered.ensures.recovered.same)

@@ -1,11 +1,17 @@
-use Rattle.std.proofs.Common.{ap, inl, inr}
+use Rattle.std.proofs.Common.{ap, arith, inl, inr}
 use Rattle.tb_board.specs.Starts.{StartValue}
+use Rattle.tb_serve.specs.Places.{door_number}
 use Rattle.tb_serve.specs.Serves.{output}
 use Rattle.tb_mirror.proofs.Mirrored.{mirrors_all, untouched}
 use Rattle.tb_mirror.proofs.serving.serve_ports.Goals as goal
 
+pub serve_opened-requires-clause-can : goal.serve_opened-requires-clause-can
+serve_opened-requires-clause-can g c = λ κs within_κs i d lt.
+    let same = c.in-Ready.ensures.same_length in
+    (c.in-Ready.ensures.at i d (omega (arith, same, lt))).can
+
 pub returns-in_default : goal.returns-in_default
-returns-in_default g c = inl (untouched c.args.first c.args.ports.now, c.write_end.ensures.ended)
+returns-in_default g c = inl (untouched (door_number c.args.first) c.args.ports.now, c.write_end.ensures.ended)
 
 pub returns-in-NoMemory : goal.returns-in-NoMemory
 returns-in-NoMemory g c = inl (c.in-NoMemory.ensures, c.write_end-in-NoMemory.ensures.ended)
