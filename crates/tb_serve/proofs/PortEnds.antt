@@ -12,7 +12,8 @@ use Rattle.tb_model.specs.Releases.{ReleaseValue}
 use Rattle.tb_model.specs.Schemas.{shape_of}
 use Rattle.tb_model.specs.Setups.{SetupValue}
 use Rattle.tb_release.specs.Batches.{BatchValue}
-use Rattle.tb_serve.specs.Places.{row_number}
+use Rattle.tb_serve.specs.Places.{number_at}
+use Rattle.tb_serve.specs.declared.places.Places.{Places}
 use Rattle.tb_serve.specs.Ports.{PortValue}
 use Rattle.tb_ahead.specs.Publishing.{after_seeing, let_go}
 use Rattle.tb_serve.specs.Serves.{HasServed, IsPortServed, IsVisited, role_at}
@@ -193,14 +194,14 @@ visited_before Legal fresh number most i from to o p t ready x = record {
   lead = x.lead;
 }
 
-pub port_served : (setup : SetupValue) (base : ReleaseValue) (first most : ℕ) (chain : List BatchValue) (i : ℕ) (o p t : PortValue)
-    → GetsReady (row_number first) i o p → HasServed setup base most [] chain i p t → IsLeft p t
-    → IsPortServed setup base first most chain i o t
-port_served setup base first most chain i o p t ready x left = record {
+pub port_served : (setup : SetupValue) (base : ReleaseValue) (places : Places) (most : ℕ) (chain : List BatchValue) (i : ℕ) (o p t : PortValue)
+    → GetsReady (number_at places) i o p → HasServed setup base most [] chain i p t → IsLeft p t
+    → IsPortServed setup base places most chain i o t
+port_served setup base places most chain i o p t ready x left = record {
   port = left.port ∙ ready.bound.port;
   sessions = record {
     last = x.last;
-    visited = visited_before (IsLegal (role_at i) setup base) let_go (row_number first) most i (after_seeing []) x.last o p t ready x.visited;
+    visited = visited_before (IsLegal (role_at i) setup base) let_go (number_at places) most i (after_seeing []) x.last o p t ready x.visited;
     ends = x.ends;
   };
   party = left.party;

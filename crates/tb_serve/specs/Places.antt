@@ -1,9 +1,9 @@
--- To which ports listeners are bound.
+-- To which ports of the system the listeners of a call are bound.
 use Rattle.std.specs.Prelude.{ℕ, zero, suc, ◌+◌, ◌<◌, ◌≤◌}
 use Rattle.tb_serve.specs.declared.places.Places.{Places}
 use Rattle.tb_serve.specs.declared.places.Places.TheVariants as places
 
--- the number of port i in a row: the first number, and those after it
+-- the number of listener i in a row: the first number, and those after it
 abbrev pub row_number : ℕ → ℕ → ℕ
 row_number first i = first + i
 
@@ -17,7 +17,7 @@ abbrev pub number_at : Places → ℕ → ℕ
 number_at (places.Row first) = row_number first
 number_at (places.Door first) = door_number first
 
--- the numbers of so many listeners are ports
+-- so many listeners have numbers that are ports
 abbrev pub AreWithin : Places → ℕ → Type 0
 AreWithin (places.Row first) count = first + count ≤ 65536
 AreWithin (places.Door first) count = first < 65535

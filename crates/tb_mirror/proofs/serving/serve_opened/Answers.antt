@@ -3,7 +3,7 @@ use Rattle.tb_model.specs.Schemas.{shape_of}
 use Rattle.tb_board.specs.Custodians.{CustodianValue}
 use Rattle.tb_board.specs.Holders.{HolderValue}
 use Rattle.tb_session.specs.Parties.{seen_by}
-use Rattle.tb_serve.specs.Reports.{door_report}
+use Rattle.tb_serve.specs.Reports.{report}
 use Rattle.tb_serve.specs.Serves.{IsEnded, final_status, output}
 use Rattle.tb_mirror.specs.BoardChains.{standing}
 use Rattle.tb_mirror.proofs.Mirrored.{all_mirrored, at_first, first_follower, first_of_shape, first_writer}
@@ -41,6 +41,6 @@ returns-clause-mirrored g c =
           (at_first c.args.setup.now c.args.opening c.new-board.result.1 old.follower.chain.custody.party old.follower.window old.open made c.new-mirror.ensures.custodian c.new-mirror.ensures.window
           c.new-mirror.ensures.open c.requires.shape) (ap (λ (h : HolderValue). h.start.base) writer) (ap (λ (h : HolderValue). h.list) writer) refl c.serve_from-mirror.ensures.left.same_length
           c.serve_from-mirror.ensures.first c.serve_from-mirror.ensures.others,
-      subst (λ (n : ℕ). IsEnded (door_report c.args.first after n) (final_status after) (output (g.O.Sink.taken c.args.out.now) (g.O.Sink.taken c.end_with_door_report.new.out) (g.O.Sink.faults c.args.out.now) (g.O.Sink.faults c.end_with_door_report.new.out)) c.end_with_door_report.result)
-          c.release-release.ensures c.end_with_door_report.ensures.ended,
+      subst (λ (n : ℕ). IsEnded (report c.args.places after n) (final_status after) (output (g.O.Sink.taken c.args.out.now) (g.O.Sink.taken c.end_with_report.new.out) (g.O.Sink.faults c.args.out.now) (g.O.Sink.faults c.end_with_report.new.out)) c.end_with_report.result)
+          c.release-release.ensures c.end_with_report.ensures.ended,
     )
