@@ -62,9 +62,9 @@ owner_in owned_by.Leader word = Some owner.Leader
 abbrev pub lines_in : LinesFrom → List (List ℕ) → ℕ → Option Lines
 lines_in lines_from.Script words i = option_map lines.Script (file_named (word_at words i))
 lines_in lines_from.Lanes words i = option_map lines.Lanes (file_named (word_at words i))
-lines_in lines_from.Ports words i =
+lines_in (lines_from.Ports kind) words i =
     option_map lines.Ports
-    (service_named (word_at words i) (word_at words (i + 1)) (word_at words (i + 2)))
+    (service_named kind (word_at words i) (word_at words (i + 1)) (word_at words (i + 2)))
 
 -- the task that a row of the table asks for
 abbrev pub task_in : FormValue → List (List ℕ) → Option Task
