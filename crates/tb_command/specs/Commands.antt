@@ -100,6 +100,15 @@ abbrev pub service_of : Command → Option Service
 service_of (command.Over task) = ports_service task.lines
 service_of (command.Gen population) = None
 
+-- how many ports a service takes: the first, and one for each worker
+abbrev pub ports_for : Option Service → ℕ
+ports_for None = 0
+ports_for (Some service) = service.workers + 1
+
+-- how many are asked for
+abbrev pub ports_asked : Option Command → ℕ
+ports_asked asked = ports_for (option_and_then service_of asked)
+
 -- the name of the journal's file, where it has one
 abbrev pub owner_journal : Owner → Option (List ℕ)
 owner_journal (owner.Journal name) = Some name

@@ -1,6 +1,6 @@
 // The service of sessions that a command asks for.
 
-ghost use Rattle.std.specs.Prelude.{◌≡◌};
+ghost use Rattle.std.specs.Prelude.{◌≡◌, ◌+◌};
 ghost use Rattle.tb_command.specs.ServicePorts as ports;
 ghost use Rattle.tb_command.specs.ServicePorts.{HasPorts, service_named};
 
@@ -107,6 +107,14 @@ impl Service {
         ensures { result ≡ self.now.workers }
     {
         self.workers
+    }
+
+    /// How many ports it takes: the first, and one for each worker.
+    pub fn ports(&self) -> u32
+        ensures { result ≡ self.now.workers + 1 }
+    {
+        let _ = self.layout;
+        self.workers + 1
     }
 
     /// How many sessions the first port and each worker has.
