@@ -204,6 +204,13 @@ come_at_ports (lines.Lanes script) = false
 come_at_ports (lines.Ports service) = true
 come_at_ports (lines.Sums population script) = false
 
+-- how many ports they take
+abbrev pub ports_taken : AskedLines → ℕ
+ports_taken (lines.Script script) = 0
+ports_taken (lines.Lanes script) = 0
+ports_taken (lines.Ports service) = service.workers + 1
+ports_taken (lines.Sums population script) = 0
+
 -- whether it is sessions
 abbrev pub is_service : AskedValue → Bool
 is_service asked = come_at_ports asked.lines
