@@ -2,16 +2,15 @@
 
 ghost use Rattle.std.specs.Prelude.{◌≡◌, ◌<◌, ◌+◌, All, IfOk, vec_len};
 ghost use Rattle.tb_serve.specs.Stages.{IsFresh};
-ghost use Rattle.tb_command.specs.declared.service.TheConstants.{MOST_WORKERS};
 
 use super::command::ends_so;
+use super::ports::PORTS;
 use super::talks::{Client, Replies, Talk};
 use std::alloc::Global;
 use std::sync::Wait;
 use std::sync::atomic::{AtomicU32, Ordering};
 use std::thread::Threads;
 use tb_base::{Memory, Status};
-use tb_command::MOST_WORKERS;
 use tb_serve::Port;
 
 // A run of two sessions.
@@ -62,13 +61,12 @@ fn add<'a>(
     Ok(())
 }
 
-// As many ports as a command has.
+// The ports of a run.
 fn ports<'a>(alloc: Global, run: Run, replies: &'a Replies) -> Result<Vec<Port<Talk<'a>>>, Memory>
-    ensures ports { IfOk result (λ net. vec_len net ≡ MOST_WORKERS + 1) }
-    ensures fresh { IfOk result (λ net. All IsFresh net.items) }
+    ensures { IfOk result (λ net. All IsFresh net.items) }
 {
     let mut net = Vec::new(alloc);
-    for number in 0..MOST_WORKERS + 1 {
+    for number in 0..PORTS as u32 {
         add(&mut net, client_at(run, number), replies)?;
     }
     Ok(net)

@@ -61,7 +61,7 @@ const ONE_MORE: &[u8] = b"custodian add 105 1 SEX=1 AGE=65+ AREA=E1\ncustodian p
 
 const AT_THE_LIMIT: &[u8] = b"held 1\nrefused batch 1 4 TooMany\nheld 1\nheld 2\npublished 1\n";
 
-static RUNS: [Over; 45] = [
+static RUNS: [Over; 46] = [
     ("one_variable", WITHOUT_RECODES, &[], 0, SEX),
     ("one_variable", WITH_RECODES, &[], 0, SEX),
     (
@@ -385,6 +385,13 @@ static RUNS: [Over; 45] = [
         &[],
         0,
         NOBODY_SERVED,
+    ),
+    (
+        "a_mirror_without_sessions",
+        "mirror classes - ptable people 0 - - 65533 1024 1000000",
+        &[],
+        0,
+        b"port 65533 sessions 0\nport 65534 sessions 0\nrelease 0\n",
     ),
     (
         "a_service_over_a_file_at_fault",
