@@ -83,10 +83,7 @@ fn into_nothing<R: Threads + Wait + Sync, L: Ledger>(
 {
     let mut steps = Steps::<L>::new(blank);
     let mut out = MemSink::new(alloc, 0)?;
-    Ok(tablebuilder(
-        rt, alloc, arguments, files, &mut out, net, disk, &mut steps,
-    )
-    .number())
+    Ok(tablebuilder(rt, alloc, arguments, files, &mut out, net, disk, &mut steps).number())
 }
 
 // The same of `keep` over a script that only holds an edit.

@@ -83,9 +83,7 @@ fn count_in_memory<L: Ledger>(
         return Status::Memory;
     };
     let mut steps = Steps::<L>::new(blank);
-    run_in_memory(
-        rt, alloc, arguments, files, out, net, &mut disk, &mut steps,
-    )
+    run_in_memory(rt, alloc, arguments, files, out, net, &mut disk, &mut steps)
 }
 
 /// Runs a command over files and a sink that never fail, and a disk of its own.
