@@ -20,6 +20,9 @@ const REFUSAL: &[u8] = b"refused 3 UnknownName 2\n";
 
 const AT_ONCE: usize = 100;
 
+// A query with a long reply.
+const LONG_QUERY: &[u8; 49] = b"table AREA by SEX by AGE with totals with labels\n";
+
 /// What a client does.
 #[derive(Clone, Copy)]
 pub enum Client {
@@ -123,7 +126,7 @@ fn wait_silently(stream: &mut TcpStream, lines: &[u8]) -> bool {
 
 fn take_nothing(stream: &mut TcpStream) -> bool {
     for _ in 0..MOST_SENDS {
-        if !sends_many(stream) {
+        if !sends(stream, [*LONG_QUERY; AT_ONCE].as_flattened()) {
             return true;
         }
     }
