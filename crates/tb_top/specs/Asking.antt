@@ -1,6 +1,6 @@
 -- What the arguments and the files ask for: a task over a census; or why the run ends before it
 -- begins.
-use Rattle.std.specs.Prelude.{◌==◌, ℕ, Bool, true, false, List, [], ◌∷◌, length, Option, Some, None, Result, Ok, Err, is_some, ok_or, nat_le, nat_lt, if◌then◌else◌}
+use Rattle.std.specs.Prelude.{◌==◌, ◌+◌, ℕ, Bool, true, false, List, [], ◌∷◌, length, Option, Some, None, Result, Ok, Err, is_some, ok_or, nat_le, nat_lt, if◌then◌else◌}
 use Rattle.tb_base.specs.declared.records.Record.{Record}
 use Rattle.tb_base.specs.declared.keys.Keys.{Keys}
 use Rattle.tb_model.specs.Releases.{ReleaseValue, first_release}
