@@ -1,5 +1,5 @@
 .PHONY: help test prove gate-times plant try try-guide build demo serve guide quotes clients refusals pressure growths
-.PHONY: crash mirrors bench bench-serve bench-journal bench-mirrors bench-tools check-r dist deb
+.PHONY: crash mirrors bench bench-serve bench-journal bench-mirrors bench-door bench-tools check-r dist deb
 .PHONY: try-dist analysis
 
 # `make help` prints each comment that begins with an audience in brackets, and the target below it. All
@@ -69,8 +69,9 @@ build:
 demo: build
 	cd examples/small && ../../crates/tablebuilder/out/tablebuilder script classes.csv recodes.csv ptable.csv people.csv 0 script.txt
 
-# [use] `make build`, and then the server over examples/small at the ports 4000 (the custodian's) to 4002,
-# 1,000 sessions at each, with a new journal under examples/out. docs/SERVER.md says what follows.
+# [use] `make build`, and then the server over examples/small at the ports 4000 (the custodian's) and 4001,
+# which has two workers, 1,000 sessions by each, with a new journal under examples/out. docs/SERVER.md says
+# what follows.
 serve: build
 	@mkdir -p examples/out && journal="$$(mktemp -d "$(CURDIR)/examples/out/XXXXXX")/revisions.journal" && \
 	printf '%s\n' "ask for a table:      printf 'table SEX\n' | nc -N 127.0.0.1 4001" \
@@ -186,6 +187,13 @@ bench-serve: bench-tools build
 	rustc -O --edition 2021 -o bench/out/prepared bench/prepared.rs
 	python3 bench/serve.py crates/tablebuilder/out/tablebuilder bench/out/client bench/out/prepared \
 		bench/out/syncs.so bench/out
+
+# [measure] A thousand sessions at a door: what those that say nothing cost others, a publication, memory;
+# 300 analysts who think. As `make bench`, and some 2 minutes.
+bench-door: bench-tools build
+	mkdir -p bench/out
+	rustc -O --edition 2021 -o bench/out/client bench/client.rs
+	python3 bench/door.py crates/tablebuilder/out/tablebuilder bench/out/client bench/out
 
 # [measure] Replies of two mirrors beside those of one, and how far a mirror is behind its host. As
 # `make bench`, redis-server and python3-redis, and four processors of which nothing else takes a part;

@@ -3,7 +3,8 @@
 //!     client ask PORT CONNECTIONS AT_ONCE LINES SECONDS REPLIES QUERY
 //!     client publish PORT CONNECTIONS SECONDS REPLIES QUERY EDITS ANSWERS
 //!
-//! Connection I, from 1 to CONNECTIONS, is an analyst's session at PORT + I. It writes the line
+//! Connection I, from 1 to CONNECTIONS, is an analyst's session at PORT + I; or at PORT + 1, where
+//! CONNECTIONS is a number behind `door:`. It writes the line
 //! QUERY so many times at once and then reads as many replies, again and again, until it has had
 //! LINES of them or SECONDS have passed. The file REPLIES has the table of each release, from 0, or
 //! a line that stands for a refusal; each reply must be that of its release byte by byte, and the
@@ -238,12 +239,15 @@ fn print_rate(dones: &[Done]) -> Outcome<()> {
 
 fn open_all<'a>(
     port: u16,
-    connections: u16,
+    connections: &str,
     replies: &'a Replies,
     query: &str,
     at_once: u64,
 ) -> Outcome<Vec<Analyst<'a>>> {
-    (1..=connections).map(|i| Analyst::open(port + i, replies, query, at_once)).collect()
+    let at_door = connections.strip_prefix("door:");
+    let connections: u16 = at_door.unwrap_or(connections).parse()?;
+    let port_of = |i| port + if at_door.is_some() { 1 } else { i };
+    (1..=connections).map(|i| Analyst::open(port_of(i), replies, query, at_once)).collect()
 }
 
 /// All of them ask at once, until so many replies came to each, or it is told to stop. Then they
@@ -278,7 +282,7 @@ fn ask(words: &[String]) -> Outcome<()> {
     let [port, connections, at_once, lines, seconds, replies, query] = words else {
         return Err("usage: client ask PORT CONNECTIONS AT_ONCE LINES SECONDS REPLIES QUERY".into());
     };
-    let (connections, lines) = (connections.parse()?, lines.parse::<u64>()?.min(MOST_LINES));
+    let lines = lines.parse::<u64>()?.min(MOST_LINES);
     let limit = Duration::from_secs_f64(seconds.parse()?);
     let replies = Replies::read(replies)?;
     let analysts = open_all(port.parse()?, connections, &replies, query, at_once.parse()?)?;
@@ -295,7 +299,7 @@ fn publish(words: &[String]) -> Outcome<()> {
     let port = port.parse()?;
     let limit = Duration::from_secs_f64(seconds.parse()?);
     let replies = Replies::read(replies)?;
-    let analysts = open_all(port, connections.parse()?, &replies, query, 1)?;
+    let analysts = open_all(port, connections, &replies, query, 1)?;
     let session = Session::open(port)?;
     let mut custodian =
         Custodian { session, edits: fs::read(edits)?, answers: fs::read(answers)? };

@@ -67,7 +67,7 @@ def start_mirror(tools, folder, processor):
 
 def rate_of(tools, server, processor, reply):
     """How many replies a second a client gets of a mirror's worker, by a processor of its own."""
-    asked = ["ask", server.first, 1, 1, NO_LIMIT, SECONDS, reply, QUERY]
+    asked = ["ask", server.first, "door:1", 1, NO_LIMIT, SECONDS, reply, QUERY]
     words = on_processor(processor, [tools.client, *map(str, asked)])
     done = subprocess.run(words, stdout=subprocess.PIPE, timeout=PATIENCE, check=True)
     told = done.stdout.split()

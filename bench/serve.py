@@ -115,13 +115,17 @@ def free_ports(count):
 
 
 class Server:
-    """A process that serves so many sessions at each of its ports, of which the first is the
-    custodian's."""
+    """A process that serves so many sessions at its first port, the custodian's, and by each worker:
+    at a port of its own, or, of `host` and `mirror`, at one door."""
 
     def __init__(self, words, folder, workers, sessions, environment=None, limit=None):
-        self.first, self.workers, self.sessions = free_ports(workers + 1), workers, sessions
-        self.ports = range(self.first, self.first + workers + 1)
-        self.had = [0] * (workers + 1)
+        self.has_door = "host" in words or "mirror" in words
+        count = 2 if self.has_door else workers + 1
+        self.first, self.workers, self.sessions = free_ports(count), workers, sessions
+        self.ports = range(self.first, self.first + count)
+        # How many sessions each port serves, and has had.
+        self.due = [sessions, sessions * workers] if self.has_door else [sessions] * count
+        self.had = [0] * count
         name = f"{os.path.basename(words[0])}-{self.first}"
         self.out, self.err = f"{folder}/{name}.served", f"{folder}/{name}.told"
         words = [*words, *map(str, (self.first, workers, sessions))]
@@ -156,8 +160,8 @@ class Server:
 
     def end(self, report):
         """Gives each port the sessions that it hasn't had, so that the process ends by itself."""
-        for port, had in zip(self.ports, self.had):
-            for _ in range(had, self.sessions):
+        for port, had, due in zip(self.ports, self.had, self.due):
+            for _ in range(had, due):
                 self.visit(port)
         try:
             status = self.process.wait(PATIENCE)
@@ -168,8 +172,20 @@ class Server:
                 sys.exit(f"bench: {self.process.args} ended with {status} or a wrong report")
 
     def report(self, release):
-        workers = [f"worker {i} sessions {self.sessions}\n" for i in range(self.workers + 1)]
-        return "".join(workers) + f"release {release}\n"
+        names = [f"port {port}" for port in self.ports]
+        if not self.has_door:
+            names = [f"worker {i}" for i in range(self.workers + 1)]
+        lines = [f"{name} sessions {due}\n" for name, due in zip(names, self.due)]
+        return "".join(lines) + f"release {release}\n"
+
+    def connections(self, count):
+        """So many sessions of analysts, as the client that asks is told of them."""
+        if self.has_door:
+            self.had[1] += count
+            return f"door:{count}"
+        for i in range(1, count + 1):
+            self.had[i] += 1
+        return count
 
 
 @contextlib.contextmanager
@@ -216,9 +232,8 @@ class Asking(typing.NamedTuple):
 
 def rate(tools, server, asking):
     """How many replies came in a second."""
-    for i in range(1, asking.connections + 1):
-        server.had[i] += 1
-    how = (asking.connections, asking.at_once, asking.lines, asking.seconds)
+    connections = server.connections(asking.connections)
+    how = (connections, asking.at_once, asking.lines, asking.seconds)
     told = numbers_of(tools, ["ask", server.first, *how, asking.replies, asking.query])
     return told["replies"] / told["seconds"]
 
@@ -364,8 +379,8 @@ def measure_publications(tools, folder, persons):
         server = Server(host_words(tools, folder), folder, WORKERS, 2)
         with killed_at_last(server):
             figures.without.append(rate(tools, server, asking))
-            server.had = [1] + [2] * WORKERS
-            words = ["publish", server.first, WORKERS, MOST_SECONDS, what.tables, QUERY]
+            server.had[0] += 1
+            words = ["publish", server.first, server.connections(WORKERS), MOST_SECONDS, what.tables, QUERY]
             told = numbers_of(tools, [*words, what.edits, what.answers])
             figures.beside.append(told["replies"] / told["seconds"])
             figures.published.append(told["published"] / told["seconds"])

@@ -1,6 +1,6 @@
 #!/usr/bin/env python3
-"""Kills a server that keeps a journal at random moments, while 16 clients ask it for tables and one
-publishes, starts it again, and compares what they were told with what the journal has.
+"""Kills a server that keeps a journal at random moments, while 16 clients of its door ask for tables
+and one publishes, starts it again, and compares what they were told with what the journal has.
 
     crash_host.py PROGRAM [KILLS [SEED]]
 
@@ -10,7 +10,7 @@ published, at once or some milliseconds later, KILLS times (50 where it isn't gi
 again at the same ports. Only what came whole counts as a reply. After each kill
 `clients/journal.py` must read in the journal the batches that it had at the start, those that were
 published since, in order, and at most one more, the next. No table may be of a later release than
-that to which these lead, or of an earlier one than the server began with, and at each port the
+that to which these lead, or of an earlier one than the server began with, and in each session the
 releases never fall. At the end a server that isn't killed must be at the journal's release and end
 with its report, and each table that any client got must be, byte by byte, the one that `script`
 prints over the lines of the journal's batches.
@@ -199,19 +199,20 @@ class Run:
                     self.has_news.notify_all()
             session.line()
 
-    def ask(self, worker, seed):
-        """A client's sessions at a worker's port."""
-        draw, newest, query = random.Random(seed), self.kept, QUERIES[worker % len(QUERIES)]
+    def ask(self, client, seed):
+        """A client's sessions at the door, each of which may be by another worker."""
+        draw, query = random.Random(seed), QUERIES[client % len(QUERIES)]
         while True:
-            with Session(self.is_over, self.test.port + worker) as session:
+            newest = self.kept
+            with Session(self.is_over, self.test.port + 1) as session:
                 for turn in range(draw.randint(1, MOST_LINES)):
                     at = draw.randint(0, newest) if turn % PAST == PAST - 1 else None
                     reply = session.ask(query if at is None else f"at {at} {query}")
                     release = release_of(reply)
                     if at is None and release < newest:
-                        raise Wrong(f"port {worker}: release {release} came after {newest}")
+                        raise Wrong(f"client {client}: release {release} came after {newest}")
                     if at is not None and release != at:
-                        raise Wrong(f"port {worker}: release {release} came for {at}")
+                        raise Wrong(f"client {client}: release {release} came for {at}")
                     newest = max(newest, release)
                     self.take(query, release, reply)
 
@@ -241,7 +242,7 @@ class Run:
     def kill_after(self, draw):
         """Lets clients ask and publish, and kills the server."""
         works = [(self.publish,)]
-        works += [(self.ask, worker, draw.random()) for worker in range(1, WORKERS + 1)]
+        works += [(self.ask, client, draw.random()) for client in range(1, WORKERS + 1)]
         threads = [threading.Thread(target=self.guarded, args=work) for work in works]
         for thread in threads:
             thread.start()
@@ -267,7 +268,7 @@ class Test:
     def __init__(self, program, kills, seed, folder):
         self.program, self.kills, self.draw = program, kills, random.Random(seed)
         self.began, self.folder, self.journal = time.monotonic(), folder, f"{folder}/journal"
-        self.port, self.classes = free_ports(WORKERS + 1), journal.read_classes(FILES[0])
+        self.port, self.classes = free_ports(2), journal.read_classes(FILES[0])
         self.kept = self.done = self.doubtful = self.replies = 0
         self.tables = {}
 
@@ -321,7 +322,7 @@ class Test:
         compare(self.tables, self.found(), self.words("script"), self.folder, seconds)
 
     def finish(self):
-        """A server that isn't killed: each port has one session, and then it ends."""
+        """A server that isn't killed: each worker has one session, and then it ends."""
         words = [*self.words("host"), "-", "-", self.journal, str(self.port), str(WORKERS), "1"]
         process = subprocess.Popen(words, stdout=subprocess.PIPE, stderr=subprocess.PIPE)
         timer = threading.Timer(self.end(PATIENCE) - time.monotonic(), process.kill)
@@ -334,19 +335,19 @@ class Test:
         finally:
             timer.cancel()
             process.kill()
-        report = "".join(f"worker {worker} sessions 1\n" for worker in range(WORKERS + 1))
+        report = f"port {self.port} sessions 1\nport {self.port + 1} sessions {WORKERS}\n"
         report += f"release {self.kept}\n"
         if (process.returncode, out.decode()) != (0, report):
             raise Wrong(f"the last server ended with status {process.returncode}: {out!r} {told!r}")
 
     def visit(self, process, worker):
-        with Session(lambda: process.poll() is not None, self.port + worker) as session:
+        with Session(lambda: process.poll() is not None, self.port + min(worker, 1)) as session:
             if worker == 0:
                 told, due = session.ask("stats"), b"stats release %d looks " % self.kept
             else:
                 told, due = session.ask(QUERIES[0]), b"release %d\n" % self.kept
             if not told.startswith(due):
-                raise Wrong(f"the last server, port {worker}: {told!r}")
+                raise Wrong(f"the last server, session {worker}: {told!r}")
 
     def run(self):
         while self.done < self.kills:

@@ -5,7 +5,7 @@ publishes and 16 clients ask, starts it again, and compares what came with the c
     crash_mirrors.py PROGRAM [SEED]
 
 On this machine are `host` over examples/small, the relay's `feed`, a `redis-server`, two `mirror`s
-with an `apply` each, and haproxy in front of the mirrors' workers, which asks the agents of each
+with an `apply` each, and haproxy in front of the mirrors' doors, which asks the agents of each
 `apply`. A custodian publishes 500 batches, those of `crash.py`, and 16 clients ask through haproxy.
 Meanwhile each of these eight processes is killed (SIGKILL) and started again, three times, in an
 order that is drawn. In a session no release is older than the one before it, and none is one that
@@ -71,9 +71,9 @@ frontend tables
 backend mirrors
     balance leastconn
     option redispatch
-    default-server maxconn 1 check inter 500ms fall 1 rise 1 agent-check agent-inter 500ms
+    default-server check inter 500ms fall 1 rise 1 agent-check agent-inter 500ms
 """
-SERVER = "    server m{port} 127.0.0.1:{port} port {agent} agent-port {agent}\n"
+SERVER = "    server m{port} 127.0.0.1:{port} maxconn {workers} port {agent} agent-port {agent}\n"
 
 
 # ---- what has to be there
@@ -174,10 +174,10 @@ class Site:
         self.program, self.folder, self.journal = program, folder, f"{folder}/journal"
         self.python = python_with_redis()
         # The custodian's and that of `feed`, each mirror's and two more mirrors', and the others.
-        count = 2 + MIRRORS * (1 + WORKERS) + 2 * 2 + MIRRORS + 2
+        count = 2 + MIRRORS * 2 + 2 * 2 + MIRRORS + 2
         ports = iter(range(first := free_ports(count), first + count))
         self.host_port, self.feed_port = next(ports), next(ports)
-        self.mirror_ports = [[next(ports) for _ in range(1 + WORKERS)] for _ in range(MIRRORS)]
+        self.mirror_ports = [[next(ports), next(ports)] for _ in range(MIRRORS)]
         self.agents = [next(ports) for _ in range(MIRRORS)]
         self.more = [[next(ports), next(ports)] for _ in range(2)]
         self.redis_port, self.front = next(ports), next(ports)
@@ -204,7 +204,7 @@ class Site:
         return self.process("host", words)
 
     def mirror(self, name, ports, files=FILES):
-        words = [self.program, "mirror", *files, "0", "-", "-", ports[0], len(ports) - 1, NO_LIMIT]
+        words = [self.program, "mirror", *files, "0", "-", "-", ports[0], WORKERS, NO_LIMIT]
         return self.process(name, words)
 
     def relay(self, name, *words):
@@ -222,7 +222,7 @@ class Site:
     def haproxy(self):
         path, text = f"{self.folder}/haproxy.cfg", HAPROXY.format(front=self.front)
         for ports, agent in zip(self.mirror_ports, self.agents):
-            text += "".join(SERVER.format(port=port, agent=agent) for port in ports[1:])
+            text += SERVER.format(port=ports[1], agent=agent, workers=WORKERS)
         with open(path, "w", encoding="ascii") as out:
             out.write(text)
         return self.process("haproxy", [self.tool("haproxy"), "-db", "-f", path])

@@ -5,9 +5,9 @@ clients get, what it says on the standard error, and its status.
     pressure.py PROGRAM
 
 The server is `serve` over examples/small, with a worker, and each of the others for how many
-sessions its ports have. How many files it may have open is set
-while it runs (`prlimit`), so Linux is needed. It ends within two minutes, and with status 1 where
-anything was otherwise.
+sessions its ports have; and `host` with a thousand workers for a thousand clients at its door, and
+for a door without files. How many files it may have open is set while it runs (`prlimit`), so Linux
+is needed. It ends within two minutes, and with status 1 where anything was otherwise.
 """
 
 import contextlib
@@ -39,15 +39,15 @@ PATIENCE = 30
 
 
 class Server:
-    """A server at two ports, the custodian's and a worker's, each with so many sessions."""
+    """A server at two ports, the custodian's and its workers', each with so many sessions."""
 
-    def __init__(self, program, sessions, command=("serve", *FILES)):
+    def __init__(self, program, sessions, command=("serve", *FILES), workers=1):
         self.first = free_ports(2)
         self.port = self.first + 1
         # (the custodian's port may be late in its accept, and then wants a file too)
         self.want = f"accept on 127.0.0.1:{self.port} {WANT}"
         self.said = tempfile.TemporaryFile("w+")
-        words = [program, *command, str(self.first), "1", str(sessions)]
+        words = [program, *command, str(self.first), str(workers), str(sessions)]
         self.process = subprocess.Popen(words, cwd=SMALL, stdin=subprocess.DEVNULL, stdout=subprocess.PIPE,
                                         stderr=self.said, text=True)
         self.wait_for(f"listening on 127.0.0.1:{self.port}\n")
@@ -215,10 +215,59 @@ def sessions_of_each(program, checks):
                 checks.same("the status", server.end()[2], 0)
 
 
+def too_few_files(program, checks):
+    """A door for whose workers there are no files isn't opened, which is told."""
+    few = 50
+    with tempfile.TemporaryDirectory() as folder:
+        first = free_ports(2)
+        words = [program, "host", *FILES, *NONE, f"{folder}/journal", str(first), "100", "1"]
+        done = subprocess.run(words, cwd=SMALL, stdin=subprocess.DEVNULL, capture_output=True, text=True,
+                              timeout=PATIENCE, check=False,
+                              preexec_fn=lambda: resource.setrlimit(resource.RLIMIT_NOFILE, (few, few)))
+        checks.same("without files", (done.returncode, done.stdout), (10, "fault net\n"))
+        why = f"cannot listen on 127.0.0.1:{first + 1}: {os.strerror(errno.EMFILE)} (os error {errno.EMFILE})\n"
+        checks.true(f"why: {done.stderr!r}", why in done.stderr)
+        last = (
+            f"ports {first} and {first + 1} must be free on this machine, this user must be allowed to open 101 files"
+            " more (`ulimit -n`), and memory suffice for the buffers of 100 workers\n"
+        )
+        checks.true(f"the last words of {done.stderr!r}", done.stderr.endswith(last))
+
+
+def thousand_clients(program, checks):
+    """A thousand sessions at a door, at the same time: each is answered, and beside those that then say
+    nothing the last one is."""
+    count = 1_000
+    _, hard = resource.getrlimit(resource.RLIMIT_NOFILE)
+    most = hard if hard != resource.RLIM_INFINITY else 4 * count
+    resource.setrlimit(resource.RLIMIT_NOFILE, (min(4 * count, most), hard))
+    with tempfile.TemporaryDirectory() as folder, contextlib.ExitStack() as stack:
+        command = ("host", *FILES, *NONE, f"{folder}/journal")
+        server = stack.enter_context(Server(program, 1, command, count))
+        clients = []
+        for _ in range(count):
+            clients.append(stack.enter_context(server.connect()))
+            clients[-1].sendall(QUERY)
+        told = {client.recv(len(TABLE), socket.MSG_WAITALL) for client in clients}
+        checks.same("a thousand clients", told, {TABLE})
+        begun = time.monotonic()
+        for _ in range(10):
+            clients[-1].sendall(QUERY)
+            checks.same("the last one", clients[-1].recv(len(TABLE), socket.MSG_WAITALL), TABLE)
+        checks.true("within a second", time.monotonic() - begun < 1)
+        for client in clients:
+            client.close()
+        checks.same("the custodian", server.asks(server.first), TABLE)
+        out, _, status = server.end()
+        report = f"port {server.first} sessions 1\nport {server.port} sessions {count}\nrelease 0\n"
+        checks.same("the report", (status, out), (0, report))
+
+
 def main():
     (program,) = sys.argv[1:]
     checks = Checks()
-    for case in (want_that_passes, want_that_stays, line_without_end, client_that_stays, sessions_of_each):
+    cases = (want_that_passes, want_that_stays, line_without_end, client_that_stays, sessions_of_each)
+    for case in (*cases, too_few_files, thousand_clients):
         case(os.path.abspath(program), checks)
     print(f"{checks.right} facts as wanted, {checks.wrong} not")
     return 1 if checks.wrong else 0

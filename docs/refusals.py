@@ -63,11 +63,13 @@ ARGUMENTS = [
     (["keep", *FIVE, "-j", "script.txt"], f"argument 7, JOURNAL, is `-j`: {NAMED}"),
     (["units", *FIVE, "dwellings.csv", "links.csv"], f"argument 9, SCRIPT, is missing: {NAMED}"),
     (["units", *FIVE, "script.txt"], f"argument 8, LINKS, is missing: {NAMED}"),
-    (["host", *FIVE, "-", "-", "journal", "65520", "1", "1"], f"argument 10, PORT, is `65520`: {numbered(1, 65519)}"),
+    (["host", *FIVE, "-", "-", "journal", "65534", "1", "1"], f"argument 10, PORT, is `65534`: {numbered(1, 65533)}"),
     (["host", *FIVE, "-", "links.csv", "journal", "4000", "1", "1"], f"argument 7, DWELLINGS, is `-`: {PAIRED}"),
     (["mirror", *FIVE, "dwellings.csv", "-", "4000", "1", "1"], f"argument 8, LINKS, is `-`: {PAIRED}"),
     (["mirror", *FIVE, "-"], f"argument 8, LINKS, is missing: {PAIRED}"),
     (["units", *FIVE, "-", "links.csv", "script.txt"], f"argument 7, DWELLINGS, is `-`: {NAMED}"),
+    (["mirror", *FIVE, "-", "-", "4000", "1025", "1"], f"argument 10, WORKERS, is `1025`: {numbered(1, 1024)}"),
+    (["serve", *FIVE, "65520", "1", "1"], f"argument 7, PORT, is `65520`: {numbered(1, 65519)}"),
     (["serve", *FIVE, "4000", "17", "0"], f"argument 8, WORKERS, is `17`: {numbered(1, 16)}"),
     (["serve", *FIVE, "4000", "16", "0"], f"argument 9, SESSIONS, is `0`: {numbered(1, 1000000)}"),
     (["gen", "0", "0"], f"argument 2, N, is `0`: {numbered(1, 1000000)}"),
@@ -387,7 +389,7 @@ def hosts(runs):
                               stdout=subprocess.PIPE, stderr=subprocess.PIPE, preexec_fn=limit) as process:
             told = [told_at(port, lines), told_at(port + 1, b"")]
             out, said = (text.decode() for text in process.communicate(timeout=PATIENCE))
-        report = f"worker 0 sessions 1\nworker 1 sessions 1\n{end}"
+        report = f"port {port} sessions 1\nport {port + 1} sessions 1\n{end}"
         runs.compare(words, (told, out, process.returncode), ([replies, ""], report, status))
         fault = f"the journal's file: {system_error(errno.EFBIG)}\n"
         runs.compare(words, said.count(fault), 1 if limit else 0)

@@ -161,8 +161,9 @@ def try_unit(tried, at, unit):
     line, settings = words_of(unit)
     values = values_of(at, settings)
     with tempfile.TemporaryDirectory() as folder:
-        workers = int(values["WORKERS"])
-        first = free_ports(workers + 4)
+        # (a server with a door has one port for all its workers)
+        others = int(values["WORKERS"]) if line[1] == "serve" else 1
+        first = free_ports(others + 4)
         values.update(PORT=str(first), JOURNAL=f"{folder}/revisions.journal")
         words = filled(line, values)
         installed = os.path.normpath(at.root + line[0])
@@ -170,17 +171,17 @@ def try_unit(tried, at, unit):
         if not os.access(installed, os.X_OK):
             return
         with start([installed, *words[1:]]) as process:
-            is_there = all(is_listened_to(first + it, process) for it in range(1, 3))
+            is_there = all(is_listened_to(first + it, process) for it in range(1, others + 1))
             tried.check(f"{name}: it listens", is_there)
             if is_there:
                 got = ask(at, first + 1)
                 tried.check(f"{name}: a table by the Python client", got == "[1, 2]", got)
-                try_front(tried, at, folder, first, first + workers + 1)
+                try_front(tried, at, folder, first, first + others + 1)
 
 
 def try_front(tried, at, folder, first, free):
     """haproxy and then stunnel by their examples, at other ports."""
-    ports = {4000: first, 4001: first + 1, 4002: first + 2, 4099: free, 4100: free + 1}
+    ports = {4000: first, 4001: first + 1, 4099: free, 4100: free + 1}
     if shutil.which("haproxy", path=tool_path()) is None:
         tried.skip("haproxy's example", "haproxy")
         return
@@ -239,7 +240,7 @@ def try_relays(tried, at):
     with tempfile.TemporaryDirectory() as folder, contextlib.ExitStack() as stack:
         mirror = stack.enter_context(doubles.serving(doubles.Mirror()))
         own = {"JOURNAL": f"{folder}/journal", "WORKERS": "2", "AGENT": f"127.0.0.1:{first + 3}"}
-        own.update(ADDRESS=f"127.0.0.1:{first + 2}", REDIS_URL=f"redis://127.0.0.1:{first + 4}/0")
+        own.update(ADDRESS=f"127.0.0.1:{first + 1}", REDIS_URL=f"redis://127.0.0.1:{first + 4}/0")
         words = [redis, "--port", str(first + 4), "--bind", "127.0.0.1", "--dir", folder]
         stack.enter_context(start(words))
         ports = {"host": first, "feed": first, "apply": mirror.port}

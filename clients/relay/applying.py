@@ -19,6 +19,9 @@ MOST_LINES, AT_ONCE = 990_000, 256
 # How long a reply may take; how long to wait before who wasn't there, or had no memory, is tried
 # again; and how often it is noted, at least, that a mirror is led.
 PATIENCE, AGAIN_SECONDS, NOTE_SECONDS = 60, 0.5, 10
+# A session ends where nothing came for 900 seconds: a line `#`, which has no reply, is sent where
+# nothing else was for so long.
+STAY_SECONDS = 60
 UNKNOWN = -1
 
 
@@ -40,7 +43,7 @@ class Mirror:
         except OSError as fault:
             raise self._gone(fault.strerror or str(fault)) from fault
         self._socket.setsockopt(socket.IPPROTO_TCP, socket.TCP_NODELAY, 1)
-        self._replies = self._socket.makefile("rb")
+        self._replies, self._said = self._socket.makefile("rb"), time.monotonic()
 
     def __enter__(self) -> Mirror:
         return self
@@ -60,6 +63,16 @@ class Mirror:
     def check(self) -> None:
         if not self.is_there():
             raise self._gone("the session has ended")
+
+    def stay(self) -> None:
+        """Says something, once nothing was said for a while, so that the session goes on."""
+        if time.monotonic() - self._said < STAY_SECONDS:
+            return
+        self.lines, self._said = self.lines + 1, time.monotonic()
+        try:
+            self._socket.sendall(b"#\n")
+        except OSError as fault:
+            raise self._gone(fault.strerror or str(fault)) from fault
 
     def where(self) -> int:
         """The number of the mirror's release."""
@@ -83,7 +96,7 @@ class Mirror:
 
     def _ask(self, lines: list[str]) -> list[str]:
         """The replies to lines that have one each."""
-        self.lines += len(lines)
+        self.lines, self._said = self.lines + len(lines), time.monotonic()
         try:
             self._socket.sendall("".join(f"{line}\n" for line in lines).encode())
             return [self._line() for _ in lines]
@@ -242,6 +255,7 @@ class Leader:
             mirror.check()
             if not entries:
                 self._rest(number)
+                mirror.stay()
                 continue
             self._check(number, entries)
             # (before anything is sent: so it is known of which chain the mirror has its batches)

@@ -60,10 +60,13 @@ class Host(Double):
     """An analysts' port of a host: it prints tables of the release that a test sets."""
 
     def __init__(self, release: int, port: int = 0) -> None:
-        self.release, self.asked = release, 0
+        self.release, self.asked, self.stayed = release, 0, 0
         super().__init__(port)
 
     def answer(self, line: str) -> Optional[str]:
+        if line == "#":
+            self.stayed += 1
+            return None
         self.asked += 1
         if line != "table SEX":
             return "refused 3 UnknownName 2"
@@ -90,6 +93,8 @@ class Mirror(Double):
 
     def answer(self, line: str) -> Optional[str]:
         self.lines.append(line)
+        if line == "#":
+            return None
         if self.instead[line]:
             self._held = None
             return self.instead[line].pop(0)

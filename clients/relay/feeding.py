@@ -20,8 +20,9 @@ __all__ = ["Feed", "JournalFile"]
 # wait before who wasn't there is tried again.
 LOOK_SECONDS, FIRST_SECONDS, MOST_SECONDS, LONGER = 0.005, 0.002, 0.25, 1.5
 AGAIN_SECONDS, PATIENCE = 0.5, 60
-# A session at the port has 1,000,000 lines at most.
-MOST_LINES = 990_000
+# A session at the port has 1,000,000 lines at most, and ends where nothing came for 900 seconds: a
+# line `#`, which has no reply, is sent each minute.
+MOST_LINES, STAY_SECONDS = 990_000, 60
 
 
 class JournalFile:
@@ -82,6 +83,7 @@ class Feed:
         self._path, self._address = path, address
         self._files, self._stream, self._teller = files, stream, teller
         self._release = self._lines = 0
+        self._said = time.monotonic()
 
     def run(self) -> NoReturn:
         while True:
@@ -102,14 +104,28 @@ class Feed:
 
     def _ask(self, session: tablebuilder.Session) -> None:
         """Asks which release the port has now."""
-        self._lines += 1
+        self._lines, self._said = self._lines + 1, time.monotonic()
         host, port = self._address
         try:
             self._release = session.table(self._files.variable).release
+        except tablebuilder.OlderRelease as fault:
+            # (the server began anew, or another one did at this address)
+            self._release = fault.release
         except tablebuilder.OutOfMemory:
             self._teller.tell(f"{host}:{port}: memory; trying again")
         except tablebuilder.Refused as fault:
             raise Stop(f"{host}:{port}: `{fault.line}`: {fault.reply}: other CLASSES") from fault
+        except (tablebuilder.Error, OSError) as fault:
+            raise Gone(f"{host}:{port}: {fault}") from fault
+
+    def _stay(self, session: tablebuilder.Session) -> None:
+        """Says something, once nothing was said for a while, so that the session goes on."""
+        if time.monotonic() - self._said < STAY_SECONDS:
+            return
+        self._lines, self._said = self._lines + 1, time.monotonic()
+        host, port = self._address
+        try:
+            session.stay()
         except (tablebuilder.Error, OSError) as fault:
             raise Gone(f"{host}:{port}: {fault}") from fault
 
@@ -159,6 +175,7 @@ class Feed:
         """Feeds the next batch, or waits a moment; False where the file is to be read anew."""
         before, payload = file.digest, file.next()
         if payload is None:
+            self._stay(session)
             time.sleep(LOOK_SECONDS)
             return not file.has_changed()
         return self._is_published(session, file) and self._is_added(file, before, payload)

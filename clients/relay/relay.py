@@ -9,8 +9,8 @@ The files and the threshold are those of the server that it runs beside, RECODES
 stream knows them by their digest. `--redis URL`, or REDIS_URL in the environment, which no other
 user sees, says where Redis is: redis://:PASSWORD@HOST:6379/0, or rediss:// over TLS.
 
-`feed` follows the file of a `host`'s journal. PORT is an analysts' port of that host, which it
-keeps for itself: a batch is put into the stream only once the port prints a table of its release
+`feed` follows the file of a `host`'s journal. PORT is the door of that host, of which it keeps a
+worker for itself: a batch is put into the stream only once the port prints a table of its release
 or of a later one, so never one that isn't on the disk or that was never published.
 
 `apply` leads the mirror whose first port is PORT along the stream. It notes in the key NAME:mirrors
@@ -109,7 +109,7 @@ def _parser() -> argparse.ArgumentParser:
 
     one = command("feed", feed)
     one.add_argument("journal", metavar="JOURNAL", help="the file of the host's journal")
-    where = "an analysts' port of the host, for feed alone"
+    where = "the door of the host, the port after its first"
     one.add_argument("address", metavar="HOST:PORT", type=address_of, help=where)
     _add_files(one)
     _add_stream(one)

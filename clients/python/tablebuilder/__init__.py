@@ -17,16 +17,16 @@ The custodian, at the first port of the server:
         session.amend(104, AREA="E1")
         print(session.publish())
 
-Every count is perturbed: it is what the server shows, and no true count. A session holds its port
-until it is closed, and the next client waits meanwhile, so use `with`. A session is for one thread.
+Every count is perturbed: it is what the server shows, and no true count. A session holds a worker
+of the server until it is closed, and the custodian's port has one alone, so use `with`. A session is for one thread.
 The package needs the standard library alone; `Table.frame` needs pandas. The command
 `tablebuilder-ask HOST:PORT` (or `python3 -m tablebuilder HOST:PORT`) asks from a prompt.
 """
 
-from tablebuilder.faults import Busy, CannotDescribe, Ended, Error, OutOfMemory
+from tablebuilder.faults import Busy, CannotDescribe, Ended, Error, OlderRelease, OutOfMemory
 from tablebuilder.faults import Refused, Unexpected, Unkept
-from tablebuilder.session import Session, Stats, connect
-from tablebuilder.table import Category, Table, Variable
+from tablebuilder.session import Session, Stats, connect, forget_releases
+from tablebuilder.table import Category, Table, Variable, table_of
 
 __all__ = [
     "Busy",
@@ -34,6 +34,7 @@ __all__ = [
     "Category",
     "Ended",
     "Error",
+    "OlderRelease",
     "OutOfMemory",
     "Refused",
     "Session",
@@ -43,4 +44,6 @@ __all__ = [
     "Unkept",
     "Variable",
     "connect",
+    "forget_releases",
+    "table_of",
 ]

@@ -9,8 +9,8 @@ standard input, each line is asked in order and its reply written as the server 
 blanks alone, or that begins with `#`, has none. At a terminal the standard error shows how far it
 has come.
 
-The status is 0 where every line was answered, 1 where one was refused or found no memory, and 2
-where there was no session, or it ended early.
+The status is 0 where every line was answered, 1 where one was refused or found no memory, or its
+table is of an earlier release than one before, and 2 where there was no session, or it ended early.
 """
 
 from __future__ import annotations
@@ -22,7 +22,7 @@ import time
 from typing import IO, Iterable, Iterator, Optional, Sequence
 
 from tablebuilder.faults import Busy, CannotDescribe, Ended, Error
-from tablebuilder.faults import OutOfMemory, Refused, Unkept
+from tablebuilder.faults import OlderRelease, OutOfMemory, Refused, Unkept
 from tablebuilder.plot import plot
 from tablebuilder.query import query_start, stage_after, tokens_of
 from tablebuilder.session import Session, connect
@@ -109,7 +109,11 @@ class Prompt:
         if line.startswith("."):
             self._command(line)
             return
-        reply = self._session.ask(line)
+        try:
+            reply = self._session.ask(line)
+        except OlderRelease as fault:
+            print(fault)
+            reply = fault.reply
         if reply and reply[0].startswith("release "):
             self._last = table_of(reply)
             print(self._last.text(MOST_PLACES))
@@ -223,13 +227,15 @@ class Bar:
 
 def _run_script(session: Session, lines: Sequence[str]) -> int:
     """Asks all lines, and writes the replies as they come. The status."""
-    refused, bar = 0, Bar(len(lines), sys.stderr)
+    refused, older, bar = 0, 0, Bar(len(lines), sys.stderr)
     try:
         for done, line in enumerate(lines, 1):
             try:
                 reply = session.ask(line)
             except Refused as fault:
                 refused, reply = refused + 1, [fault.reply]
+            except OlderRelease as fault:
+                older, reply = older + 1, fault.reply
             except (OutOfMemory, Unkept) as fault:
                 reply = ["memory" if isinstance(fault, OutOfMemory) else "unkept"]
                 refused += 1
@@ -242,7 +248,9 @@ def _run_script(session: Session, lines: Sequence[str]) -> int:
         bar.end()
     if refused:
         print(f"{refused:,} of {len(lines):,} lines were refused", file=sys.stderr)
-    return 1 if refused else 0
+    if older:
+        print(f"{older:,} tables are of an earlier release than one before", file=sys.stderr)
+    return 1 if refused or older else 0
 
 
 def _lines_of(data: bytes) -> list[str]:
@@ -266,7 +274,7 @@ def _words(arguments: Optional[Sequence[str]]) -> argparse.Namespace:
         epilog=more,
         formatter_class=argparse.RawDescriptionHelpFormatter,
     )
-    where = "where a worker listens"
+    where = "where analysts are answered"
     parser.add_argument("address", metavar="[HOST:]PORT", type=address_of, help=where)
     parser.add_argument("script", metavar="SCRIPT", nargs="?", help="a file of lines to ask")
     parser.add_argument(
@@ -274,7 +282,7 @@ def _words(arguments: Optional[Sequence[str]]) -> argparse.Namespace:
         metavar="SECONDS",
         type=float,
         default=10.0,
-        help="for how long to wait for the port where another client has it (10)",
+        help="for how long to wait where all workers have clients (10)",
     )
     return parser.parse_args(arguments)
 

@@ -11,6 +11,7 @@ __all__ = [
     "CannotDescribe",
     "Ended",
     "Error",
+    "OlderRelease",
     "OutOfMemory",
     "Refused",
     "Unexpected",
@@ -208,10 +209,36 @@ class Ended(Error):
 
 
 class Busy(Ended, TimeoutError):
-    """Nothing came in time, not even a first reply: another client may have the port.
+    """Nothing came in time, not even a first reply: all workers of the port may have a client.
 
-    The session is closed. Try again later, or at the port of another worker.
+    The session is closed. Try again later. The custodian's port has one worker alone.
     """
+
+
+class OlderRelease(Error):
+    """A table is of an earlier release than one that came from the same address before.
+
+    No server promises an order from one session to another: the next one may be by another worker,
+    or at another mirror. The table is right for its release, and the session goes on.
+
+    Attributes
+    ----------
+    reply : list of str
+        The lines of the table, of which `tablebuilder.table_of` makes one.
+    release, printed : int
+        The number of its release, and the greatest one that came before.
+    """
+
+    def __init__(self, line: str, reply: list[str], release: int, printed: int) -> None:
+        super().__init__(line, reply, release, printed)
+        self.line, self.reply = line, reply
+        self.release, self.printed = release, printed
+
+    def __str__(self) -> str:
+        return (
+            f"this table is of release {self.release}, and one of release {self.printed} came from"
+            " the same address before: ask again"
+        )
 
 
 class Unexpected(Error):

@@ -6,14 +6,17 @@ import socket
 import ssl
 from typing import Callable, NamedTuple, NoReturn, Optional, TypeVar
 
-from tablebuilder.faults import Busy, CannotDescribe, Ended, OutOfMemory
+from tablebuilder.faults import Busy, CannotDescribe, Ended, OlderRelease, OutOfMemory
 from tablebuilder.faults import Refused, Unexpected, Unkept
 from tablebuilder.table import Category, Table, Variable
 from tablebuilder.table import categories_of, is_number, table_of, variables_of
 
-__all__ = ["Session", "Stats", "connect"]
+__all__ = ["Session", "Stats", "connect", "forget_releases"]
 
 T = TypeVar("T")
+
+# The greatest release that was printed from each address.
+_printed: dict[tuple[str, int], int] = {}
 
 
 class Stats(NamedTuple):
@@ -24,6 +27,12 @@ class Stats(NamedTuple):
     hits: int
     entries: int
     capacity: int
+
+
+def forget_releases() -> None:
+    """Forgets which releases were printed so far, so that none is `OlderRelease` by them: for a
+    server that began anew, whose releases are numbered from 0 again."""
+    _printed.clear()
 
 
 def connect(
@@ -41,7 +50,7 @@ def connect(
         Where the server listens, or what stands in front of it.
     timeout : float, optional
         For how many seconds to wait for the server, when connecting and at each step of a reply.
-        Where another client has the port this is the wait for it to go. None waits for ever.
+        Where all workers have clients this is the wait for one to go. None waits for ever.
     tls : ssl.SSLContext, optional
         How to speak TLS, where what stands in front of the server does.
 
@@ -61,7 +70,7 @@ def connect(
     except BaseException:
         connection.close()
         raise
-    return Session(connection)
+    return Session(connection, (host, port))
 
 
 class Session:
@@ -70,13 +79,18 @@ class Session:
     Each method writes one line and waits for the reply to it. It raises `Refused`, `OutOfMemory` or
     `Unkept` where the reply says so, and then the session goes on; `Ended` where the server has
     gone, and `Unexpected` where the reply is none to such a line. `Busy`, which is an `Ended`, says
-    that not even a first reply came in time: another client may have the port. Where anything else
+    that not even a first reply came in time: all workers may have clients. `OlderRelease` says that
+    a table, unless a release was asked for, is of an earlier release than one that came from the
+    same address before, in this session or in another one; the session goes on. Where anything else
     interrupts the wait the session is closed, so that no later call takes a reply that isn't its
     own.
     """
 
-    def __init__(self, connection: socket.socket) -> None:
+    def __init__(
+        self, connection: socket.socket, address: Optional[tuple[str, int]] = None
+    ) -> None:
         self._connection: Optional[socket.socket] = connection
+        self._address = address
         self._replies = connection.makefile("rb")
         self._is_served = False
         self._held_lines: list[str] = []
@@ -103,7 +117,7 @@ class Session:
             self._connection.settimeout(seconds)
 
     def close(self) -> None:
-        """Ends the session, so that the next client has its port. Held edits are lost."""
+        """Ends the session, so that another client has its worker. Held edits are lost."""
         if self._connection is not None:
             connection, self._connection = self._connection, None
             self._replies.close()
@@ -238,6 +252,16 @@ class Session:
         """Keeps at most so many cubes, 1 to 256."""
         self._numbers(f"cache {capacity}", "cache")
 
+    def stay(self) -> None:
+        """Says something without a reply, so that the server doesn't end an idle session."""
+        if self._connection is None:
+            raise Ended("the session is closed")
+        try:
+            self._connection.sendall(b"#\n")
+        except OSError as fault:
+            self.close()
+            raise Ended("the server went away") from fault
+
     # ---- a line and its reply
 
     def ask(self, line: str) -> list[str]:
@@ -261,7 +285,19 @@ class Session:
         if parts[0] == "refused":
             self._refuse(line, reply, parts[1:])
         self._note_held(line, parts)
+        if parts[0] == "release" and line.split()[:1] != ["at"]:
+            self._note_release(line, reply)
         return reply
+
+    def _note_release(self, line: str, reply: list[str]) -> None:
+        """Keeps the number of a table's release, unless a greater one came before."""
+        number = reply[0].split(" ")[1]
+        if self._address is None or not is_number(number):
+            return
+        release, printed = int(number), _printed.get(self._address, 0)
+        if release < printed:
+            raise OlderRelease(line, reply, release, printed)
+        _printed[self._address] = release
 
     def _describe(self, line: str, meaning: Callable[[list[str]], T]) -> T:
         try:
@@ -345,8 +381,8 @@ class Session:
         if self._is_served:
             return Ended(f"the server was silent for {timeout} s")
         return Busy(
-            f"nothing came within {timeout} s: another client may have this port, which serves"
-            " one session at a time"
+            f"nothing came within {timeout} s: all workers of this port may have a client; the"
+            " custodian's has one worker"
         )
 
     def _next_line(self) -> str:

@@ -16,6 +16,9 @@ REPLIES = {
     b"table AREA with labels": [
         'release 12\nAREA,count\n"Nord, ""Ö"" 1",3\nSüd,c\n,1000000\n.\n'.encode()
     ],
+    # A release that falls, as it may from one worker to another.
+    b"table BACK": [b"release 5\nSEX,count\n1,1\n.\n", b"release 4\nSEX,count\n1,2\n.\n"],
+    b"at 3 table BACK": [b"release 3\nSEX,count\n1,3\n.\n"],
     b"table CUT": [b"release 0\nSEX,count\n1,1"],
     b"table OTHER": [b"HTTP/1.1 400 Bad Request\n"],
     b"table BYTES": [b"\xff\xfe\n"],

@@ -6,7 +6,8 @@ import tempfile
 import unittest
 
 import tablebuilder
-from tablebuilder import Busy, CannotDescribe, Category, Ended, OutOfMemory, Refused, Table
+from tablebuilder import Busy, CannotDescribe, Category, Ended, OlderRelease, OutOfMemory
+from tablebuilder import Refused, Table
 from tablebuilder import Unexpected, Unkept, Variable
 from tests.prepared import OLDER, REPLIES, prepared_port
 
@@ -23,6 +24,8 @@ class WithServer(unittest.TestCase):
         told = prepared_port(self.replies)
         self.port = told.__enter__()
         self.addCleanup(told.__exit__, None, None, None)
+        # (the system may give the port of another test)
+        tablebuilder.forget_releases()
 
     def connect(self, timeout=60):
         session = tablebuilder.connect(self.port, timeout=timeout)
@@ -55,6 +58,20 @@ class Replies(WithServer):
         for _ in range(2):
             self.assertRaises(Unkept, session.publish)
         self.assertEqual(session.drop(103), 2)
+
+    def test_an_earlier_release_than_one_before(self):
+        session, other = self.connect(), self.connect()
+        self.assertEqual(session.table("BACK").release, 5)
+        with self.assertRaises(OlderRelease) as caught:
+            session.table("BACK")
+        fault = caught.exception
+        self.assertEqual((fault.release, fault.printed), (4, 5))
+        self.assertEqual(tablebuilder.table_of(fault.reply).counts, [2])
+        self.assertEqual(session.table("BACK", at=3).release, 3)
+        # (another session at the same address)
+        self.assertRaises(OlderRelease, other.table, "MANY")
+        tablebuilder.forget_releases()
+        self.assertEqual(session.table("BACK").release, 4)
 
     def test_a_reply_that_is_cut(self):
         session = self.connect()

@@ -17,8 +17,9 @@
 #     tb_publish(session)
 #     tb_close(session)
 #
-# Every count is perturbed: it is what the server shows, and no true count. A session holds its port
-# until it is closed, and the next client waits meanwhile. This file needs base R alone.
+# Every count is perturbed: it is what the server shows, and no true count. A session holds a worker
+# of the server until it is closed, and the custodian's port has one alone. This file needs base R
+# alone.
 #
 # What goes wrong is signalled as a condition that inherits from `tb_error`:
 #
@@ -39,15 +40,20 @@
 #                     again. It may have this batch all the same: once it was started again, the
 #                     release of tb_stats tells, before anything is tried again.
 #     tb_ended        the session has ended: it was closed, or the server went away.
-#     tb_busy         nothing came in time, not even a first reply: another client may have the
-#                     port. It is a tb_ended too.
+#     tb_busy         nothing came in time, not even a first reply: all workers may have clients.
+#                     It is a tb_ended too.
+#     tb_older_release
+#                     a table, unless a release was asked for, is of an earlier release than one that
+#                     came from the same address before: by another worker or mirror. It has the
+#                     `table`. The session goes on. tb_forget_releases() is for a server that began
+#                     anew, whose releases are numbered from 0 again.
 #     tb_unexpected   what came is no reply to what was asked. The session is closed.
 
 #' Open a session.
 #'
 #' @param port,host Where the server listens, or what stands in front of it.
-#' @param timeout For how many seconds to wait at each step of a reply. Where another client has the
-#'   port this is the wait for it to go.
+#' @param timeout For how many seconds to wait at each step of a reply. Where all workers have
+#'   clients this is the wait for one to go.
 #' @return A session, for `tb_table` and the others. `tb_close` ends it.
 tb_connect <- function(port, host = "127.0.0.1", timeout = 86400) {
   session <- new.env(parent = emptyenv())
@@ -63,7 +69,7 @@ tb_connect <- function(port, host = "127.0.0.1", timeout = 86400) {
   session
 }
 
-#' End a session, so that the next client has its port. Held edits are lost.
+#' End a session, so that another client has its worker. Held edits are lost.
 tb_close <- function(session) {
   if (!is.null(session$connection)) {
     close(session$connection)
@@ -141,7 +147,29 @@ tb_table <- function(session, query, where = NULL, totals = FALSE, labels = FALS
   }
   attr(table, "release") <- tb_numbers_in(reply[1])
   class(table) <- c("tb_table", "data.frame")
+  if (is.null(at)) tb_note_release(session, table)
   table
+}
+
+# The greatest release that came from each address.
+tb_printed <- new.env(parent = emptyenv())
+
+# Keeps the number of a table's release, unless a greater one came before.
+tb_note_release <- function(session, table) {
+  release <- attr(table, "release")
+  printed <- tb_printed[[session$address]]
+  if (!is.null(printed) && release < printed) {
+    tb_fail("tb_older_release", paste0(
+      "this table is of release ", tb_digits(release), ", and one of release ", tb_digits(printed),
+      " came from ", session$address, " before: ask again"
+    ), table = table)
+  }
+  assign(session$address, release, envir = tb_printed)
+}
+
+#' Forget which releases came so far: for a server that began anew.
+tb_forget_releases <- function() {
+  rm(list = ls(tb_printed), envir = tb_printed)
 }
 
 #' Print a table: its release, its first places, and the last where there are more.
@@ -387,7 +415,7 @@ tb_exchange <- function(session, line) {
     if (is_late && !session$is_served) {
       tb_fail(c("tb_busy", "tb_ended"), paste0(
         "nothing came from ", session$address, " within ", session$timeout,
-        " s: another client may have this port, which serves one session at a time"
+        " s: all workers of this port may have a client; the custodian's has one worker"
       ))
     }
     tb_fail("tb_ended", conditionMessage(fault))

@@ -25,8 +25,12 @@ published, and the edits are still held. From then on it keeps nothing until it 
 may have this batch all the same: once it was started again, the release of \code{tb_stats} tells,
 before anything is tried again.}
 \item{\code{tb_ended}}{The session has ended: it was closed, or the server went away.}
-\item{\code{tb_busy}}{Nothing came in time, not even a first reply: another client may have the
-port. It is a \code{tb_ended} too.}
+\item{\code{tb_busy}}{Nothing came in time, not even a first reply: all workers may have clients.
+It is a \code{tb_ended} too.}
+\item{\code{tb_older_release}}{A table, unless a release was asked for, is of an earlier release than
+one that came from the same address before: by another worker or mirror. It has the \code{table}. The
+session goes on. \code{tb_forget_releases()} is for a server that began anew, whose releases are
+numbered from 0 again.}
 \item{\code{tb_unexpected}}{What came is no reply to what was asked. The session is closed.}
 }
 }

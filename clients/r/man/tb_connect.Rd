@@ -1,20 +1,24 @@
 \name{tb_connect}
 \alias{tb_connect}
 \alias{tb_close}
+\alias{tb_forget_releases}
 \alias{print.tb_session}
 \title{Open and end a session}
 \description{
-A session holds its port until it is closed, and the next client waits meanwhile.
+A session holds a worker of the server until it is closed, and the custodian's port has one alone.
+\code{tb_forget_releases} forgets which releases came so far, so that none is a \code{tb_older_release}
+by them: for a server that began anew.
 }
 \usage{
 tb_connect(port, host = "127.0.0.1", timeout = 86400)
 tb_close(session)
+tb_forget_releases()
 \method{print}{tb_session}(x, ...)
 }
 \arguments{
 \item{port, host}{Where the server listens, or what stands in front of it.}
-\item{timeout}{For how many seconds to wait at each step of a reply. Where another client has the
-port this is the wait for it to go.}
+\item{timeout}{For how many seconds to wait at each step of a reply. Where all workers have
+clients this is the wait for one to go.}
 \item{session, x}{What \code{tb_connect} returned.}
 \item{...}{Passed over.}
 }

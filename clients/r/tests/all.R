@@ -15,7 +15,11 @@ analyst <- function(server = "TWO_WORKERS", worker = 1) {
   tb_connect(port_of(server) + worker, timeout = 60)
 }
 custodian <- function(server = "TWO_WORKERS") tb_connect(port_of(server), timeout = 60)
-prepared <- function(timeout = 60) tb_connect(port_of("PREPARED"), timeout = timeout)
+prepared <- function(timeout = 60) {
+  # Each test has releases of its own.
+  tb_forget_releases()
+  tb_connect(port_of("PREPARED"), timeout = timeout)
+}
 older <- function() tb_connect(port_of("OLDER"), timeout = 60)
 
 expect <- function(got, wanted) {
@@ -373,6 +377,17 @@ server_tests <- list(
     session <- prepared(timeout = 1)
     fault_of("tb_memory", tb_table(session, "SEX"))
     expect(inherits(fault_of("tb_ended", tb_table(session, "WAIT")), "tb_busy"), FALSE)
+  },
+  an_earlier_release_than_one_before = function() {
+    session <- prepared()
+    expect(attr(tb_table(session, "BACK"), "release"), 5)
+    fault <- fault_of("tb_older_release", tb_table(session, "BACK"))
+    expect(attr(fault$table, "release"), 4)
+    expect(fault$table$count, 2L)
+    expect(attr(tb_table(session, "BACK", at = 3), "release"), 3)
+    tb_forget_releases()
+    expect(attr(tb_table(session, "BACK"), "release"), 4)
+    tb_close(session)
   },
   a_port_that_another_client_has = function() {
     session <- analyst()

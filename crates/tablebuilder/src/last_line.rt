@@ -12,8 +12,10 @@ const ROOM: usize = 64;
 const BEGINNING: &[u8] = b"fault ";
 
 // How the first line of a report begins, which stands in front of such a line where sessions were
-// served.
+// served at ports in a row, or at one and at a door.
 const REPORT: &[u8] = b"worker 0 ";
+
+const DOOR_REPORT: &[u8] = b"port ";
 
 // How a reply begins that tells of a publication.
 const PUBLISHED: &[u8] = b"published ";
@@ -80,7 +82,7 @@ impl<'a, P: Print> Sink for LastLine<'a, P> {
         if bytes.starts_with(BEGINNING) {
             self.line = first_of(bytes);
         }
-        if bytes.starts_with(REPORT) {
+        if bytes.starts_with(REPORT) || bytes.starts_with(DOOR_REPORT) {
             self.reported = true;
         }
         match self.out.write(bytes) {

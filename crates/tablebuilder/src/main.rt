@@ -81,7 +81,7 @@ fn run_words<
     requires parts { blank.parts ≡ L.parts }
     requires some { 0 < L.parts }
 {
-    let Ok(mut net) = ports::real_ports(rt, rt.alloc(), sessions_of(arguments)) else {
+    let Ok(mut net) = ports::real_ports(rt, rt.alloc(), arguments) else {
         return end_by(&End::Memory, out);
     };
     let mut steps = Steps::<L>::new(blank);
@@ -103,17 +103,6 @@ fn explain(rt: &impl Eprint, arguments: Option<&Arguments<'_>>, ending: &Ending<
     if let Some(refusal) = Refusal::of(arguments, ending) {
         // Where that can't be written nothing can be said of it either.
         let _ = rt.eprintln(refusal);
-    }
-}
-
-// How many sessions each port has by these arguments.
-fn sessions_of(arguments: &Arguments<'_>) -> u32 {
-    match arguments.command() {
-        Some(command) => match command.service() {
-            Some(service) => service.sessions(),
-            None => 0,
-        },
-        None => 0,
     }
 }
 

@@ -3,7 +3,7 @@
 use crate::kinds::Kind;
 use crate::usage::{BadArgument, Usage};
 use tb_base::{Status, read_number};
-use tb_command::{Arguments, Command, Lines, Service, Task};
+use tb_command::{Arguments, Command, Layout, Lines, Service, Task};
 use tb_endings::Input;
 use tb_schema::MOST_UNSTATED;
 use tb_top::{LARGE_BYTES, most_bytes_of};
@@ -86,6 +86,14 @@ pub enum Refusal<'a> {
         for their buffers")]
     Unbound {
         port: u16,
+        workers: u32,
+    },
+    #[error("ports {port} and {door} must be free on this machine, this user must be allowed to open \
+        {files} files more (`ulimit -n`), and memory suffice for the buffers of {workers} workers")]
+    NoDoor {
+        port: u16,
+        door: u16,
+        files: u32,
         workers: u32,
     },
     #[error("each port must go on accepting clients until it has served its {sessions} sessions, \
@@ -225,9 +233,15 @@ fn of_net<'a>(service: &Service, reported: bool) -> Refusal<'a> {
         let sessions = service.sessions();
         return Refusal::Unaccepted { sessions };
     }
-    Refusal::Unbound {
-        port: service.port(),
-        workers: service.workers(),
+    let (port, workers) = (service.port(), service.workers());
+    match service.layout() {
+        Layout::Row => Refusal::Unbound { port, workers },
+        Layout::Door => Refusal::NoDoor {
+            port,
+            door: port.saturating_add(1),
+            files: service.ports(),
+            workers,
+        },
     }
 }
 

@@ -5,8 +5,7 @@ use std::fmt;
 use std::fmt::{Display, Formatter, Write};
 use tb_base::{MOST_THRESHOLD, read_number};
 use tb_command::{
-    Dwellings, Form, MOST_PORT, MOST_SESSIONS, MOST_WORKERS, all_forms, form_named, of_gen,
-    of_inputs,
+    Dwellings, Form, Layout, LinesFrom, MOST_SESSIONS, all_forms, form_named, of_gen, of_inputs,
 };
 use tb_gen::MOST_GENERATED;
 
@@ -25,6 +24,17 @@ fn may_name_a_file(word: &str) -> bool {
     !word.is_empty() && !word.starts_with('-')
 }
 
+// How the ports of a row lie.
+fn layout_of(form: Option<&Form>) -> Layout {
+    match form {
+        Some(form) => match form.lines {
+            LinesFrom::Ports(layout) => layout,
+            LinesFrom::Script | LinesFrom::Lanes => Layout::Row,
+        },
+        None => Layout::Row,
+    }
+}
+
 impl Rule {
     // What an argument must be at the position of this name, of a row or of `gen`.
     fn of(form: Option<&Form>, position: &str) -> Rule {
@@ -32,8 +42,8 @@ impl Rule {
             "DWELLINGS" | "LINKS" => Rule::of_dwellings(form),
             "RECODES" => Rule::FileOrDash,
             "THRESHOLD" => Rule::within(0, MOST_THRESHOLD),
-            "PORT" => Rule::within(1, u32::from(MOST_PORT)),
-            "WORKERS" => Rule::within(1, MOST_WORKERS),
+            "PORT" => Rule::within(1, u32::from(layout_of(form).most_port())),
+            "WORKERS" => Rule::within(1, layout_of(form).most_workers()),
             "SESSIONS" => Rule::within(1, MOST_SESSIONS),
             "N" => Rule::within(1, MOST_GENERATED as u32),
             "START" => Rule::within(0, u32::MAX),

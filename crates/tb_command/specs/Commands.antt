@@ -62,9 +62,9 @@ owner_in owned_by.Leader word = Some owner.Leader
 abbrev pub lines_in : LinesFrom → List (List ℕ) → ℕ → Option Lines
 lines_in lines_from.Script words i = option_map lines.Script (file_named (word_at words i))
 lines_in lines_from.Lanes words i = option_map lines.Lanes (file_named (word_at words i))
-lines_in lines_from.Ports words i =
+lines_in (lines_from.Ports kind) words i =
     option_map lines.Ports
-    (service_named (word_at words i) (word_at words (i + 1)) (word_at words (i + 2)))
+    (service_named kind (word_at words i) (word_at words (i + 1)) (word_at words (i + 2)))
 
 -- the task that a row of the table asks for
 abbrev pub task_in : FormValue → List (List ℕ) → Option Task
@@ -99,6 +99,15 @@ ports_service (lines.Lanes name) = None
 abbrev pub service_of : Command → Option Service
 service_of (command.Over task) = ports_service task.lines
 service_of (command.Gen population) = None
+
+-- how many ports a service takes: the first, and one for each worker
+abbrev pub ports_for : Option Service → ℕ
+ports_for None = 0
+ports_for (Some service) = service.workers + 1
+
+-- how many are asked for
+abbrev pub ports_asked : Option Command → ℕ
+ports_asked asked = ports_for (option_and_then service_of asked)
 
 -- the name of the journal's file, where it has one
 abbrev pub owner_journal : Owner → Option (List ℕ)

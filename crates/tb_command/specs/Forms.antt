@@ -8,6 +8,7 @@ use Rattle.tb_command.specs.declared.forms.LinesFrom.{LinesFrom}
 use Rattle.tb_command.specs.declared.forms.LinesFrom.TheVariants as lines_from
 use Rattle.tb_command.specs.declared.forms.OwnedBy.{OwnedBy}
 use Rattle.tb_command.specs.declared.forms.OwnedBy.TheVariants as owned_by
+use Rattle.tb_command.specs.declared.service.Layout.TheVariants as layout
 
 -- a row: the command's name, who owns the chain, where lines come from, and whether dwellings are
 -- named
@@ -33,9 +34,9 @@ forms =
     ∷ row (codes "keep") owned_by.Journal lines_from.Script dwellings.Never
     ∷ row (codes "follow") owned_by.Leader lines_from.Script dwellings.Never
     ∷ row (codes "units") owned_by.Custodian lines_from.Script dwellings.Always
-    ∷ row (codes "host") owned_by.Journal lines_from.Ports dwellings.OrDashes
-    ∷ row (codes "mirror") owned_by.Leader lines_from.Ports dwellings.OrDashes
-    ∷ row (codes "serve") owned_by.Custodian lines_from.Ports dwellings.Never
+    ∷ row (codes "host") owned_by.Journal (lines_from.Ports layout.Door) dwellings.OrDashes
+    ∷ row (codes "mirror") owned_by.Leader (lines_from.Ports layout.Door) dwellings.OrDashes
+    ∷ row (codes "serve") owned_by.Custodian (lines_from.Ports layout.Row) dwellings.Never
     ∷ []
 
 -- the first of some rows with a name
@@ -69,4 +70,4 @@ end_place f = after f.lines (lines_place f)
     after : LinesFrom → ℕ → ℕ
     after lines_from.Script i = i + 1
     after lines_from.Lanes i = i + 1
-    after lines_from.Ports i = i + 3
+    after (lines_from.Ports kind) i = i + 3

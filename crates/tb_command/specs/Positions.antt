@@ -25,7 +25,7 @@ owner_positions owned_by.Leader = []
 abbrev pub lines_positions : LinesFrom → List (List ℕ)
 lines_positions lines_from.Script = codes "SCRIPT" ∷ []
 lines_positions lines_from.Lanes = codes "SCRIPT" ∷ []
-lines_positions lines_from.Ports = codes "PORT" ∷ codes "WORKERS" ∷ codes "SESSIONS" ∷ []
+lines_positions (lines_from.Ports kind) = codes "PORT" ∷ codes "WORKERS" ∷ codes "SESSIONS" ∷ []
 
 -- those of a row, one group after another
 abbrev pub positions_of : FormValue → List (List ℕ)

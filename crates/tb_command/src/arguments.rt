@@ -1,7 +1,7 @@
 // The arguments, and the command that they are.
 
 ghost use Rattle.std.specs.Prelude.{◌≡◌, map, option_map, string_bytes};
-ghost use Rattle.tb_command.specs.Commands.{command_of};
+ghost use Rattle.tb_command.specs.Commands.{command_of, ports_asked};
 
 use crate::command::{Command, read_command};
 use std::marker::Model;
@@ -45,5 +45,18 @@ impl<'a> Arguments<'a> {
         ensures { option_map (λ c. c.now) result ≡ command_of self.now }
     {
         self.command.as_ref()
+    }
+
+    /// How many ports they ask for.
+    pub fn ports(&self) -> u32
+        ensures { result ≡ ports_asked (command_of self.now) }
+    {
+        match self.command() {
+            Some(command) => match command.service() {
+                Some(service) => service.ports(),
+                None => 0,
+            },
+            None => 0,
+        }
     }
 }

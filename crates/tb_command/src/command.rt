@@ -150,9 +150,9 @@ fn read_lines(lines: LinesFrom, words: &[String], i: usize) -> Option<Lines<'_>>
     match lines {
         LinesFrom::Script => Some(Lines::Script(read_file_name(first)?)),
         LinesFrom::Lanes => Some(Lines::Lanes(read_file_name(first)?)),
-        LinesFrom::Ports => {
-            let service = read_service(first, word_at(words, i + 1), word_at(words, i + 2))?;
-            Some(Lines::Ports(service))
+        LinesFrom::Ports(layout) => {
+            let (workers, sessions) = (word_at(words, i + 1), word_at(words, i + 2));
+            Some(Lines::Ports(read_service(layout, first, workers, sessions)?))
         }
     }
 }

@@ -8,6 +8,8 @@ ghost use Rattle.tb_command.specs.Forms.{end_place as the_end, form_in as first_
 ghost use Rattle.tb_command.specs.Forms.{form_value, forms, lines_place as the_lines};
 ghost use Rattle.tb_command.specs.Forms.{owner_place as the_owner};
 
+use crate::service::Layout;
+
 /// Who owns the chain: a custodian who publishes, one who writes each batch into a journal first,
 /// or a leader whose messages bring the batches.
 #[derive(Clone, Copy)]
@@ -18,12 +20,12 @@ pub enum OwnedBy {
 }
 
 /// Where lines come from: a script, one after another; its lanes, at the same time; or sessions at
-/// ports.
+/// ports, in a row or with a door.
 #[derive(Clone, Copy)]
 pub enum LinesFrom {
     Script,
     Lanes,
-    Ports,
+    Ports(Layout),
 }
 
 /// Whether a file of dwellings and one of links are named: never, always, or both or neither, where
@@ -79,19 +81,19 @@ static FORMS: [Form; 8] = [
     Form {
         name: "host",
         owner: OwnedBy::Journal,
-        lines: LinesFrom::Ports,
+        lines: LinesFrom::Ports(Layout::Door),
         dwellings: Dwellings::OrDashes,
     },
     Form {
         name: "mirror",
         owner: OwnedBy::Leader,
-        lines: LinesFrom::Ports,
+        lines: LinesFrom::Ports(Layout::Door),
         dwellings: Dwellings::OrDashes,
     },
     Form {
         name: "serve",
         owner: OwnedBy::Custodian,
-        lines: LinesFrom::Ports,
+        lines: LinesFrom::Ports(Layout::Row),
         dwellings: Dwellings::Never,
     },
 ];
@@ -149,7 +151,7 @@ impl Form {
     {
         match self.lines {
             LinesFrom::Script | LinesFrom::Lanes => self.lines_place() + 1,
-            LinesFrom::Ports => self.lines_place() + 3,
+            LinesFrom::Ports(_) => self.lines_place() + 3,
         }
     }
 }

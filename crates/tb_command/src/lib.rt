@@ -24,4 +24,6 @@ pub use file_name::FileName;
 pub use forms::{Dwellings, Form, LinesFrom, OwnedBy, all_forms, form_named};
 pub use population::Population;
 pub use positions::{of_gen, of_inputs};
-pub use service::{MOST_PORT, MOST_SESSIONS, MOST_WORKERS, Service};
+pub use service::{
+    Layout, MOST_DOOR_PORT, MOST_DOOR_WORKERS, MOST_PORT, MOST_SESSIONS, MOST_WORKERS, Service,
+};

@@ -66,7 +66,7 @@ impl LinesFrom {
     {
         match self {
             LinesFrom::Script | LinesFrom::Lanes => SCRIPT.as_slice(),
-            LinesFrom::Ports => PORTS.as_slice(),
+            LinesFrom::Ports(_) => PORTS.as_slice(),
         }
     }
 }

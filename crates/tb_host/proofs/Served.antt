@@ -24,8 +24,10 @@ use Rattle.tb_model.specs.Releases.{ReleaseValue}
 use Rattle.tb_model.specs.Setups.{SetupValue}
 use Rattle.tb_release.specs.declared.edits.Edit.{Edit}
 use Rattle.tb_serve.specs.Each.{Each}
+use Rattle.tb_serve.specs.Places.{number_at}
 use Rattle.tb_serve.specs.Ports.{PortValue}
 use Rattle.tb_serve.specs.Serves.{HasServed, IsVisited, Output, role_at}
+use Rattle.tb_serve.specs.declared.places.Places.{Places}
 use Rattle.tb_serve.specs.Stages.{GetsReady, IsLeft, IsUntouched}
 use Rattle.tb_serve.proofs.PortEnds.{visited_before}
 use Rattle.tb_serve.proofs.Wholes.{each_along, each_then}
@@ -84,11 +86,11 @@ module _ (setup : SetupValue) (base : ReleaseValue) (most : ℕ) (first last : K
 
 module _ {D : Type 0} (content : D → Option (List ℕ)) (may_leave : D → List ℕ → Type 0) (moment : D → ℕ) (left_since : D → ℕ → List ℕ → Type 0) (faults : D → ℕ)
     (old now new : D) (only : (image : List ℕ) → left_since old (moment old) image → may_leave old image) (same : new ≡ now) (setup : SetupValue) (custodian : CustodianValue)
-    (live later : Bool) (lives : live ≡ true) (state : StateValue) (most : ℕ) (a e : List PortValue) (some : 0 < length a)
+    (live later : Bool) (lives : live ≡ true) (state : StateValue) (places : Places) (most : ℕ) (a e : List PortValue) (some : 0 < length a)
     (reaches : Reaches (IsAt (AreLeft (content old) (may_leave old) (moment old) (left_since old)) live (faults old) (state_at custodian.writer [])) (IsAt (AreLeft (content now) (may_leave now) (moment now) (left_since now)) later (faults now) state)
-    (λ first last. Each (IsHosted setup (base_of custodian) most first last) a e)) (out : Output) (ended : Status) (reported : IsHostReported later e (length state.chain) out ended) where
+    (λ first last. Each (IsHosted setup (base_of custodian) most first last) a e)) (out : Output) (ended : Status) (reported : IsHostReported later places e (length state.chain) out ended) where
   pub hosted_from : (batches : List (List Edit)) → custodian.writer.list ≡ batches_of (base_of custodian) batches → EachStandsFor (may_leave old) batches None
-      → AreHostedFrom (after_playing (base_of custodian) batches (moment old) (faults old)) setup (base_of custodian) most a e
+      → AreHostedFrom (after_playing (base_of custodian) batches (moment old) (faults old)) setup (base_of custodian) places most a e
       (record { content = content old; content_after = content new; moment = moment old; could_leave = may_leave old; may_leave = may_leave new; left_since = left_since new; faults = faults old; faults_after = faults new }) out ended
   hosted_from batches chain stands =
       let first = after_playing (base_of custodian) batches (moment old) (faults old) in
@@ -105,16 +107,16 @@ module _ {D : Type 0} (content : D → Option (List ℕ)) (may_leave : D → Lis
         left = stands_now.now;
         ever = λ file told. subst (λ (s : Since). EachStandsBetween (left_since new) s (all_of last.batches last.further)) watched (stands_now.ever file told).each;
         counted = at.count ∙ ap faults (sym same);
-        reported = subst (λ (x : Bool × StateValue). IsHostReported x.0 e (length x.1.chain) out ended) (λ j. (sym at.lives j, sym at.same j)) reported;
+        reported = subst (λ (x : Bool × StateValue). IsHostReported x.0 places e (length x.1.chain) out ended) (λ j. (sym at.lives j, sym at.same j)) reported;
       }
 
 -- ---- from ports as they were made
 -- nothing was done with them
-pub untouched : (port : ℕ) (ports : List PortValue) → Each (IsUntouched port) ports ports
+pub untouched : (port : ℕ → ℕ) (ports : List PortValue) → Each (IsUntouched port) ports ports
 untouched port ports = record { same_length = refl; at = λ i d lt. record { rest = refl; count = omega arith; port = inl refl; out = refl; to_come = refl; came_back = refl } }
 
 -- what was true of a port that got ready is true of it as it was made
-ready_hosted : (setup : SetupValue) (base : ReleaseValue) (port most : ℕ) (first last : KeptState) (i : ℕ) (o p t : PortValue) → GetsReady port i o p → IsHosted setup base most first last i p t → IsHosted setup base most first last i o t
+ready_hosted : (setup : SetupValue) (base : ReleaseValue) (port : ℕ → ℕ) (most : ℕ) (first last : KeptState) (i : ℕ) (o p t : PortValue) → GetsReady port i o p → IsHosted setup base most first last i p t → IsHosted setup base most first last i o t
 ready_hosted setup base port most first last zero o p t ready x = visited_before (Lead (IsOwnKeptStep setup base)) at_session port most 0 first last o p t ready x
 ready_hosted setup base port most first last (suc i) o p t ready x = record {
   last = x.last;
@@ -122,8 +124,8 @@ ready_hosted setup base port most first last (suc i) o p t ready x = record {
   ends = x.ends;
 }
 
-left_at : (port i : ℕ) (o p t : PortValue) → GetsReady port i o p → IsLeft p t → IsLeftAt port i t
-left_at port i o p t ready left = record { port = left.port ∙ ready.bound.port; party = left.party; lines = left.lines }
+left_at : (places : Places) (i : ℕ) (o p t : PortValue) → GetsReady (number_at places) i o p → IsLeft p t → IsLeftAt places i t
+left_at places i o p t ready left = record { port = left.port ∙ ready.bound.port; party = left.party; lines = left.lines }
 
 -- what is seen of a disk from one moment to another
 module _ {D : Type 0} (content : D → Option (List ℕ)) (may_leave : D → List ℕ → Type 0) (moment : D → ℕ) (left_since : D → ℕ → List ℕ → Type 0) (faults : D → ℕ) where
@@ -139,15 +141,15 @@ module _ {D : Type 0} (content : D → Option (List ℕ)) (may_leave : D → Lis
     faults_after = faults after;
   }
 
-  module _ (setup : SetupValue) (base : ReleaseValue) (before now new : D) (custodian : CustodianValue) (r : HasRecovered setup base (seen before now) custodian) (port most : ℕ) (o a e : List PortValue) (ready : Each (GetsReady port) o a) (out : Output) (ended : Status)
+  module _ (setup : SetupValue) (base : ReleaseValue) (before now new : D) (custodian : CustodianValue) (r : HasRecovered setup base (seen before now) custodian) (places : Places) (most : ℕ) (o a e : List PortValue) (ready : Each (GetsReady (number_at places)) o a) (out : Output) (ended : Status)
       (served : (batches : List (List Edit)) → custodian.writer.list ≡ batches_of (base_of custodian) batches → EachStandsFor (may_leave now) batches None
-      → AreHostedFrom (after_playing (base_of custodian) batches (moment now) (faults now)) setup (base_of custodian) most a e (seen now new) out ended) where
-    hosted : AreHostedFrom (after_playing base r.batches (moment now) (faults now)) setup base most a e (seen now new) out ended
+      → AreHostedFrom (after_playing (base_of custodian) batches (moment now) (faults now)) setup (base_of custodian) places most a e (seen now new) out ended) where
+    hosted : AreHostedFrom (after_playing base r.batches (moment now) (faults now)) setup base places most a e (seen now new) out ended
     hosted =
         let chain = r.chain ∙ sym (ap (λ (b : ReleaseValue). batches_of b r.batches) r.start) in
-        subst (λ (b : ReleaseValue). AreHostedFrom (after_playing b r.batches (moment now) (faults now)) setup b most a e (seen now new) out ended) r.start (served r.batches chain r.left)
+        subst (λ (b : ReleaseValue). AreHostedFrom (after_playing b r.batches (moment now) (faults now)) setup b places most a e (seen now new) out ended) r.start (served r.batches chain r.left)
 
-    pub hosts_all : faults before ≤ faults now → moment before ≤ moment now → KeepsPast moment left_since now new → Each (λ _. IsLeft) a e → HostsAll setup base port most o e (seen before new) out ended
+    pub hosts_all : faults before ≤ faults now → moment before ≤ moment now → KeepsPast moment left_since now new → Each (λ _. IsLeft) a e → HostsAll setup base places most o e (seen before new) out ended
     hosts_all since began past left =
         let first = after_playing base r.batches (moment now) (faults now) in
         record {
@@ -162,15 +164,15 @@ module _ {D : Type 0} (content : D → Option (List ℕ)) (may_leave : D → Lis
           };
           hosted = record {
             last = hosted.last;
-            sessions = each_then (GetsReady port) (IsHosted setup base most first hosted.last) (IsHosted setup base most first hosted.last) o a e ready hosted.sessions
-                (λ i d lt x y. ready_hosted setup base port most first hosted.last i _ _ _ x y);
+            sessions = each_then (GetsReady (number_at places)) (IsHosted setup base most first hosted.last) (IsHosted setup base most first hosted.last) o a e ready hosted.sessions
+                (λ i d lt x y. ready_hosted setup base (number_at places) most first hosted.last i _ _ _ x y);
             chain = hosted.chain;
             left = hosted.left;
             ever = hosted.ever;
             counted = hosted.counted;
             reported = hosted.reported;
           };
-          bound = each_then (GetsReady port) (λ _. IsLeft) (λ i _. IsLeftAt port i) o a e ready left (λ i d lt x y. left_at port i _ _ _ x y);
+          bound = each_then (GetsReady (number_at places)) (λ _. IsLeft) (λ i _. IsLeftAt places i) o a e ready left (λ i d lt x y. left_at places i _ _ _ x y);
         }
 
     pub hosts_counted : 0 < length a → faults now ≤ faults new

@@ -1,5 +1,5 @@
 -- The sessions of a server that keeps a journal, and what a stop after them may leave of its file.
-use Rattle.std.specs.Prelude.{◌≡◌, ℕ, zero, suc, ◌+◌, List, Bool, false, None, Some, is_none}
+use Rattle.std.specs.Prelude.{◌≡◌, ℕ, zero, suc, List, Bool, false, None, Some, is_none}
 use Rattle.std.specs.Prelude.{length}
 use Rattle.tb_ahead.specs.Keepers.{KeeperValue, Reaches}
 use Rattle.tb_ahead.specs.Keeping.{KeptState}
@@ -16,8 +16,10 @@ use Rattle.tb_model.specs.Releases.{ReleaseValue}
 use Rattle.tb_model.specs.Setups.{SetupValue}
 use Rattle.tb_host.specs.Endings.{IsHostReported}
 use Rattle.tb_serve.specs.Each.{Each}
+use Rattle.tb_serve.specs.Places.{number_at}
 use Rattle.tb_serve.specs.Ports.{PortValue}
 use Rattle.tb_serve.specs.Serves.{HasServed, IsVisited, Output}
+use Rattle.tb_serve.specs.declared.places.Places.{Places}
 
 -- where a custodian stands that begins a session: it lets go of the edits that it held
 abbrev pub at_session : KeptState → KeptState
@@ -49,9 +51,9 @@ HostsFrom Continues live faults standing setup most old new before after =
 -- a stop now may leave stands for the batches to which its sessions led, whose chain the custodian
 -- has, and at most one further batch; and what a stop since then may have left, for a beginning of
 -- them that has all that he had then.
-pub record AreHostedFrom (first : KeptState) (setup : SetupValue) (base : ReleaseValue) (most : ℕ)
-    (before after : List PortValue) (saw : JournalSeen) (out : Output) (ended : Status)
-    : Type 0 where
+pub record AreHostedFrom (first : KeptState) (setup : SetupValue) (base : ReleaseValue)
+    (places : Places) (most : ℕ) (before after : List PortValue) (saw : JournalSeen)
+    (out : Output) (ended : Status) : Type 0 where
   pub last : KeptState
   pub sessions : Each (IsHosted setup base most first last) before after
   pub chain : IsTheirs base last
@@ -59,10 +61,11 @@ pub record AreHostedFrom (first : KeptState) (setup : SetupValue) (base : Releas
   pub ever : WhereTold saw.content_after
       (λ _. EachStandsBetween saw.left_since first.since (all_of last.batches last.further))
   pub counted : last.faults ≡ saw.faults_after
-  pub reported : IsHostReported (is_none last.further) after (length last.state.chain) out ended
+  pub reported : IsHostReported (is_none last.further) places after (length last.state.chain) out
+      ended
 
--- port i is left bound to the port of its number, without a party and a reader of lines
-pub record IsLeftAt (first i : ℕ) (after : PortValue) : Type 0 where
-  pub port : after.listener.port ≡ Some (first + i)
+-- port i is left without a party and a reader of lines, its listener bound to its number
+pub record IsLeftAt (places : Places) (i : ℕ) (after : PortValue) : Type 0 where
+  pub port : after.listener.port ≡ Some (number_at places i)
   pub party : after.party ≡ None
   pub lines : after.has_lines ≡ false

@@ -19,6 +19,7 @@ ghost use Rattle.tb_keep.specs.Publishers.{CanWriteAhead};
 ghost use Rattle.tb_model.specs.Schemas.{shape_of};
 ghost use Rattle.tb_release.specs.declared.edits.Edit.{Edit};
 ghost use Rattle.tb_serve.specs.Each.{Each};
+ghost use Rattle.tb_serve.specs.Places.{AreWithin};
 ghost use Rattle.tb_serve.specs.Serves.{output};
 ghost use Rattle.tb_serve.specs.Stages.{IsFresh, IsLeft, IsReady};
 ghost use Rattle.tb_session.specs.Parties.{IsCustodianOf, IsOwnerOf, seen_by};
@@ -35,7 +36,7 @@ use tb_io::{Listen, Sink};
 use tb_journal::Journal;
 use tb_journal_file::JournalFile;
 use tb_keep::{BoardPublisher, JournalFault, JournalOwner, Recovery, recover};
-use tb_serve::{Port, Readiness, prepare, serve_from, write_end};
+use tb_serve::{Places, Port, Readiness, prepare, serve_from, write_end};
 use tb_session::{Custody, Owner, Setting};
 
 // Serves the sessions of ports that are ready, at the first as the custodian, who holds no edits
@@ -100,12 +101,14 @@ fn serve_ready<
     custodian: Custodian,
     disk: &mut D,
     journal: Journal,
+    places: Places,
     sessions: u32,
     out: &mut O,
     ports: &mut [Port<N>],
 ) -> Status
     requires own { IsCustodianOf B.name (shape_of setting.now.setup.now.schema) custodian [] }
     requires live { journal.live ≡ true }
+    requires within { AreWithin places (length ports.old) }
     requires puts { CanPut (D.attached disk.old) (D.content disk.old) (D.may_leave disk.old)
         journal }
     requires some { 0 < length ports.old }
@@ -120,7 +123,7 @@ fn serve_ready<
         → EachStandsFor (D.may_leave disk.old) batches None
         → AreHostedFrom (after_playing custodian.writer.start.base batches (D.moment disk.old)
         (D.faults disk.old))
-        setting.now.setup.now custodian.writer.start.base sessions ports.old ports.new (record {
+        setting.now.setup.now custodian.writer.start.base places sessions ports.old ports.new (record {
           content = D.content disk.old;
           content_after = D.content disk.new;
           moment = D.moment disk.old;
@@ -150,7 +153,7 @@ fn serve_ready<
         disk: _lent,
         journal: _,
     } = ahead;
-    end_hosting(out, ports, release, live)
+    end_hosting(out, places, ports, release, live)
 }
 
 // The whole call, over just the ports that are served.
@@ -164,7 +167,7 @@ fn serve_ports<
     setting: &Setting<'_, B, R>,
     mut custodian: Custodian,
     disk: &mut D,
-    first: u16,
+    places: Places,
     sessions: u32,
     out: &mut O,
     ports: &mut [Port<N>],
@@ -173,12 +176,13 @@ fn serve_ports<
     requires first { custodian.writer.list ≡ [] }
     requires attached { D.attached disk.old ≡ true }
     requires some { 0 < length ports.old }
-    requires numbers { first + length ports.old ≤ 65536 }
+    requires within { AreWithin places (length ports.old) }
+    requires few { length ports.old < 2 ^ 32 }
     requires fresh { All IsFresh ports.old }
     ensures attached { D.attached disk.new ≡ true }
     ensures count { D.faults disk.old ≤ D.faults disk.new }
     ensures past { KeepsPast D.moment D.left_since disk.old disk.new }
-    ensures hosts { Hosts setting.now.setup.now custodian.writer.start.base first sessions
+    ensures hosts { Hosts setting.now.setup.now custodian.writer.start.base places sessions
         ports.old ports.new (record {
           content = D.content disk.old;
           content_after = D.content disk.new;
@@ -197,9 +201,11 @@ fn serve_ports<
         Recovery::DiskFault => return Ok(write_end(out, b"fault disk\n", Status::DiskFault)),
         Recovery::Memory => return Ok(write_end(out, b"fault memory\n", Status::Memory)),
     };
-    match prepare(setting.alloc, first, ports) {
+    match prepare(setting.alloc, places, ports) {
         Readiness::Ready => {
-            Ok(serve_ready(setting, custodian, disk, journal, sessions, out, ports))
+            Ok(serve_ready(
+                setting, custodian, disk, journal, places, sessions, out, ports,
+            ))
         }
         Readiness::NoMemory => Ok(write_end(out, b"fault memory\n", Status::Memory)),
         Readiness::NotBound => Ok(write_end(out, b"fault net\n", Status::NetFault)),
@@ -207,9 +213,9 @@ fn serve_ports<
 }
 
 /// Serves sessions with the journal in a disk's file, which was attached: opens it, publishes its
-/// batches, and then serves the custodian's sessions at the first port and analysts' at the
-/// `workers` ports after it, all over one board. The custodian is at release 0, and holds no edits.
-/// Ports past these stay as they are.
+/// batches, and then serves the custodian's sessions at the first listener and analysts' at the
+/// `workers` listeners after it, all over one board, each bound to its number by `places`. The
+/// custodian is at release 0, and holds no edits. Those past these stay as they are.
 ///
 /// Each batch that is published is written into the journal first. Where the disk fails, or memory
 /// runs out behind that write, the journal isn't live any more: each `publish` whose batch follows
@@ -230,7 +236,7 @@ pub fn serve_with_journal<
     setting: &Setting<'_, B, R>,
     custodian: Custodian,
     disk: &mut D,
-    first: u16,
+    places: Places,
     workers: u32,
     sessions: u32,
     out: &mut O,
@@ -240,12 +246,13 @@ pub fn serve_with_journal<
     requires first { custodian.writer.list ≡ [] }
     requires attached { D.attached disk.old ≡ true }
     requires there { workers < length net.old }
-    requires numbers { first + workers < 65536 }
+    requires few { workers < 65536 }
+    requires within { AreWithin places (workers + 1) }
     requires fresh { All IsFresh net.old }
     ensures attached { D.attached disk.new ≡ true }
     ensures count { D.faults disk.old ≤ D.faults disk.new }
     ensures past { KeepsPast D.moment D.left_since disk.old disk.new }
-    ensures hosts { Hosts setting.now.setup.now custodian.writer.start.base first sessions
+    ensures hosts { Hosts setting.now.setup.now custodian.writer.start.base places sessions
         (take (workers + 1) net.old) (take (workers + 1) net.new) (record {
           content = D.content disk.old;
           content_after = D.content disk.new;
@@ -261,5 +268,5 @@ pub fn serve_with_journal<
 {
     let count = workers as usize + 1;
     let (ports, _) = net.split_at_mut(count);
-    serve_ports(setting, custodian, disk, first, sessions, out, ports)
+    serve_ports(setting, custodian, disk, places, sessions, out, ports)
 }

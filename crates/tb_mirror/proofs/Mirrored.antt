@@ -19,8 +19,10 @@ use Rattle.tb_model.specs.Setups.{SetupValue}
 use Rattle.tb_release.specs.Batches.{BatchValue}
 use Rattle.tb_release.specs.Laws.{EditFits}
 use Rattle.tb_serve.specs.Each.{Each}
+use Rattle.tb_serve.specs.Places.{number_at}
 use Rattle.tb_serve.specs.Ports.{PortValue}
 use Rattle.tb_serve.specs.Serves.{HasServed, IsReported, IsVisited, Output, role_at}
+use Rattle.tb_serve.specs.declared.places.Places.{Places}
 use Rattle.tb_serve.specs.Stages.{GetsReady, IsLeft, IsUntouched}
 use Rattle.tb_serve.proofs.PortEnds.{visited_before}
 use Rattle.tb_serve.proofs.Wholes.{each_along, each_then}
@@ -75,23 +77,23 @@ all_mirrored setup base most old last writer after a e begins on none all same f
           (λ j. (on j, (none j, all j))) (others (suc i) d later lt)
 
 -- nothing was done with ports
-pub untouched : (port : ℕ) (ports : List PortValue) → Each (IsUntouched port) ports ports
+pub untouched : (port : ℕ → ℕ) (ports : List PortValue) → Each (IsUntouched port) ports ports
 untouched port ports = record { same_length = refl; at = λ i d lt. record { rest = refl; count = omega arith; port = inl refl; out = refl; to_come = refl; came_back = refl } }
 
 -- what was true of a port that got ready is true of it as it was made
-port_mirrored : (setup : SetupValue) (base : ReleaseValue) (first most : ℕ) (last : LaneValue) (i : ℕ) (o p t : PortValue) → GetsReady first i o p → HasMirrored setup base most last i p t → IsLeft p t
-    → IsPortMirrored setup base first most last i o t
-port_mirrored setup base first most last zero o p t ready x left = record {
+port_mirrored : (setup : SetupValue) (base : ReleaseValue) (places : Places) (most : ℕ) (last : LaneValue) (i : ℕ) (o p t : PortValue) → GetsReady (number_at places) i o p → HasMirrored setup base most last i p t → IsLeft p t
+    → IsPortMirrored setup base places most last i o t
+port_mirrored setup base places most last zero o p t ready x left = record {
   port = left.port ∙ ready.bound.port;
-  sessions = visited_before (Lead (IsMirrorStep setup)) without_message first most 0 (first_mirror setup base) last o p t ready x;
+  sessions = visited_before (Lead (IsMirrorStep setup)) without_message (number_at places) most 0 (first_mirror setup base) last o p t ready x;
   party = left.party;
   lines = left.lines;
 }
-port_mirrored setup base first most last (suc i) o p t ready x left = record {
+port_mirrored setup base places most last (suc i) o p t ready x left = record {
   port = left.port ∙ ready.bound.port;
   sessions = record {
     last = x.last;
-    visited = visited_before (IsLegal (role_at (suc i)) setup base) let_go first most (suc i) (after_seeing []) x.last o p t ready x.visited;
+    visited = visited_before (IsLegal (role_at (suc i)) setup base) let_go (number_at places) most (suc i) (after_seeing []) x.last o p t ready x.visited;
     ends = x.ends;
   };
   party = left.party;
@@ -99,13 +101,13 @@ port_mirrored setup base first most last (suc i) o p t ready x left = record {
 }
 
 -- all was served from the ports as they were made
-pub mirrors_all : (setup : SetupValue) (base given : ReleaseValue) (first most : ℕ) (o a e : List PortValue) (out : Output) (ended : Status) → given ≡ base → Each (GetsReady first) o a
-    → (last : LaneValue) × Each (HasMirrored setup given most last) a e × IsReported e last.follower.chain.batches out ended → Each (λ _. IsLeft) a e → MirrorsAll setup base first most o e out ended
-mirrors_all setup base given first most o a e out ended is ready (last, served, reported) left =
+pub mirrors_all : (setup : SetupValue) (base given : ReleaseValue) (places : Places) (most : ℕ) (o a e : List PortValue) (out : Output) (ended : Status) → given ≡ base → Each (GetsReady (number_at places)) o a
+    → (last : LaneValue) × Each (HasMirrored setup given most last) a e × IsReported places e last.follower.chain.batches out ended → Each (λ _. IsLeft) a e → MirrorsAll setup base places most o e out ended
+mirrors_all setup base given places most o a e out ended is ready (last, served, reported) left =
     let both : Each (λ i p t. HasMirrored setup given most last i p t × IsLeft p t) a e = record { same_length = left.same_length; at = λ i d lt. (served.at i d lt, left.at i d lt) } in
-    subst (λ (b : ReleaseValue). MirrorsAll setup b first most o e out ended) is (
+    subst (λ (b : ReleaseValue). MirrorsAll setup b places most o e out ended) is (
       last,
-      each_then (GetsReady first) (λ i p t. HasMirrored setup given most last i p t × IsLeft p t) (IsPortMirrored setup given first most last) o a e ready both
-          (λ i d lt x y. port_mirrored setup given first most last i _ _ _ x y.0 y.1),
+      each_then (GetsReady (number_at places)) (λ i p t. HasMirrored setup given most last i p t × IsLeft p t) (IsPortMirrored setup given places most last) o a e ready both
+          (λ i d lt x y. port_mirrored setup given places most last i _ _ _ x y.0 y.1),
       reported,
     )

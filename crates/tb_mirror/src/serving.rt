@@ -6,6 +6,7 @@ ghost use Rattle.tb_leader.specs.Lanes.{LaneValue};
 ghost use Rattle.tb_mirror.specs.Mirroring.{HasMirrored, Mirrors};
 ghost use Rattle.tb_model.specs.Schemas.{shape_of};
 ghost use Rattle.tb_serve.specs.Each.{Each};
+ghost use Rattle.tb_serve.specs.Places.{AreWithin};
 ghost use Rattle.tb_serve.specs.Serves.{IsReported, output};
 ghost use Rattle.tb_serve.specs.Stages.{IsFresh, IsLeft, IsReady};
 
@@ -18,7 +19,7 @@ use tb_base::{Memory, Status};
 use tb_board::{Board, Named, Opening};
 use tb_io::{Listen, Sink};
 use tb_release::Release;
-use tb_serve::{Port, Readiness, end_with_report, prepare, serve_from, write_end};
+use tb_serve::{Places, Port, Readiness, end_with_report, prepare, serve_from, write_end};
 use tb_session::{FIRST_CAPACITY, Owner, Setting};
 use tb_text::Setup;
 
@@ -39,18 +40,20 @@ fn serve_opened<B: Named + Send + Sync, O: Sink, N: Listen + Send, R: Threads + 
     alloc: Global,
     setup: &Setup,
     opening: Opening,
+    places: Places,
     sessions: u32,
     out: &mut O,
     ports: &mut [Port<N>],
 ) -> Status
     requires name { opening.name ≡ B.name }
     requires shape { opening.start.shape ≡ shape_of setup.now.schema }
+    requires within { AreWithin places (length ports.old) }
     requires some { 0 < length ports.old }
     requires few { length ports.old < 2 ^ 32 }
     requires can { All IsReady ports.old }
     ensures mirrored { (last : LaneValue)
         × Each (HasMirrored setup.now opening.start.base sessions last) ports.old ports.new
-        × IsReported ports.new last.follower.chain.batches (output (O.taken out.old)
+        × IsReported places ports.new last.follower.chain.batches (output (O.taken out.old)
         (O.taken out.new) (O.faults out.old) (O.faults out.new)) result }
     ensures left { Each (λ _. IsLeft) ports.old ports.new }
 {
@@ -64,7 +67,7 @@ fn serve_opened<B: Named + Send + Sync, O: Sink, N: Listen + Send, R: Threads + 
     let mirror = Mirror::new(alloc, custodian);
     let mirror = serve_from(&setting, &setting, sessions, mirror, ports);
     let release = Owner::<Setting<'_, B, R>, B>::release(&mirror, &setting);
-    end_with_report(out, ports, release)
+    end_with_report(out, places, ports, release)
 }
 
 // The whole call, over just the ports that are served.
@@ -73,7 +76,7 @@ fn serve_ports<O: Sink, N: Listen + Send, R: Threads + Wait + Sync>(
     alloc: Global,
     setup: &Setup,
     base: Release,
-    first: u16,
+    places: Places,
     sessions: u32,
     out: &mut O,
     ports: &mut [Port<N>],
@@ -81,27 +84,29 @@ fn serve_ports<O: Sink, N: Listen + Send, R: Threads + Wait + Sync>(
     requires first { base.number ≡ 0 }
     requires fit { AllFit (shape_of setup.now.schema) base.records }
     requires some { 0 < length ports.old }
-    requires numbers { first + length ports.old ≤ 65536 }
+    requires within { AreWithin places (length ports.old) }
+    requires few { length ports.old < 2 ^ 32 }
     requires fresh { All IsFresh ports.old }
-    ensures { Mirrors setup.now base first sessions ports.old ports.new (output (O.taken out.old)
+    ensures { Mirrors setup.now base places sessions ports.old ports.new (output (O.taken out.old)
         (O.taken out.new) (O.faults out.old) (O.faults out.new)) result }
 {
     let Ok(opening) = open(alloc, setup, base) else {
         return write_end(out, b"fault memory\n", Status::Memory);
     };
-    match prepare(alloc, first, ports) {
+    match prepare(alloc, places, ports) {
         Readiness::Ready => {
-            serve_opened::<Brand, O, N, R>(rt, alloc, setup, opening, sessions, out, ports)
+            serve_opened::<Brand, O, N, R>(rt, alloc, setup, opening, places, sessions, out, ports)
         }
         Readiness::NoMemory => write_end(out, b"fault memory\n", Status::Memory),
         Readiness::NotBound => write_end(out, b"fault net\n", Status::NetFault),
     }
 }
 
-/// Serves sessions over this release 0 as a mirror: a leader's at the first port and analysts' at
-/// the `workers` ports after it, all over one board. Ports past these stay as they are.
+/// Serves sessions over this release 0 as a mirror: a leader's at the first listener and analysts'
+/// at the `workers` listeners after it, all over one board, each bound to its number by `places`.
+/// Those past these stay as they are.
 ///
-/// The first port's sessions bring the leader's batches in numbered messages (`begin N`, its edits,
+/// The first one's sessions bring the leader's batches in numbered messages (`begin N`, its edits,
 /// `end`), each of which is published on the board when all before it are there; up to
 /// `tb_follow::MOST_AHEAD` numbers ahead it waits, also from one session to the next. A message
 /// that isn't ended goes with its session. `where` is answered by the number of the release, and
@@ -116,7 +121,7 @@ pub fn serve_mirror<O: Sink, N: Listen + Send, R: Threads + Wait + Sync>(
     alloc: Global,
     setup: &Setup,
     base: Release,
-    first: u16,
+    places: Places,
     workers: u32,
     sessions: u32,
     out: &mut O,
@@ -125,14 +130,15 @@ pub fn serve_mirror<O: Sink, N: Listen + Send, R: Threads + Wait + Sync>(
     requires first { base.number ≡ 0 }
     requires fit { AllFit (shape_of setup.now.schema) base.records }
     requires there { workers < length net.old }
-    requires numbers { first + workers < 65536 }
+    requires few { workers < 65536 }
+    requires within { AreWithin places (workers + 1) }
     requires fresh { All IsFresh net.old }
-    ensures mirrors { Mirrors setup.now base first sessions (take (workers + 1) net.old)
+    ensures mirrors { Mirrors setup.now base places sessions (take (workers + 1) net.old)
         (take (workers + 1) net.new) (output (O.taken out.old) (O.taken out.new)
         (O.faults out.old) (O.faults out.new)) result }
     ensures rest { drop (workers + 1) net.new ≡ drop (workers + 1) net.old }
 {
     let count = workers as usize + 1;
     let (ports, _) = net.split_at_mut(count);
-    serve_ports(rt, alloc, setup, base, first, sessions, out, ports)
+    serve_ports(rt, alloc, setup, base, places, sessions, out, ports)
 }

@@ -1,12 +1,14 @@
 ghost use Rattle.std.specs.Prelude.{◌≡◌, None, false, IfOk, OnErr};
 ghost use Rattle.tb_io.specs.Listeners.{CanAccept, HasFailed, Gives, connection, telling_none};
 
+use crate::door::{Door, listen};
 use crate::real_stream::{Outbox, RealSource, RealStreamSink, ends_of};
 use crate::trouble::{Trouble, trouble_of};
 use std::alloc::Global;
 use std::io::ErrorKind;
 use std::marker::Model;
-use std::net::{Ipv4Addr, Net, TcpListener, TcpStream};
+use std::net::{Net, TcpListener, TcpStream};
+use std::sync::Arc;
 use std::time::{Clock, Duration};
 use std::{io, thread};
 use tb_io::{Accepted, Bound, Listen};
@@ -20,24 +22,29 @@ const MOST_PAUSES: u32 = 60;
 
 const PAUSE_SECONDS: u64 = 1;
 
-// A socket that listens, and the outbox of its sessions.
+// A socket that listens, which others may have too, and the outbox of its sessions here.
 #[derive(Drop)]
 struct OpenPort {
-    socket: TcpListener,
+    socket: Arc<TcpListener>,
     outbox: Outbox,
 }
 
-/// A TCP listener on the loopback address, 127.0.0.1.
+/// A TCP listener on the loopback address, 127.0.0.1, with a port of its own or at a door, whose
+/// listeners share one.
 ///
-/// It tells no sessions, and closes those that come back, once what they wrote was written out.
-/// Each error of a bind or an accept counts one fault, up to the count's last value, and is told by
-/// one line on the standard error; so is the port, once the listener is bound to it, and once it
-/// listens there no more: after an accept that failed, and after so many sessions. Where the
-/// standard error can't be written nothing is told, and nothing else changes.
+/// It tells no sessions, and closes those that come back, once what they wrote was written out. A
+/// session whose client sends nothing for a time that it is given, or takes nothing, ends as by a
+/// fault of its stream. Each error of a bind or an accept counts one fault, up to the count's last
+/// value, and is told by one line on the standard error; so is the port, once a listener is bound
+/// to it, and once none listens there any more: each ends after an accept that failed, and after so
+/// many sessions. Where the standard error can't be written nothing is told, and nothing else
+/// changes.
 #[derive(Drop)]
 pub struct RealListen<'a, R: Net<Listener = TcpListener, Stream = TcpStream> + Eprint + Clock> {
     rt: &'a R,
     alloc: Global,
+    door: Option<Door>,
+    idle: Option<Duration>,
     open: Option<OpenPort>,
     port: Option<u16>,
     sessions: u32,
@@ -66,6 +73,31 @@ impl<'a, R: Net<Listener = TcpListener, Stream = TcpStream> + Eprint + Clock> Re
         RealListen {
             rt,
             alloc,
+            door: None,
+            idle: None,
+            open: None,
+            port: None,
+            sessions,
+            faults: 0,
+            is_out: false,
+        }
+    }
+
+    /// The same, at a door if one is given, whose sessions end after `idle`, if it is given.
+    pub fn at(
+        rt: &'a R,
+        alloc: Global,
+        sessions: u32,
+        door: Option<Door>,
+        idle: Option<Duration>,
+    ) -> RealListen<'a, R>
+        ensures { result ≡ telling_none 0 None false }
+    {
+        RealListen {
+            rt,
+            alloc,
+            door,
+            idle,
             open: None,
             port: None,
             sessions,
@@ -81,14 +113,15 @@ impl<'a, R: Net<Listener = TcpListener, Stream = TcpStream> + Eprint + Clock> Re
         self.faults = self.faults.saturating_add(1);
     }
 
-    // Listens no more, and tells so.
+    // Listens no more, and tells so where it was the last to listen there.
     fn shut(&mut self)
         ensures { self.new ≡ self.old }
     {
         if let Some(port) = self.port {
-            let _ = eprintln!(self.rt; "no longer listening on 127.0.0.1:{port}");
+            if is_last(self.open.take()) {
+                let _ = eprintln!(self.rt; "no longer listening on 127.0.0.1:{port}");
+            }
         }
-        self.open = None;
     }
 
     // The next stream, or the error, counted and told.
@@ -102,7 +135,7 @@ impl<'a, R: Net<Listener = TcpListener, Stream = TcpStream> + Eprint + Clock> Re
         let Some(port) = self.port else {
             unreachable!()
         };
-        match accept_ends(&self.open) {
+        match accept_ends(&self.open, self.idle) {
             Ok(ends) => {
                 self.is_out = true;
                 Ok(ends)
@@ -116,20 +149,35 @@ impl<'a, R: Net<Listener = TcpListener, Stream = TcpStream> + Eprint + Clock> Re
     }
 }
 
-// A socket that listens on this port, with an outbox.
+// A socket that listens on this port, with an outbox, and whether it listens since this call.
 fn open_port<R: Net<Listener = TcpListener, Stream = TcpStream>>(
     rt: &R,
     alloc: Global,
+    door: &Option<Door>,
     port: u16,
-) -> io::Result<OpenPort> {
+) -> io::Result<(OpenPort, bool)> {
     let outbox = Outbox::new(alloc)?;
-    let socket = TcpListener::bind(rt, (Ipv4Addr::LOCALHOST, port))?;
-    Ok(OpenPort { socket, outbox })
+    let (socket, is_new) = match door {
+        Some(door) => door.enter(rt, alloc, port)?,
+        None => (listen(rt, alloc, port)?, true),
+    };
+    Ok((OpenPort { socket, outbox }, is_new))
+}
+
+// Lets a port go, and says whether nobody listens there then.
+fn is_last(open: Option<OpenPort>) -> bool {
+    match open {
+        Some(OpenPort { socket, outbox: _ }) => Arc::into_inner(socket).is_some(),
+        None => false,
+    }
 }
 
 // The next stream of a port, as its two ends, unless the port was shut. What is written out is to be
-// sent at once; where that can't be had it comes later.
-fn accept_ends(open: &Option<OpenPort>) -> io::Result<(RealSource, RealStreamSink)>
+// sent at once; where that can't be had it comes later. It waits for its peer for this time at most.
+fn accept_ends(
+    open: &Option<OpenPort>,
+    idle: Option<Duration>,
+) -> io::Result<(RealSource, RealStreamSink)>
     ensures { IfOk result (λ ends. (ends.0.faults ≡ 0) × (ends.1.faults ≡ 0)) }
 {
     let Some(open) = open else {
@@ -137,6 +185,8 @@ fn accept_ends(open: &Option<OpenPort>) -> io::Result<(RealSource, RealStreamSin
     };
     let (stream, _) = open.socket.accept()?;
     let _ = stream.set_nodelay(true);
+    let _ = stream.set_read_timeout(idle);
+    let _ = stream.set_write_timeout(idle);
     ends_of(stream, &open.outbox)
 }
 
@@ -181,9 +231,11 @@ impl<'a, R: Net<Listener = TcpListener, Stream = TcpStream> + Eprint + Clock> Li
     ghost seen = { λ listener. listener };
 
     fn bind(&mut self, port: u16) -> Bound {
-        match open_port(self.rt, self.alloc, port) {
-            Ok(open) => {
-                let _ = eprintln!(self.rt; "listening on 127.0.0.1:{port}");
+        match open_port(self.rt, self.alloc, &self.door, port) {
+            Ok((open, is_new)) => {
+                if is_new {
+                    let _ = eprintln!(self.rt; "listening on 127.0.0.1:{port}");
+                }
                 self.open = Some(open);
                 self.port = Some(port);
                 Bound::Ready
@@ -215,12 +267,18 @@ impl<'a, R: Net<Listener = TcpListener, Stream = TcpStream> + Eprint + Clock> Li
         Accepted::Failed
     }
 
-    fn give_back(&mut self, reader: RealSource, _writer: RealStreamSink) {
+    /// What a session that ended by a fault of its stream still had to be written is lost: its peer
+    /// is waited for no longer.
+    fn give_back(&mut self, reader: RealSource, writer: RealStreamSink) {
         self.sessions = self.sessions.saturating_sub(1);
         if self.sessions == 0 {
             self.shut();
         }
-        reader.close(self.rt);
+        if reader.has_failed() || writer.has_failed() {
+            reader.abandon();
+        } else {
+            reader.close(self.rt);
+        }
         self.is_out = false;
     }
 }

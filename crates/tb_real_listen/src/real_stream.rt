@@ -97,6 +97,13 @@ impl Outbox {
         Ok(())
     }
 
+    // Ends the session, whose stream is closed: what waits is lost.
+    fn abandon(&self) -> io::Result<()> {
+        let mut out = self.lock()?;
+        out.get_mut().stream = None;
+        out.flush()
+    }
+
     // Writes out what waits, and ends the session, whose stream it gives back: what can't be written
     // is lost.
     fn close(&self) -> io::Result<Option<TcpStream>> {
@@ -113,8 +120,9 @@ impl Outbox {
 ///
 /// Before it reads it writes out what its writing end took, so no peer waits for what was written.
 /// Each error of the system counts one fault, up to the count's last value, and the read fails; so
-/// does one whose peer has reset the connection, or takes no more, and one beside a write in
-/// another thread. A read where the peer has ended it returns End.
+/// does one whose peer has reset the connection, or takes no more, or sends nothing for as long as
+/// its listener waits, and one beside a write in another thread. A read where the peer has ended it
+/// returns End.
 #[derive(Drop)]
 pub struct RealSource {
     outbox: Outbox,
@@ -159,6 +167,16 @@ pub(crate) fn ends_of(
 }
 
 impl RealSource {
+    // Whether a read failed.
+    pub(crate) fn has_failed(&self) -> bool {
+        self.faults > 0
+    }
+
+    /// Closes the stream, both ways. What waits is lost.
+    pub(crate) fn abandon(self) {
+        let _ = self.outbox.abandon();
+    }
+
     /// Writes out what waits and closes the stream, both ways. All that was written reaches the
     /// peer, also one that goes on sending, which is waited for a while.
     pub(crate) fn close(self, clock: &impl Clock) {
@@ -168,6 +186,13 @@ impl RealSource {
                 let _ = linger(clock, &mut stream);
             }
         }
+    }
+}
+
+impl RealStreamSink {
+    // Whether a write failed.
+    pub(crate) fn has_failed(&self) -> bool {
+        self.faults > 0
     }
 }
 

@@ -9,6 +9,8 @@ use Rattle.tb_model.specs.Releases.{ReleaseValue}
 use Rattle.tb_model.specs.Setups.{SetupValue}
 use Rattle.tb_release.specs.Batches.{BatchValue}
 use Rattle.tb_serve.specs.Each.{Each}
+use Rattle.tb_serve.specs.Places.{number_at}
+use Rattle.tb_serve.specs.declared.places.Places.{Places}
 use Rattle.tb_serve.specs.Ports.{PortValue}
 use Rattle.tb_serve.specs.Reports.{some_failed}
 use Rattle.tb_serve.specs.Serves.{HasServed, IsEnded, IsPortServed, IsReported, Output, ServesAll, final_status, output}
@@ -32,20 +34,20 @@ pub final_is : (b : Bool) (ports : List PortValue) → b ≡ some_failed ports
 final_is b ports is = ap (λ c. if c then status.NetFault else status.Done) is
 
 -- all was served from the ports as they were made
-pub served_all : (setup : SetupValue) (base given : ReleaseValue) (first most : ℕ) (o a e : List PortValue) (out : Output)
-    (ended : Status) → given ≡ base → Each (GetsReady first) o a
-    → (chain : List BatchValue) × Each (HasServed setup given most [] chain) a e × IsReported e chain out ended → Each (λ _. IsLeft) a e
-    → ServesAll setup base first most o e out ended
-served_all setup base given first most o a e out ended is ready served left =
+pub served_all : (setup : SetupValue) (base given : ReleaseValue) (places : Places) (most : ℕ) (o a e : List PortValue) (out : Output)
+    (ended : Status) → given ≡ base → Each (GetsReady (number_at places)) o a
+    → (chain : List BatchValue) × Each (HasServed setup given most [] chain) a e × IsReported places e chain out ended → Each (λ _. IsLeft) a e
+    → ServesAll setup base places most o e out ended
+served_all setup base given places most o a e out ended is ready served left =
     let both : Each (λ i p t. HasServed setup given most [] served.0 i p t × IsLeft p t) a e = record {
       same_length = left.same_length;
       at =
           λ i d lt. (served.1.at i d lt, left.at i d lt);
     } in
-    subst (λ (b : ReleaseValue). ServesAll setup b first most o e out ended) is (
+    subst (λ (b : ReleaseValue). ServesAll setup b places most o e out ended) is (
       served.0,
-      each_then (GetsReady first) (λ i p t. HasServed setup given most [] served.0 i p t × IsLeft p t)
-          (IsPortServed setup given first most served.0) o a e ready both
-          (λ i d lt x y. port_served setup given first most served.0 i _ _ _ x y.0 y.1),
+      each_then (GetsReady (number_at places)) (λ i p t. HasServed setup given most [] served.0 i p t × IsLeft p t)
+          (IsPortServed setup given places most served.0) o a e ready both
+          (λ i d lt x y. port_served setup given places most served.0 i _ _ _ x y.0 y.1),
       served.2,
     )

@@ -10,7 +10,7 @@ use Rattle.tb_io.proofs.TakenLemmas.{Took-append, TookPart-append, TookPart-long
 use Rattle.tb_io.proofs.Taking.{Took-more, Took-same, TookPart-more}
 use Rattle.tb_io.proofs.Written.{all_written, cut_written}
 use Rattle.tb_serve.specs.Ports.{PortValue}
-use Rattle.tb_serve.specs.Reports.{worker_line, worker_lines}
+use Rattle.tb_serve.specs.Reports.{served_at, worker_line, worker_lines}
 
 lines_length : (j : ℕ) (ports : List PortValue) → length (worker_lines j ports) ≡ length ports
 lines_length j [] = refl
@@ -83,3 +83,13 @@ cut_before {t} {t'} {text} more h = record {
       (e));
   part = λ e. TookPart-longer t t' text more (h.part e);
 }
+
+-- ---- sessions of some ports together
+-- one port more
+pub served_more : (ports : List PortValue) (i : ℕ) (d : PortValue) → i < length ports → served_at (take (i + 1) ports) ≡ served_at (take i ports) + (get_or ports i d).served
+served_more [] i d lt = absurd (omega arith)
+served_more (port ∷ ports) zero d lt = omega arith
+served_more (port ∷ ports) (suc i) d lt =
+    let e : suc i + 1 ≡ suc (i + 1) = omega arith in
+    let more = served_more ports i d (omega arith) in
+    ap (λ n. served_at (take n (port ∷ ports))) e ∙ ap (λ n. port.served + n) more ∙ omega arith

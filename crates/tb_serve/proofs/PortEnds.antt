@@ -12,6 +12,8 @@ use Rattle.tb_model.specs.Releases.{ReleaseValue}
 use Rattle.tb_model.specs.Schemas.{shape_of}
 use Rattle.tb_model.specs.Setups.{SetupValue}
 use Rattle.tb_release.specs.Batches.{BatchValue}
+use Rattle.tb_serve.specs.Places.{number_at}
+use Rattle.tb_serve.specs.declared.places.Places.{Places}
 use Rattle.tb_serve.specs.Ports.{PortValue}
 use Rattle.tb_ahead.specs.Publishing.{after_seeing, let_go}
 use Rattle.tb_serve.specs.Serves.{HasServed, IsPortServed, IsVisited, role_at}
@@ -33,8 +35,8 @@ use Rattle.tb_worker.specs.Work.{HasGiven, HasWorked, went_of}
 pub can_bind : (o p : PortValue) → IsFresh o → HasLines o p → CanBind p.listener
 can_bind o p fresh lines = subst (λ (l : ListenerValue). CanBind l) (sym (ap (λ (x : PortValue). x.listener) lines)) fresh.can
 
-pub gets_ready : (first i : ℕ) (o p q : PortValue) → IsFresh o → HasLines o p → IsBoundAt first i p q → GetsReady first i o q
-gets_ready first i o p q fresh lines bound =
+pub gets_ready : (number : ℕ → ℕ) (i : ℕ) (o p q : PortValue) → IsFresh o → HasLines o p → IsBoundAt number i p q → GetsReady number i o q
+gets_ready number i o p q fresh lines bound =
     let there : p.listener ≡ o.listener = ap (λ (x : PortValue). x.listener) lines in
     record {
       can = record {
@@ -46,7 +48,7 @@ gets_ready first i o p q fresh lines bound =
         lines = ap (λ (x : PortValue). x.has_lines) bound.rest ∙ ap (λ (x : PortValue). x.has_lines) lines;
         party = ap (λ (x : PortValue). x.party) bound.rest ∙ ap (λ (x : PortValue). x.party) lines ∙ ap (λ (x : PortValue). x.party) fresh.made;
       };
-      bound = subst (λ (l : ListenerValue). IsSameBut (record l { port = Some (first + i) }) q.listener) there bound.bound;
+      bound = subst (λ (l : ListenerValue). IsSameBut (record l { port = Some (number i) }) q.listener) there bound.bound;
       calm = subst (λ (l : ListenerValue). IsCalm l q.listener) there bound.calm;
       rest = bound.rest ∙ ap (λ (x : PortValue). record x { listener = q.listener }) lines;
     }
@@ -177,11 +179,11 @@ given_before l m n port vs same given = record {
   came_back = given.came_back ∙ ap (λ (o : Option (List Connection)). option_map (λ back. back ++ went_of vs) o) same.came_back;
 }
 
-pub visited_before : {S : Type 0} (Legal : S → List (List ℕ) → List ReplyValue → S → Type 0) (fresh : S → S) (first most i : ℕ) (from to : S) (o p t : PortValue)
-    → GetsReady first i o p → IsVisited Legal fresh most from to p t → IsVisited Legal fresh most from to o t
-visited_before Legal fresh first most i from to o p t ready x = record {
+pub visited_before : {S : Type 0} (Legal : S → List (List ℕ) → List ReplyValue → S → Type 0) (fresh : S → S) (number : ℕ → ℕ) (most i : ℕ) (from to : S) (o p t : PortValue)
+    → GetsReady number i o p → IsVisited Legal fresh most from to p t → IsVisited Legal fresh most from to o t
+visited_before Legal fresh number most i from to o p t ready x = record {
   visits = x.visits;
-  given = given_before o.listener p.listener t.listener (first + i) x.visits ready.bound x.given;
+  given = given_before o.listener p.listener t.listener (number i) x.visits ready.bound x.given;
   counted = x.counted;
   enough = record {
     within = x.enough.within;
@@ -192,14 +194,14 @@ visited_before Legal fresh first most i from to o p t ready x = record {
   lead = x.lead;
 }
 
-pub port_served : (setup : SetupValue) (base : ReleaseValue) (first most : ℕ) (chain : List BatchValue) (i : ℕ) (o p t : PortValue)
-    → GetsReady first i o p → HasServed setup base most [] chain i p t → IsLeft p t
-    → IsPortServed setup base first most chain i o t
-port_served setup base first most chain i o p t ready x left = record {
+pub port_served : (setup : SetupValue) (base : ReleaseValue) (places : Places) (most : ℕ) (chain : List BatchValue) (i : ℕ) (o p t : PortValue)
+    → GetsReady (number_at places) i o p → HasServed setup base most [] chain i p t → IsLeft p t
+    → IsPortServed setup base places most chain i o t
+port_served setup base places most chain i o p t ready x left = record {
   port = left.port ∙ ready.bound.port;
   sessions = record {
     last = x.last;
-    visited = visited_before (IsLegal (role_at i) setup base) let_go first most i (after_seeing []) x.last o p t ready x.visited;
+    visited = visited_before (IsLegal (role_at i) setup base) let_go (number_at places) most i (after_seeing []) x.last o p t ready x.visited;
     ends = x.ends;
   };
   party = left.party;
@@ -214,18 +216,18 @@ again o l fresh =
     (x : PortValue). record x { listener = l }) (sym fresh.made)
 
 -- the listener of a port that was cleared is untouched where it was so before
-cleared_untouched : (first i : ℕ) (o p q : PortValue) → IsFresh o → p ≡ record o { listener = p.listener; has_lines = p.has_lines } →
+cleared_untouched : (number : ℕ → ℕ) (i : ℕ) (o p q : PortValue) → IsFresh o → p ≡ record o { listener = p.listener; has_lines = p.has_lines } →
     IsCleared p q
-    → IsUntouched first i o (record o { listener = p.listener }) → IsUntouched first i o q
-cleared_untouched first i o p q fresh moved cleared same =
+    → IsUntouched number i o (record o { listener = p.listener }) → IsUntouched number i o q
+cleared_untouched number i o p q fresh moved cleared same =
     let is : q ≡ record o { listener = p.listener } = cleared ∙ ap (λ
     (x : PortValue). record x { party = None; has_lines = false }) moved ∙ again o p.listener fresh in
-    subst (λ (x : PortValue). IsUntouched first i o x) (sym is) same
+    subst (λ (x : PortValue). IsUntouched number i o x) (sym is) same
 
-pub unserved_lines : (first i : ℕ) (o p q : PortValue) → IsFresh o → IsSameButLines o p → IsCleared p q → IsUntouched first i o q
-unserved_lines first i o p q fresh lines cleared =
+pub unserved_lines : (number : ℕ → ℕ) (i : ℕ) (o p q : PortValue) → IsFresh o → IsSameButLines o p → IsCleared p q → IsUntouched number i o q
+unserved_lines number i o p q fresh lines cleared =
     let there : p.listener ≡ o.listener = ap (λ (x : PortValue). x.listener) lines in
-    let same : IsUntouched first i o (record o { listener = o.listener }) = record {
+    let same : IsUntouched number i o (record o { listener = o.listener }) = record {
       rest = refl;
       count = omega arith;
       port = inl refl;
@@ -233,29 +235,29 @@ unserved_lines first i o p q fresh lines cleared =
       to_come = refl;
       came_back = refl;
     } in
-    cleared_untouched first i o p q fresh (lines ∙ ap (λ (l : ListenerValue). record o { listener = l; has_lines = p.has_lines })
+    cleared_untouched number i o p q fresh (lines ∙ ap (λ (l : ListenerValue). record o { listener = l; has_lines = p.has_lines })
     (sym there)) cleared
-    (subst (λ (l : ListenerValue). IsUntouched first i o (record o { listener = l })) (sym there) same)
+    (subst (λ (l : ListenerValue). IsUntouched number i o (record o { listener = l })) (sym there) same)
 
-pub unserved_bound : (first i : ℕ) (o p q r : PortValue) → IsFresh o → HasLines o p → IsUntouched first i p q → IsCleared q r
-    → IsUntouched first i o r
-unserved_bound first i o p q r fresh lines same cleared =
+pub unserved_bound : (number : ℕ → ℕ) (i : ℕ) (o p q r : PortValue) → IsFresh o → HasLines o p → IsUntouched number i p q → IsCleared q r
+    → IsUntouched number i o r
+unserved_bound number i o p q r fresh lines same cleared =
     let there : p.listener ≡ o.listener = ap (λ (x : PortValue). x.listener) lines in
     let has : q.has_lines ≡ true = ap (λ (x : PortValue). x.has_lines) same.rest ∙ ap (λ (x : PortValue). x.has_lines) lines in
-    cleared_untouched first i o q r fresh (same.rest ∙ ap (λ (x : PortValue). record x { listener = q.listener }) lines ∙ ap
+    cleared_untouched number i o q r fresh (same.rest ∙ ap (λ (x : PortValue). record x { listener = q.listener }) lines ∙ ap
     (λ b. record o { listener = q.listener; has_lines = b }) (sym has)) cleared
     (record {
       rest = refl;
       count = omega (arith, same.count, ap (λ (l : ListenerValue). l.faults) there);
-      port = subst (λ (l : ListenerValue). (q.listener.port ≡ l.port) ⊎ (q.listener.port ≡ Some (first + i))) there same.port;
+      port = subst (λ (l : ListenerValue). (q.listener.port ≡ l.port) ⊎ (q.listener.port ≡ Some (number i))) there same.port;
       out = same.out ∙ ap (λ (l : ListenerValue). l.is_out) there;
       to_come = same.to_come ∙ ap (λ (l : ListenerValue). l.to_come) there;
       came_back = same.came_back ∙ ap (λ (l : ListenerValue). l.came_back) there;
     })
 
-pub unserved_ready : (first i : ℕ) (o p q : PortValue) → IsFresh o → GetsReady first i o p → IsCleared p q → IsUntouched first i o q
-unserved_ready first i o p q fresh ready cleared =
-    cleared_untouched first i o p q fresh (ready.rest ∙ ap (λ b. record o { listener = p.listener; has_lines = b })
+pub unserved_ready : (number : ℕ → ℕ) (i : ℕ) (o p q : PortValue) → IsFresh o → GetsReady number i o p → IsCleared p q → IsUntouched number i o q
+unserved_ready number i o p q fresh ready cleared =
+    cleared_untouched number i o p q fresh (ready.rest ∙ ap (λ b. record o { listener = p.listener; has_lines = b })
     (sym ready.can.lines)) cleared
     (record {
       rest = refl;

@@ -1,6 +1,7 @@
 pub mod Beside
 pub mod Each
 pub mod Ports
+pub mod Places
 pub mod PortCodes
 pub mod Workers
 pub mod Stages

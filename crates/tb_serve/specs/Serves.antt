@@ -11,9 +11,11 @@ use Rattle.tb_model.specs.Setups.{SetupValue}
 use Rattle.tb_lines.specs.Outputs.{ReplyValue}
 use Rattle.tb_release.specs.Batches.{BatchValue}
 use Rattle.tb_serve.specs.Each.{Each}
+use Rattle.tb_serve.specs.Places.{number_at}
 use Rattle.tb_serve.specs.Ports.{PortValue}
 use Rattle.tb_serve.specs.Reports.{memory_line, net_line, report, some_failed}
 use Rattle.tb_serve.specs.Stages.{IsOneNotBound, IsUntouched}
+use Rattle.tb_serve.specs.declared.places.Places.{Places}
 use Rattle.tb_ahead.specs.Publishing.{StateValue, after_seeing, let_go}
 use Rattle.tb_session.specs.Transcripts.{IsLegal}
 use Rattle.tb_session.specs.declared.party.Role.{Role}
@@ -52,11 +54,11 @@ pub record HasServed (setup : SetupValue) (base : ReleaseValue) (most : ℕ)
       before after
   pub ends : EndsAt (role_at i) last.chain chain
 
--- what became of port i: its listener was bound to the port of its number and served its sessions,
--- from no batch on, and no party and no reader of lines is left
-pub record IsPortServed (setup : SetupValue) (base : ReleaseValue) (first most : ℕ)
+-- what became of port i: its listener was bound to its number and served its sessions, from no
+-- batch on, and no party and no reader of lines is left
+pub record IsPortServed (setup : SetupValue) (base : ReleaseValue) (places : Places) (most : ℕ)
     (chain : List BatchValue) (i : ℕ) (before after : PortValue) : Type 0 where
-  pub port : after.listener.port ≡ Some (first + i)
+  pub port : after.listener.port ≡ Some (number_at places i)
   pub sessions : HasServed setup base most [] chain i before after
   pub party : after.party ≡ None
   pub lines : after.has_lines ≡ false
@@ -86,34 +88,34 @@ abbrev pub final_status : List PortValue → Status
 final_status ports = if some_failed ports then status.NetFault else status.Done
 
 -- the report of ports that were served along a chain was written
-abbrev pub IsReported : List PortValue → List BatchValue → Output → Status → Type 0
-IsReported ports chain out ended =
-    IsEnded (report ports (length chain)) (final_status ports) out ended
+abbrev pub IsReported : Places → List PortValue → List BatchValue → Output → Status → Type 0
+IsReported places ports chain out ended =
+    IsEnded (report places ports (length chain)) (final_status ports) out ended
 
 -- all was served along one chain of batches, and reported
-abbrev pub ServesAll : SetupValue → ReleaseValue → ℕ → ℕ → List PortValue → List PortValue
+abbrev pub ServesAll : SetupValue → ReleaseValue → Places → ℕ → List PortValue → List PortValue
     → Output → Status → Type 0
-ServesAll setup base first most before after out ended =
+ServesAll setup base places most before after out ended =
     (chain : List BatchValue)
-    × Each (IsPortServed setup base first most chain) before after
-    × IsReported after chain out ended
+    × Each (IsPortServed setup base places most chain) before after
+    × IsReported places after chain out ended
 
 -- memory was refused, and nothing was accepted
-abbrev pub IsOutOfMemory : ℕ → List PortValue → List PortValue → Output → Status → Type 0
-IsOutOfMemory first before after out ended =
-    Each (IsUntouched first) before after × IsEnded memory_line status.Memory out ended
+abbrev pub IsOutOfMemory : (ℕ → ℕ) → List PortValue → List PortValue → Output → Status → Type 0
+IsOutOfMemory number before after out ended =
+    Each (IsUntouched number) before after × IsEnded memory_line status.Memory out ended
 
 -- a bind failed, so that a port is left unbound whose listener's count rose, and nothing was
 -- accepted
-abbrev pub IsUnbound : ℕ → List PortValue → List PortValue → Output → Status → Type 0
-IsUnbound first before after out ended =
-    Each (IsUntouched first) before after × IsOneNotBound before after
+abbrev pub IsUnbound : (ℕ → ℕ) → List PortValue → List PortValue → Output → Status → Type 0
+IsUnbound number before after out ended =
+    Each (IsUntouched number) before after × IsOneNotBound before after
     × IsEnded net_line status.NetFault out ended
 
 -- what a call did with its ports, each of which is to serve so many sessions
-abbrev pub Serves : SetupValue → ReleaseValue → ℕ → ℕ → List PortValue → List PortValue
+abbrev pub Serves : SetupValue → ReleaseValue → Places → ℕ → List PortValue → List PortValue
     → Output → Status → Type 0
-Serves setup base first most before after out ended =
-    IsOutOfMemory first before after out ended
-    ⊎ (IsUnbound first before after out ended
-    ⊎ ServesAll setup base first most before after out ended)
+Serves setup base places most before after out ended =
+    IsOutOfMemory (number_at places) before after out ended
+    ⊎ (IsUnbound (number_at places) before after out ended
+    ⊎ ServesAll setup base places most before after out ended)

@@ -32,18 +32,18 @@ HasLines before after = after ≡ record before { has_lines = true }
 abbrev pub IsSameButLines : PortValue → PortValue → Type 0
 IsSameButLines before after = after ≡ record before { has_lines = after.has_lines }
 
--- the listener of port i was bound to the port of its number
-pub record IsBoundAt (first i : ℕ) (before after : PortValue) : Type 0 where
+-- the listener of port i was bound to its number
+pub record IsBoundAt (number : ℕ → ℕ) (i : ℕ) (before after : PortValue) : Type 0 where
   pub rest : after ≡ record before { listener = after.listener }
-  pub bound : IsSameBut (record before.listener { port = Some (first + i) }) after.listener
+  pub bound : IsSameBut (record before.listener { port = Some (number i) }) after.listener
   pub calm : IsCalm before.listener after.listener
 
 -- nothing was accepted at port i: at most its listener was bound, and its count of faults rose
-pub record IsUntouched (first i : ℕ) (before after : PortValue) : Type 0 where
+pub record IsUntouched (number : ℕ → ℕ) (i : ℕ) (before after : PortValue) : Type 0 where
   pub rest : after ≡ record before { listener = after.listener }
   pub count : before.listener.faults ≤ after.listener.faults
   pub port : (after.listener.port ≡ before.listener.port)
-      ⊎ (after.listener.port ≡ Some (first + i))
+      ⊎ (after.listener.port ≡ Some (number i))
   pub out : after.listener.is_out ≡ before.listener.is_out
   pub to_come : after.listener.to_come ≡ before.listener.to_come
   pub came_back : after.listener.came_back ≡ before.listener.came_back
@@ -74,18 +74,18 @@ pub record IsReady (port : PortValue) : Type 0 where
   pub party : port.party ≡ None
 
 -- port i got ready
-pub record GetsReady (first i : ℕ) (before after : PortValue) : Type 0 where
+pub record GetsReady (number : ℕ → ℕ) (i : ℕ) (before after : PortValue) : Type 0 where
   pub can : IsReady after
-  pub bound : IsSameBut (record before.listener { port = Some (first + i) }) after.listener
+  pub bound : IsSameBut (record before.listener { port = Some (number i) }) after.listener
   pub calm : IsCalm before.listener after.listener
   pub rest : after ≡ record before { listener = after.listener; has_lines = true }
 
 -- all ports got ready; or memory was refused; or a bind failed, whose port is left unbound
-abbrev pub HasPrepared : ℕ → List PortValue → List PortValue → Readiness → Type 0
-HasPrepared first before after readiness.Ready = Each (GetsReady first) before after
-HasPrepared first before after readiness.NoMemory = Each (IsUntouched first) before after
-HasPrepared first before after readiness.NotBound =
-    Each (IsUntouched first) before after × IsOneNotBound before after
+abbrev pub HasPrepared : (ℕ → ℕ) → List PortValue → List PortValue → Readiness → Type 0
+HasPrepared number before after readiness.Ready = Each (GetsReady number) before after
+HasPrepared number before after readiness.NoMemory = Each (IsUntouched number) before after
+HasPrepared number before after readiness.NotBound =
+    Each (IsUntouched number) before after × IsOneNotBound before after
 
 -- ---- the parties
 

@@ -3,14 +3,16 @@
 // What is done with each of some ports is `Each`: one length, and a relation at every place.
 // `Halfway` of `proofs/Each` serves every loop over them.
 
-ghost use Rattle.std.specs.Prelude.{◌≡◌, ◌+◌, ◌≤◌, All, OnErr, OnOk, length};
+ghost use Rattle.std.specs.Prelude.{◌≡◌, All, OnErr, OnOk, length};
 ghost use Rattle.tb_io.specs.declared.answers.Bound.TheVariants as bound;
 ghost use Rattle.tb_serve.specs.Each.{Each};
+ghost use Rattle.tb_serve.specs.Places.{AreWithin, number_at};
 ghost use Rattle.tb_serve.specs.Ports.{PortValue};
 ghost use Rattle.tb_serve.specs.Stages.{CanBeBound, HasLines, HasPrepared, IsBoundAt, IsFresh};
 ghost use Rattle.tb_serve.specs.Stages.{IsOneNotBound, IsSameButLines, IsUntouched};
 
 use crate::closing::clear_all;
+use crate::places::Places;
 use crate::port::Port;
 use crate::readiness::Readiness;
 use std::alloc::Global;
@@ -29,16 +31,18 @@ fn give_all_lines<N: Listen>(alloc: Global, ports: &mut [Port<N>]) -> Result<(),
     Ok(())
 }
 
-// Binds each listener, the first to `first` and the others to the next ones, until a bind fails.
-fn bind_all<N: Listen>(first: u16, ports: &mut [Port<N>]) -> Bound
+// Binds each listener to its number, until a bind fails.
+fn bind_all<N: Listen>(places: Places, ports: &mut [Port<N>]) -> Bound
     requires can { All CanBeBound ports.old }
-    requires fit { first + length ports.old ≤ 65536 }
-    ensures ready { result ≡ bound.Ready → Each (IsBoundAt first) ports.old ports.new }
-    ensures failed { result ≡ bound.Failed → Each (IsUntouched first) ports.old ports.new }
+    requires fit { AreWithin places (length ports.old) }
+    ensures ready { result ≡ bound.Ready → Each (IsBoundAt (number_at places)) ports.old ports.new }
+    ensures failed { result ≡ bound.Failed → Each (IsUntouched (number_at places)) ports.old ports.new }
     ensures unbound { result ≡ bound.Failed → IsOneNotBound ports.old ports.new }
 {
+    let count = ports.len();
     for (i, port) in ports.iter_mut().enumerate() {
-        match port.bind(first + i as u16) {
+        let number = places.number(i, count);
+        match port.bind(number) {
             Bound::Ready => {}
             Bound::Failed => return Bound::Failed,
         }
@@ -47,12 +51,11 @@ fn bind_all<N: Listen>(first: u16, ports: &mut [Port<N>]) -> Bound
 }
 
 /// Makes ports ready for their parties: each gets a reader of lines, which takes memory, and then
-/// each listener is bound, the first to `first` and the others to the next ones. Where either
-/// fails, no port has a reader of lines.
-pub fn prepare<N: Listen>(alloc: Global, first: u16, ports: &mut [Port<N>]) -> Readiness
-    requires fit { first + length ports.old ≤ 65536 }
+/// each listener is bound to its number. Where either fails, no port has a reader of lines.
+pub fn prepare<N: Listen>(alloc: Global, places: Places, ports: &mut [Port<N>]) -> Readiness
+    requires fit { AreWithin places (length ports.old) }
     requires fresh { All IsFresh ports.old }
-    ensures { HasPrepared first ports.old ports.new result }
+    ensures { HasPrepared (number_at places) ports.old ports.new result }
 {
     match give_all_lines(alloc, ports) {
         Ok(()) => {}
@@ -61,7 +64,7 @@ pub fn prepare<N: Listen>(alloc: Global, first: u16, ports: &mut [Port<N>]) -> R
             return Readiness::NoMemory;
         }
     }
-    match bind_all(first, ports) {
+    match bind_all(places, ports) {
         Bound::Ready => Readiness::Ready,
         Bound::Failed => {
             clear_all(ports);

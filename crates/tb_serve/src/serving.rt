@@ -6,12 +6,14 @@ ghost use Rattle.tb_base.specs.Records.{AllFit};
 ghost use Rattle.tb_model.specs.Schemas.{shape_of};
 ghost use Rattle.tb_release.specs.Batches.{BatchValue};
 ghost use Rattle.tb_serve.specs.Each.{Each};
+ghost use Rattle.tb_serve.specs.Places.{AreWithin};
 ghost use Rattle.tb_serve.specs.Ports.{PortValue};
 ghost use Rattle.tb_serve.specs.Serves.{HasServed, IsReported, Serves, output};
 ghost use Rattle.tb_serve.specs.Stages.{IsFresh, IsLeft, IsReady};
 
 use crate::closing::clear_all;
 use crate::over_board::serve_from;
+use crate::places::Places;
 use crate::port::Port;
 use crate::preparing::prepare;
 use crate::readiness::Readiness;
@@ -44,18 +46,20 @@ fn serve_opened<B: Named + Send + Sync, O: Sink, N: Listen + Send, R: Threads + 
     alloc: Global,
     setup: &Setup,
     opening: Opening,
+    places: Places,
     sessions: u32,
     out: &mut O,
     ports: &mut [Port<N>],
 ) -> Status
     requires name { opening.name ≡ B.name }
     requires shape { opening.start.shape ≡ shape_of setup.now.schema }
+    requires within { AreWithin places (length ports.old) }
     requires some { 0 < length ports.old }
     requires few { length ports.old < 2 ^ 32 }
     requires can { All IsReady ports.old }
     ensures served { (chain : List BatchValue)
         × Each (HasServed setup.now opening.start.base sessions [] chain) ports.old ports.new
-        × IsReported ports.new chain (output (O.taken out.old) (O.taken out.new)
+        × IsReported places ports.new chain (output (O.taken out.old) (O.taken out.new)
         (O.faults out.old) (O.faults out.new)) result }
     ensures left { Each (λ _. IsLeft) ports.old ports.new }
 {
@@ -69,7 +73,7 @@ fn serve_opened<B: Named + Send + Sync, O: Sink, N: Listen + Send, R: Threads + 
     let owner = Custody::new(alloc, custodian);
     let owner = serve_from(&setting, &setting, sessions, owner, ports);
     let release = Owner::<Setting<'_, B, R>, B>::release(&owner, &setting);
-    end_with_report(out, ports, release)
+    end_with_report(out, places, ports, release)
 }
 
 // The whole command, over just the ports that are served.
@@ -78,7 +82,7 @@ fn serve_ports<O: Sink, N: Listen + Send, R: Threads + Wait + Sync>(
     alloc: Global,
     setup: &Setup,
     base: Release,
-    first: u16,
+    places: Places,
     sessions: u32,
     out: &mut O,
     ports: &mut [Port<N>],
@@ -86,12 +90,13 @@ fn serve_ports<O: Sink, N: Listen + Send, R: Threads + Wait + Sync>(
     requires first { base.number ≡ 0 }
     requires fit { AllFit (shape_of setup.now.schema) base.records }
     requires some { 0 < length ports.old }
-    requires numbers { first + length ports.old ≤ 65536 }
+    requires within { AreWithin places (length ports.old) }
+    requires few { length ports.old < 2 ^ 32 }
     requires fresh { All IsFresh ports.old }
-    ensures { Serves setup.now base first sessions ports.old ports.new (output (O.taken out.old)
+    ensures { Serves setup.now base places sessions ports.old ports.new (output (O.taken out.old)
         (O.taken out.new) (O.faults out.old) (O.faults out.new)) result }
 {
-    match prepare(alloc, first, ports) {
+    match prepare(alloc, places, ports) {
         Readiness::Ready => {}
         Readiness::NoMemory => return write_end(out, b"fault memory\n", Status::Memory),
         Readiness::NotBound => return write_end(out, b"fault net\n", Status::NetFault),
@@ -100,19 +105,19 @@ fn serve_ports<O: Sink, N: Listen + Send, R: Threads + Wait + Sync>(
         clear_all(ports);
         return write_end(out, b"fault memory\n", Status::Memory);
     };
-    serve_opened::<Brand, O, N, R>(rt, alloc, setup, opening, sessions, out, ports)
+    serve_opened::<Brand, O, N, R>(rt, alloc, setup, opening, places, sessions, out, ports)
 }
 
-/// Serves sessions over this release 0: the custodian's at the first port and analysts' at the
-/// `workers` ports after it, all over one board. Ports past these stay as they are.
+/// Serves sessions over this release 0: the custodian's at the first listener and analysts' at the
+/// `workers` listeners after it, all over one board. Those past these stay as they are.
 ///
-/// Each port gets its reader of lines, and then the listener of port i is bound to `first + i`;
-/// a bind that fails ends the call. Then a worker for each port, in a thread of its own where one
-/// can be made, serves up to `sessions` sessions, one after another, until none is to come or its
-/// accept failed; a session that ends by a fault ends no other. An analyst's port has one pass for
-/// all its sessions, and the custodian holds no edits when a session begins.
+/// Each gets its reader of lines, and is then bound to its number by `places`; a bind that fails
+/// ends the call. Then a worker for each, in a thread of its own where one can be made, serves up
+/// to `sessions` sessions, one after another, until none is to come or its accept failed; a session
+/// that ends by a fault ends no other. An analyst's worker has one pass for all its sessions, and
+/// the custodian holds no edits when a session begins.
 ///
-/// `out` takes, in writes that need no memory, `worker I sessions N` for each port, `release R`
+/// `out` takes, in writes that need no memory, the lines of the ports (`write_ports`), `release R`
 /// with the number of the custodian's release, and `fault net` last where an accept failed; only
 /// `fault net` where a bind failed, and only `fault memory` where memory was refused. Memory for
 /// the command is taken before the first accept, and then only for the replies. At the return no
@@ -122,7 +127,7 @@ pub fn serve<O: Sink, N: Listen + Send, R: Threads + Wait + Sync>(
     alloc: Global,
     setup: &Setup,
     base: Release,
-    first: u16,
+    places: Places,
     workers: u32,
     sessions: u32,
     out: &mut O,
@@ -131,14 +136,15 @@ pub fn serve<O: Sink, N: Listen + Send, R: Threads + Wait + Sync>(
     requires first { base.number ≡ 0 }
     requires fit { AllFit (shape_of setup.now.schema) base.records }
     requires there { workers < length net.old }
-    requires numbers { first + workers < 65536 }
+    requires few { workers < 65536 }
+    requires within { AreWithin places (workers + 1) }
     requires fresh { All IsFresh net.old }
-    ensures served { Serves setup.now base first sessions (take (workers + 1) net.old)
+    ensures served { Serves setup.now base places sessions (take (workers + 1) net.old)
         (take (workers + 1) net.new) (output (O.taken out.old) (O.taken out.new)
         (O.faults out.old) (O.faults out.new)) result }
     ensures rest { drop (workers + 1) net.new ≡ drop (workers + 1) net.old }
 {
     let count = workers as usize + 1;
     let (ports, _) = net.split_at_mut(count);
-    serve_ports(rt, alloc, setup, base, first, sessions, out, ports)
+    serve_ports(rt, alloc, setup, base, places, sessions, out, ports)
 }

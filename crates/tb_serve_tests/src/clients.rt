@@ -20,6 +20,9 @@ const REFUSAL: &[u8] = b"refused 3 UnknownName 2\n";
 
 const AT_ONCE: usize = 100;
 
+// A query with a long reply.
+const LONG_QUERY: &[u8; 49] = b"table AREA by SEX by AGE with totals with labels\n";
+
 /// What a client does.
 #[derive(Clone, Copy)]
 pub enum Client {
@@ -33,6 +36,12 @@ pub enum Client {
     LeavesInReply,
     /// Sends lines until the server takes no more, never reads, and closes.
     NeverReads,
+    /// Sends a query and a half, reads the first one's reply, and waits for the end.
+    SilentInLine,
+    /// Sends a query, reads its reply, and waits for the end.
+    SilentBetweenLines,
+    /// Sends lines without an end, and never reads.
+    TakesNothing,
     /// Sends a query, closes its writing half, and reads just its reply and the end.
     Stays,
 }
@@ -45,9 +54,20 @@ static LEAVING: [Client; 5] = [
     Client::NeverReads,
 ];
 
-// Each client but the one that stays.
-fn leaving() -> &'static [Client] {
+static SILENT: [Client; 3] = [
+    Client::SilentInLine,
+    Client::SilentBetweenLines,
+    Client::TakesNothing,
+];
+
+/// The clients that go away.
+pub fn leaving() -> &'static [Client] {
     &LEAVING
+}
+
+/// The clients that go on without a word, or take none.
+pub fn silent() -> &'static [Client] {
+    &SILENT
 }
 
 /// The first of two free ports in a row. Callers at the same time look at other ones.
@@ -99,6 +119,20 @@ fn never_read(stream: &mut TcpStream) -> bool {
     false
 }
 
+// The reply to the query alone comes, and then the end.
+fn wait_silently(stream: &mut TcpStream, lines: &[u8]) -> bool {
+    sends(stream, lines) && reads(stream, TABLE) && is_at_end(stream)
+}
+
+fn take_nothing(stream: &mut TcpStream) -> bool {
+    for _ in 0..MOST_SENDS {
+        if !sends(stream, [*LONG_QUERY; AT_ONCE].as_flattened()) {
+            return true;
+        }
+    }
+    false
+}
+
 fn ask_to_the_end(stream: &mut TcpStream) -> bool {
     sends(stream, QUERY)
         && stream.shutdown(Shutdown::Write).is_ok()
@@ -114,12 +148,15 @@ fn act(stream: &mut TcpStream, client: Client) -> bool {
         Client::LeavesInLine => sends(stream, b"table S"),
         Client::LeavesInReply => sends(stream, QUERY) && reads(stream, b"release"),
         Client::NeverReads => never_read(stream),
+        Client::SilentInLine => wait_silently(stream, b"table SEX\ntable A"),
+        Client::SilentBetweenLines => wait_silently(stream, QUERY),
+        Client::TakesNothing => take_nothing(stream),
         Client::Stays => ask_to_the_end(stream),
     }
 }
 
-// A whole session of a client, who sends each piece at once, and whether it got what it read.
-fn visit<R: Net<Listener = TcpListener, Stream = TcpStream> + Clock>(
+/// A whole session of a client, who sends each piece at once, and whether it got what it read.
+pub fn visit<R: Net<Listener = TcpListener, Stream = TcpStream> + Clock>(
     rt: &R,
     port: u16,
     client: Client,
@@ -130,14 +167,31 @@ fn visit<R: Net<Listener = TcpListener, Stream = TcpStream> + Clock>(
     }
 }
 
-/// Sessions of each client that goes away, and of one that stays after each, and how many of these
-/// twice five got what they read.
+/// Whether two clients with sessions at the same time get the reply to a query each.
+pub fn visit_together<R: Net<Listener = TcpListener, Stream = TcpStream> + Clock>(
+    rt: &R,
+    port: u16,
+) -> bool {
+    match (connect(rt, port), connect(rt, port)) {
+        (Some(mut first), Some(mut second)) => {
+            sends(&mut first, QUERY)
+                && reads(&mut first, TABLE)
+                && ask_to_the_end(&mut second)
+                && ask_to_the_end(&mut first)
+        }
+        _ => false,
+    }
+}
+
+/// Sessions of each of these clients, and of one that stays after each, and how many of these twice
+/// as many got what they read.
 pub fn visits<R: Net<Listener = TcpListener, Stream = TcpStream> + Clock>(
     rt: &R,
     port: u16,
+    clients: &[Client],
 ) -> u32 {
     let mut right: u32 = 0;
-    for client in leaving() {
+    for client in clients {
         if visit(rt, port, *client) {
             right = right.saturating_add(1);
         }

@@ -1,9 +1,8 @@
 // A command over the small setup, with files in memory.
 
-ghost use Rattle.std.specs.Prelude.{◌≡◌, ◌<◌, ◌+◌, All, false, vec_len};
+ghost use Rattle.std.specs.Prelude.{◌≡◌, ◌<◌, All, false};
 ghost use Rattle.tb_mem_disk.specs.HeldDisk.{HeldDisk};
 ghost use Rattle.tb_serve.specs.Stages.{IsFresh};
-ghost use Rattle.tb_command.specs.declared.service.TheConstants.{MOST_WORKERS};
 
 use super::compared::Compared;
 use std::alloc::Global;
@@ -38,7 +37,6 @@ fn files_end_so<N: Listen + Send, R: Threads + Wait + Sync + Eprint, L: Ledger>(
     disk: &mut MemDisk,
     blank: Blank,
 ) -> bool
-    requires ports { vec_len net.old ≡ MOST_WORKERS + 1 }
     requires fresh { All IsFresh net.old.items }
     requires attached { disk.old.attached ≡ false }
     requires name { blank.name ≡ L.name }
@@ -48,6 +46,10 @@ fn files_end_so<N: Listen + Send, R: Threads + Wait + Sync + Eprint, L: Ledger>(
     let mut steps = Steps::<L>::new(blank);
     let mut out = Compared::with(run.text);
     let arguments = Arguments::read(run.words);
+    // Words that ask for more are no run of these ports.
+    if net.len() < arguments.ports() as usize {
+        return false;
+    }
     let status = tablebuilder(
         rt, alloc, &arguments, files, &mut out, net, disk, &mut steps,
     );
@@ -63,7 +65,6 @@ fn run_ends_so<N: Listen + Send, R: Threads + Wait + Sync + Eprint>(
     net: &mut Vec<Port<N>>,
     disk: &mut MemDisk,
 ) -> bool
-    requires ports { vec_len net.old ≡ MOST_WORKERS + 1 }
     requires fresh { All IsFresh net.old.items }
     requires attached { disk.old.attached ≡ false }
 {
@@ -87,7 +88,6 @@ pub fn ends_over<N: Listen + Send, R: Threads + Wait + Sync + Eprint>(
     end: Status,
     text: &[u8],
 ) -> bool
-    requires ports { vec_len net.old ≡ MOST_WORKERS + 1 }
     requires fresh { All IsFresh net.old.items }
     requires attached { disk.old.attached ≡ false }
 {
@@ -109,7 +109,6 @@ pub fn ends_so<N: Listen + Send, R: Threads + Wait + Sync + Eprint>(
     end: Status,
     text: &[u8],
 ) -> bool
-    requires ports { vec_len net.old ≡ MOST_WORKERS + 1 }
     requires fresh { All IsFresh net.old.items }
 {
     match MemDisk::new(alloc, &[], &[]) {

@@ -1,16 +1,14 @@
 // The command `serve` over listeners of which a bind or an accept fails.
 
-ghost use Rattle.std.specs.Prelude.{◌≡◌, ◌+◌, All, IfOk, vec_len};
+ghost use Rattle.std.specs.Prelude.{All, IfOk};
 ghost use Rattle.tb_serve.specs.Stages.{IsFresh};
-ghost use Rattle.tb_command.specs.declared.service.TheConstants.{MOST_WORKERS};
 
 use super::command::ends_so;
-use super::ports::{add_port, fill};
+use super::ports::{PORTS, add_port, fill};
 use std::alloc::Global;
 use std::sync::Wait;
 use std::thread::Threads;
 use tb_base::{Memory, Status};
-use tb_command::MOST_WORKERS;
 use tb_io::MemListen;
 use tb_serve::Port;
 
@@ -18,21 +16,19 @@ use tb_serve::Port;
 const SERVE: &str = "serve classes recodes ptable people 0 5000 1 1";
 
 // The custodian's port, to which so many sessions are to come, and an analyst's, to which one is,
-// and of whose calls some fail; and after them, as many as a run has, those to which none is to
-// come.
+// and of whose calls some fail; and after them, to which none is to come, those that no run here asks for.
 fn ports(
     alloc: Global,
     own: u32,
     bind_fails: bool,
     fails: &[u32],
 ) -> Result<Vec<Port<MemListen>>, Memory>
-    ensures ports { IfOk result (λ net. vec_len net ≡ MOST_WORKERS + 1) }
-    ensures fresh { IfOk result (λ net. All IsFresh net.items) }
+    ensures { IfOk result (λ net. All IsFresh net.items) }
 {
     let mut net = Vec::new(alloc);
     add_port(alloc, &mut net, b"table SEX\n", own, false, &[])?;
     add_port(alloc, &mut net, b"table SEX\n", 1, bind_fails, fails)?;
-    fill(alloc, &mut net, b"", 0, MOST_WORKERS as usize + 1)?;
+    fill(alloc, &mut net, b"", 0, PORTS)?;
     Ok(net)
 }
 
@@ -54,7 +50,6 @@ fn ends_by_net_fault(
     net: &mut Vec<Port<MemListen>>,
     text: &[u8],
 ) -> bool
-    requires ports { vec_len net.old ≡ MOST_WORKERS + 1 }
     requires fresh { All IsFresh net.old.items }
 {
     let sessions = sessions_at(net);

@@ -1,19 +1,17 @@
 // The command `host` over the file of a disk in memory: what its sessions are told, and what is
 // left in the file.
 
-ghost use Rattle.std.specs.Prelude.{◌≡◌, ◌+◌, All, IfOk, false, vec_len};
+ghost use Rattle.std.specs.Prelude.{◌≡◌, All, IfOk, false};
 ghost use Rattle.tb_mem_disk.specs.HeldDisk.{HeldDisk};
 ghost use Rattle.tb_serve.specs.Stages.{IsFresh};
-ghost use Rattle.tb_command.specs.declared.service.TheConstants.{MOST_WORKERS};
 
 use super::command::ends_over;
-use super::ports::{add_port, add_sessions, fill, is_told};
+use super::ports::{PORTS, add_port, add_sessions, fill, is_told};
 use std::alloc::Global;
 use std::sync::Wait;
 use std::test::Fail;
 use std::thread::Threads;
 use tb_base::{Memory, Status};
-use tb_command::MOST_WORKERS;
 use tb_comparison::is_text;
 use tb_io::MemListen;
 use tb_mem_disk::MemDisk;
@@ -63,7 +61,7 @@ static ROWS: [Row; 13] = [
         ("", ""),
         (false, 0, ALL),
         Status::Done,
-        b"worker 0 sessions 1\nworker 1 sessions 1\nrelease 1\n",
+        b"port 5000 sessions 1\nport 5001 sessions 1\nrelease 1\n",
         ONE_BATCH,
     ),
     (
@@ -74,7 +72,7 @@ static ROWS: [Row; 13] = [
         ("table SEX\n", "release 1\nSEX,count\n1,1\n2,0\n.\n"),
         (false, 0, ALL),
         Status::Done,
-        b"worker 0 sessions 1\nworker 1 sessions 1\nrelease 1\n",
+        b"port 5000 sessions 1\nport 5001 sessions 1\nrelease 1\n",
         ONE_BATCH,
     ),
     // What was written before the sync that fails stands in the file.
@@ -89,7 +87,7 @@ static ROWS: [Row; 13] = [
         ("table SEX\n", "release 0\nSEX,count\n1,1\n2,2\n.\n"),
         (true, 0, ALL),
         Status::DiskFault,
-        b"worker 0 sessions 2\nworker 1 sessions 1\nrelease 0\nfault disk\n",
+        b"port 5000 sessions 2\nport 5001 sessions 1\nrelease 0\nfault disk\n",
         ONE_BATCH,
     ),
     // The disk's fault goes before that of the accept.
@@ -101,7 +99,7 @@ static ROWS: [Row; 13] = [
         ("", ""),
         (true, 2, ALL),
         Status::DiskFault,
-        b"worker 0 sessions 1\nworker 1 sessions 1\nrelease 0\nfault disk\n",
+        b"port 5000 sessions 1\nport 5001 sessions 1\nrelease 0\nfault disk\n",
         ONE_BATCH,
     ),
     (
@@ -112,7 +110,7 @@ static ROWS: [Row; 13] = [
         ("", ""),
         (false, 2, ALL),
         Status::NetFault,
-        b"worker 0 sessions 1\nworker 1 sessions 1\nrelease 1\nfault net\n",
+        b"port 5000 sessions 1\nport 5001 sessions 1\nrelease 1\nfault net\n",
         ONE_BATCH,
     ),
     // The reply to `publish` is cut, and the next session is at its release.
@@ -124,7 +122,7 @@ static ROWS: [Row; 13] = [
         ("", ""),
         (false, 0, 9),
         Status::Done,
-        b"worker 0 sessions 2\nworker 1 sessions 1\nrelease 1\n",
+        b"port 5000 sessions 2\nport 5001 sessions 1\nrelease 1\n",
         ONE_BATCH,
     ),
     // Edits that are held go with their session.
@@ -139,7 +137,7 @@ static ROWS: [Row; 13] = [
         ("table SEX\n", "release 0\nSEX,count\n1,1\n2,2\n.\n"),
         (false, 0, ALL),
         Status::Done,
-        b"worker 0 sessions 2\nworker 1 sessions 1\nrelease 0\n",
+        b"port 5000 sessions 2\nport 5001 sessions 1\nrelease 0\n",
         NO_BATCH,
     ),
     (
@@ -156,7 +154,7 @@ static ROWS: [Row; 13] = [
         ),
         (false, 0, ALL),
         Status::Done,
-        b"worker 0 sessions 1\nworker 1 sessions 1\nrelease 1\n",
+        b"port 5000 sessions 1\nport 5001 sessions 1\nrelease 1\n",
         ONE_BATCH,
     ),
     // What a page in a browser sends comes to no edit, and the next session is served.
@@ -174,7 +172,7 @@ static ROWS: [Row; 13] = [
         ),
         (false, 0, ALL),
         Status::Done,
-        b"worker 0 sessions 2\nworker 1 sessions 1\nrelease 0\n",
+        b"port 5000 sessions 2\nport 5001 sessions 1\nrelease 0\n",
         NO_BATCH,
     ),
     // Person 104, who is dropped, is the only one of SEX 2.
@@ -190,7 +188,7 @@ static ROWS: [Row; 13] = [
         ("", ""),
         (false, 0, ALL),
         Status::Done,
-        b"worker 0 sessions 1\nworker 1 sessions 1\nrelease 1\n",
+        b"port 5000 sessions 1\nport 5001 sessions 1\nrelease 1\n",
         ONE_BATCH,
     ),
     (
@@ -201,7 +199,7 @@ static ROWS: [Row; 13] = [
         ("dwellings SEX\n", "release 1\nSEX,count\n1,2\n2,0\n.\n"),
         (false, 0, ALL),
         Status::Done,
-        b"worker 0 sessions 1\nworker 1 sessions 1\nrelease 1\n",
+        b"port 5000 sessions 1\nport 5001 sessions 1\nrelease 1\n",
         ONE_BATCH,
     ),
     // A batch that takes a release back is played before the first accept.
@@ -216,7 +214,7 @@ static ROWS: [Row; 13] = [
         ),
         (false, 0, ALL),
         Status::Done,
-        b"worker 0 sessions 1\nworker 1 sessions 1\nrelease 1\n",
+        b"port 5000 sessions 1\nport 5001 sessions 1\nrelease 1\n",
         TAKEN_BACK,
     ),
     // Without dwellings it is a query whose first word is wrong.
@@ -228,7 +226,7 @@ static ROWS: [Row; 13] = [
         ("dwellings SEX\n", "refused 2 Syntax 1\n"),
         (false, 0, ALL),
         Status::Done,
-        b"worker 0 sessions 1\nworker 1 sessions 1\nrelease 1\n",
+        b"port 5000 sessions 1\nport 5001 sessions 1\nrelease 1\n",
         ONE_BATCH,
     ),
 ];
@@ -246,13 +244,12 @@ fn ports(
     accept: u32,
     analyst: &str,
 ) -> Result<Vec<Port<MemListen>>, Memory>
-    ensures ports { IfOk result (λ net. vec_len net ≡ MOST_WORKERS + 1) }
-    ensures fresh { IfOk result (λ net. All IsFresh net.items) }
+    ensures { IfOk result (λ net. All IsFresh net.items) }
 {
     let mut net = Vec::new(alloc);
     add_sessions(alloc, &mut net, own, bound, accept)?;
     add_sessions(alloc, &mut net, analyst, ALL, 0)?;
-    fill(alloc, &mut net, b"", 0, MOST_WORKERS as usize + 1)?;
+    fill(alloc, &mut net, b"", 0, PORTS)?;
     Ok(net)
 }
 
@@ -388,13 +385,12 @@ fn failing(
     bind_fails: bool,
     fails: u32,
 ) -> Result<Vec<Port<MemListen>>, Memory>
-    ensures ports { IfOk result (λ net. vec_len net ≡ MOST_WORKERS + 1) }
-    ensures fresh { IfOk result (λ net. All IsFresh net.items) }
+    ensures { IfOk result (λ net. All IsFresh net.items) }
 {
     let mut net = Vec::new(alloc);
     add_port(alloc, &mut net, b"drop 103\npublish\n", own, false, &[])?;
     add_port(alloc, &mut net, b"table SEX\n", 1, bind_fails, &[fails])?;
-    fill(alloc, &mut net, b"", 0, MOST_WORKERS as usize + 1)?;
+    fill(alloc, &mut net, b"", 0, PORTS)?;
     Ok(net)
 }
 
@@ -418,7 +414,7 @@ fn keeps_the_batch<R: Threads + Wait + Sync + Eprint>(
 #[test]
 fn a_port_fails_behind_a_journal(rt: HostRuntime) -> Result<(), Fail> {
     assert!(&rt; keeps_the_batch(&rt, rt.alloc(), 1, true, 0, b"fault net\n")?);
-    let text = b"worker 0 sessions 0\nworker 1 sessions 0\nrelease 1\nfault net\n";
+    let text = b"port 5000 sessions 0\nport 5001 sessions 0\nrelease 1\nfault net\n";
     assert!(&rt; keeps_the_batch(&rt, rt.alloc(), 0, false, 1, text)?);
     Ok(())
 }

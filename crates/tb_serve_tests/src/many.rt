@@ -11,7 +11,7 @@ use std::sync::Wait;
 use std::thread::Threads;
 use tb_base::{Memory, print_number};
 use tb_io::{MemListen, Sink};
-use tb_serve::Port;
+use tb_serve::{Places, Port};
 
 // How many sessions each analyst's port has.
 const SESSIONS: u32 = 100;
@@ -140,11 +140,26 @@ const REPORT: &[u8] =
     worker 4 sessions 100\nworker 5 sessions 100\nworker 6 sessions 100\nworker 7 sessions 100\n\
     worker 8 sessions 100\nrelease 50\n";
 
+// What is written where all analysts' listeners are at one door.
+const DOOR_REPORT: &[u8] = b"port 5000 sessions 1\nport 5001 sessions 800\nrelease 50\n";
+
 // Whether all sessions are served, and at each of the analysts' ports no number falls.
 fn many_tables<R: Threads + Wait + Sync + Eprint>(rt: &R, alloc: Global) -> bool {
     match ports(alloc) {
         Ok(mut net) => {
-            let served = serves(rt, alloc, 5000, 8, SESSIONS, &mut net, REPORT);
+            let served = serves(rt, alloc, Places::Row(5000), 8, SESSIONS, &mut net, REPORT);
+            served && right_ports(&net) == 8
+        }
+        Err(_) => false,
+    }
+}
+
+// The same at one door.
+fn many_at_a_door<R: Threads + Wait + Sync + Eprint>(rt: &R, alloc: Global) -> bool {
+    match ports(alloc) {
+        Ok(mut net) => {
+            let at = Places::Door(5000);
+            let served = serves(rt, alloc, at, 8, SESSIONS, &mut net, DOOR_REPORT);
             served && right_ports(&net) == 8
         }
         Err(_) => false,
@@ -154,4 +169,9 @@ fn many_tables<R: Threads + Wait + Sync + Eprint>(rt: &R, alloc: Global) -> bool
 #[test]
 fn many_sessions(rt: HostRuntime) {
     assert!(&rt; many_tables(&rt, rt.alloc()));
+}
+
+#[test]
+fn many_sessions_at_a_door(rt: HostRuntime) {
+    assert!(&rt; many_at_a_door(&rt, rt.alloc()));
 }

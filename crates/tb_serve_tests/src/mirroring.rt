@@ -1,17 +1,15 @@
 // The command `mirror`: what the sessions of its first port are told, one after another.
 
-ghost use Rattle.std.specs.Prelude.{◌≡◌, ◌+◌, All, IfOk, vec_len};
+ghost use Rattle.std.specs.Prelude.{All, IfOk};
 ghost use Rattle.tb_serve.specs.Stages.{IsFresh};
-ghost use Rattle.tb_command.specs.declared.service.TheConstants.{MOST_WORKERS};
 
 use super::command::ends_so;
-use super::ports::{add_port, add_sessions, fill, is_told};
+use super::ports::{PORTS, add_port, add_sessions, fill, is_told};
 use std::alloc::Global;
 use std::sync::Wait;
 use std::test::Fail;
 use std::thread::Threads;
 use tb_base::{Memory, Status};
-use tb_command::MOST_WORKERS;
 use tb_io::MemListen;
 use tb_serve::Port;
 
@@ -40,7 +38,7 @@ static ROWS: [Row; 5] = [
         "begun 2\nheld 1\nkept 0\nbegun 1\nheld 1\n\
             |refused leader\nat 0\nbegun 1\nheld 1\nat 2\n",
         ALL,
-        b"worker 0 sessions 2\nworker 1 sessions 1\nrelease 2\n",
+        b"port 5000 sessions 2\nport 5001 sessions 1\nrelease 2\n",
     ),
     (
         "lines_of_a_custodian",
@@ -49,7 +47,7 @@ static ROWS: [Row; 5] = [
         "refused leader\nrefused leader\nrefused leader\nrefused leader\nrefused leader\ncache 3\ncleared\n\
             stats release 0 looks 0 hits 0 entries 0 capacity 3\nrefused leader\n",
         ALL,
-        b"worker 0 sessions 1\nworker 1 sessions 1\nrelease 0\n",
+        b"port 5000 sessions 1\nport 5001 sessions 1\nrelease 0\n",
     ),
     // At release 1 as far ahead as may wait is 65; and there is no person 999.
     (
@@ -59,7 +57,7 @@ static ROWS: [Row; 5] = [
         "begun 1\nheld 1\nat 1\nbegun 1\nheld 1\nold 1\nbegun 65\nheld 1\nkept 1\n\
             begun 66\nheld 1\nfar 1\nbegun 2\nheld 1\nrefused batch 1 2 NoSuchPerson\nat 1\n",
         ALL,
-        b"worker 0 sessions 1\nworker 1 sessions 1\nrelease 1\n",
+        b"port 5000 sessions 1\nport 5001 sessions 1\nrelease 1\n",
     ),
     // The reply to `end` is cut, and the next session is at its release.
     (
@@ -67,7 +65,7 @@ static ROWS: [Row; 5] = [
         "begin 1\ndrop 104\nend\n|where\n",
         "begun 1\nheld 1\na|at 1\n",
         16,
-        b"worker 0 sessions 2\nworker 1 sessions 1\nrelease 1\n",
+        b"port 5000 sessions 2\nport 5001 sessions 1\nrelease 1\n",
     ),
     // What a page in a browser sends leads the mirror nowhere, and the next session is served.
     (
@@ -75,7 +73,7 @@ static ROWS: [Row; 5] = [
         "POST / HTTP/1.1\r\n\r\nbegin 1\ndrop 104\nend\n|where\n",
         "|at 0\n",
         ALL,
-        b"worker 0 sessions 2\nworker 1 sessions 1\nrelease 0\n",
+        b"port 5000 sessions 2\nport 5001 sessions 1\nrelease 0\n",
     ),
 ];
 
@@ -86,13 +84,12 @@ fn rows() -> &'static [Row] {
 // The first port with sessions of these lines, an analyst's with one of none, and after them, as
 // many as a command has, those to which no session is to come.
 fn ports(alloc: Global, lines: &str, bound: usize) -> Result<Vec<Port<MemListen>>, Memory>
-    ensures ports { IfOk result (λ net. vec_len net ≡ MOST_WORKERS + 1) }
-    ensures fresh { IfOk result (λ net. All IsFresh net.items) }
+    ensures { IfOk result (λ net. All IsFresh net.items) }
 {
     let mut net = Vec::new(alloc);
     add_sessions(alloc, &mut net, lines, bound, 0)?;
     add_sessions(alloc, &mut net, "", ALL, 0)?;
-    fill(alloc, &mut net, b"", 0, MOST_WORKERS as usize + 1)?;
+    fill(alloc, &mut net, b"", 0, PORTS)?;
     Ok(net)
 }
 
@@ -109,13 +106,12 @@ fn is_so<R: Threads + Wait + Sync + Eprint>(
 
 // The first port with no session, and an analyst's with one: its bind fails, or its first accept.
 fn failing(alloc: Global, bind_fails: bool, fails: u32) -> Result<Vec<Port<MemListen>>, Memory>
-    ensures ports { IfOk result (λ net. vec_len net ≡ MOST_WORKERS + 1) }
-    ensures fresh { IfOk result (λ net. All IsFresh net.items) }
+    ensures { IfOk result (λ net. All IsFresh net.items) }
 {
     let mut net = Vec::new(alloc);
     add_port(alloc, &mut net, b"", 0, false, &[])?;
     add_port(alloc, &mut net, b"table SEX\n", 1, bind_fails, &[fails])?;
-    fill(alloc, &mut net, b"", 0, MOST_WORKERS as usize + 1)?;
+    fill(alloc, &mut net, b"", 0, PORTS)?;
     Ok(net)
 }
 
@@ -134,7 +130,7 @@ fn is_net_fault<R: Threads + Wait + Sync + Eprint>(
 #[test]
 fn a_port_of_a_mirror_fails(rt: HostRuntime) -> Result<(), Fail> {
     assert!(&rt; is_net_fault(&rt, rt.alloc(), true, 0, b"fault net\n")?);
-    let text = b"worker 0 sessions 0\nworker 1 sessions 0\nrelease 0\nfault net\n";
+    let text = b"port 5000 sessions 0\nport 5001 sessions 0\nrelease 0\nfault net\n";
     assert!(&rt; is_net_fault(&rt, rt.alloc(), false, 1, text)?);
     Ok(())
 }

@@ -9,6 +9,9 @@ use tb_comparison::is_text;
 use tb_io::{MemListen, MemSink, MemSource};
 use tb_serve::Port;
 
+/// How many ports a run here has: more than it asks for.
+pub const PORTS: usize = 4;
+
 // A session of these lines, whose sink takes so many bytes.
 fn session(alloc: Global, lines: &[u8], bound: usize) -> Result<(MemSource, MemSink), Memory> {
     let source = MemSource::new(alloc, lines, 100, &[])?;

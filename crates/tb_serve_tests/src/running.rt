@@ -3,6 +3,7 @@
 ghost use Rattle.std.specs.Prelude.{◌≡◌, ◌<◌, ◌+◌, All, IfOk, vec_len};
 ghost use Rattle.tb_base.specs.Records.{AllFit};
 ghost use Rattle.tb_model.specs.Schemas.{shape_of};
+ghost use Rattle.tb_serve.specs.Places.{AreWithin};
 ghost use Rattle.tb_serve.specs.Stages.{IsFresh};
 
 use super::compared::Compared;
@@ -13,7 +14,7 @@ use tb_base::{Memory, Status};
 use tb_comparison::is_status;
 use tb_io::Listen;
 use tb_release::Release;
-use tb_serve::{Port, serve};
+use tb_serve::{Places, Port, serve};
 use tb_small_values::{release, setup};
 use tb_text::Setup;
 
@@ -25,11 +26,11 @@ fn first(alloc: Global, setup: &Setup) -> Result<Release, Memory>
     release(alloc, &setup.schema)
 }
 
-// What is served: up to so many sessions at each of the ports, from this one on; and the text that
-// is to be written.
+// What is served: up to so many sessions at each of the ports, which are bound so; and the text
+// that is to be written.
 #[derive(Drop)]
 struct Service<'a> {
-    port: u16,
+    places: Places,
     workers: u32,
     sessions: u32,
     text: &'a [u8],
@@ -43,12 +44,13 @@ fn serves_first<N: Listen + Send, R: Threads + Wait + Sync + Eprint>(
     service: Service<'_>,
     net: &mut Vec<Port<N>>,
 ) -> bool
-    requires numbers { service.port + service.workers < 65536 }
+    requires few { service.workers < 65536 }
+    requires within { AreWithin service.places (service.workers + 1) }
     requires ports { service.workers < vec_len net.old }
     requires fresh { All IsFresh net.old.items }
 {
     let Service {
-        port,
+        places,
         workers,
         sessions,
         text,
@@ -58,7 +60,7 @@ fn serves_first<N: Listen + Send, R: Threads + Wait + Sync + Eprint>(
         Ok(base) => {
             let ports = net.as_mut_slice();
             let status = serve(
-                rt, alloc, setup, base, port, workers, sessions, &mut out, ports,
+                rt, alloc, setup, base, places, workers, sessions, &mut out, ports,
             );
             let same = is_status(rt, status.number(), Status::Done.number());
             out.check(rt) && same
@@ -67,23 +69,24 @@ fn serves_first<N: Listen + Send, R: Threads + Wait + Sync + Eprint>(
     }
 }
 
-/// Serves up to so many sessions at each of the ports, from this one on, and returns whether the
+/// Serves up to so many sessions at each of the ports, which are bound so, and returns whether the
 /// call is done and writes just this text.
 pub fn serves<N: Listen + Send, R: Threads + Wait + Sync + Eprint>(
     rt: &R,
     alloc: Global,
-    port: u16,
+    places: Places,
     workers: u32,
     sessions: u32,
     net: &mut Vec<Port<N>>,
     text: &[u8],
 ) -> bool
-    requires numbers { port + workers < 65536 }
+    requires few { workers < 65536 }
+    requires within { AreWithin places (workers + 1) }
     requires ports { workers < vec_len net.old }
     requires fresh { All IsFresh net.old.items }
 {
     let service = Service {
-        port,
+        places,
         workers,
         sessions,
         text,

@@ -25,6 +25,12 @@ pub enum Client {
     /// Two analysts, each of whom waits for the other's first table.
     One,
     Other,
+    /// A custodian, who publishes at once.
+    Publisher,
+    /// An analyst, who sends nothing before another has got the reply to its table.
+    Silent,
+    /// An analyst, who asks once the custodian has published.
+    Asking,
     /// A leader, whose second message comes before the first.
     Leader,
     /// An analyst, who waits for the reply to its last line.
@@ -60,6 +66,9 @@ fn part(client: Client, step: u32) -> Option<(u32, &'static [u8])> {
     match (client, step) {
         (Client::Custodian, 0) => Some((1, b"drop 104\npublish\n")),
         (Client::Custodian, 1) => Some((2, b"stats\n")),
+        (Client::Publisher, 0) => Some((0, b"drop 104\npublish\n")),
+        (Client::Silent, 0) => Some((1, b"# nothing\n")),
+        (Client::Asking, 0) => Some((2, b"table SEX\n")),
         (Client::Leader, 0) => Some((0, OUT_OF_ORDER)),
         (Client::LateLeader, 0) => Some((1, b"begin 1\ndrop 104\nend\n")),
         (Client::LateLeader, 1) => Some((2, b"stats\n")),
@@ -83,7 +92,9 @@ fn part(client: Client, step: u32) -> Option<(u32, &'static [u8])> {
 // The replies that a client is to get.
 fn replies_to(client: Client) -> &'static [u8] {
     match client {
-        Client::None => b"",
+        Client::None | Client::Silent => b"",
+        Client::Publisher => b"held 1\npublished 1\n",
+        Client::Asking => b"release 1\nSEX,count\n1,1\n2,0\n.\n",
         Client::Custodian => {
             b"held 1\npublished 1\nstats release 1 looks 2 hits 1 entries 1 capacity 64\n"
         }
@@ -238,6 +249,7 @@ impl<'a> Talk<'a> {
         match client {
             Client::Late
             | Client::Other
+            | Client::Asking
             | Client::Behind
             | Client::LateBehind
             | Client::HomesBehind

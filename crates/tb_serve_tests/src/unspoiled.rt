@@ -1,10 +1,10 @@
 // Runs with a journal that end by another file, or whose first reply can't be written: the journal's
 // file is left as it was.
 
-ghost use Rattle.std.specs.Prelude.{◌≡◌, ◌<◌, ◌+◌, All, false, vec_len};
+ghost use Rattle.std.specs.Prelude.{◌≡◌, ◌<◌, ◌≤◌, All, false, vec_len};
 ghost use Rattle.tb_mem_disk.specs.HeldDisk.{HeldDisk};
 ghost use Rattle.tb_serve.specs.Stages.{IsFresh};
-ghost use Rattle.tb_command.specs.declared.service.TheConstants.{MOST_WORKERS};
+ghost use Rattle.tb_command.specs.Commands.{command_of, ports_asked};
 
 use super::command::ends_over;
 use std::alloc::Global;
@@ -41,7 +41,7 @@ fn leaves_it<R: Threads + Wait + Sync + Eprint>(
     alloc: Global,
     command: &str,
 ) -> Result<bool, Memory> {
-    let mut net = quiet_ports(alloc)?;
+    let mut net = quiet_ports(alloc, 2)?;
     let mut disk = MemDisk::new(alloc, ONE_BATCH, &[])?;
     let text = b"fault people 1 BadHeader 0\n";
     let ends = ends_over(
@@ -68,13 +68,13 @@ fn another_file_is_refused(rt: HostRuntime) -> Result<(), Fail> {
 fn into_nothing<R: Threads + Wait + Sync, L: Ledger>(
     rt: &R,
     alloc: Global,
-    words: &[String],
+    arguments: &Arguments<'_>,
     files: &mut SureFiles,
     net: &mut Vec<Port<MemListen>>,
     disk: &mut MemDisk,
     blank: Blank,
 ) -> Result<u8, Memory>
-    requires ports { vec_len net.old ≡ MOST_WORKERS + 1 }
+    requires ports { ports_asked (command_of arguments.now) ≤ vec_len net.old }
     requires fresh { All IsFresh net.old.items }
     requires attached { disk.old.attached ≡ false }
     requires name { blank.name ≡ L.name }
@@ -83,11 +83,7 @@ fn into_nothing<R: Threads + Wait + Sync, L: Ledger>(
 {
     let mut steps = Steps::<L>::new(blank);
     let mut out = MemSink::new(alloc, 0)?;
-    let arguments = Arguments::read(words);
-    Ok(tablebuilder(
-        rt, alloc, &arguments, files, &mut out, net, disk, &mut steps,
-    )
-    .number())
+    Ok(tablebuilder(rt, alloc, arguments, files, &mut out, net, disk, &mut steps).number())
 }
 
 // The same of `keep` over a script that only holds an edit.
@@ -100,9 +96,10 @@ fn holds_into_nothing<R: Threads + Wait + Sync>(
     requires { disk.old.attached ≡ false }
 {
     let words = words_of(alloc, "keep classes recodes ptable people 0 journal script")?;
-    let mut net = quiet_ports(alloc)?;
+    let arguments = Arguments::read(&words);
+    let mut net = quiet_ports(alloc, arguments.ports())?;
     files.hold("script", b"custodian drop 103\n")?;
-    into_nothing::<R, Brand>(rt, alloc, &words, files, &mut net, disk, Blank::new(1))
+    into_nothing::<R, Brand>(rt, alloc, &arguments, files, &mut net, disk, Blank::new(1))
 }
 
 // Whether its write fails, and the journal's file is left.

@@ -2,16 +2,15 @@
 
 ghost use Rattle.std.specs.Prelude.{◌≡◌, ◌<◌, ◌+◌, All, IfOk, vec_len};
 ghost use Rattle.tb_serve.specs.Stages.{IsFresh};
-ghost use Rattle.tb_command.specs.declared.service.TheConstants.{MOST_WORKERS};
 
 use super::command::ends_so;
+use super::ports::PORTS;
 use super::talks::{Client, Replies, Talk};
 use std::alloc::Global;
 use std::sync::Wait;
 use std::sync::atomic::{AtomicU32, Ordering};
 use std::thread::Threads;
 use tb_base::{Memory, Status};
-use tb_command::MOST_WORKERS;
 use tb_serve::Port;
 
 // A run of two sessions.
@@ -21,6 +20,8 @@ enum Run {
     Late,
     // Two workers, and one session at each port: two analysts'.
     Crossed,
+    // Three workers, and one session by each: the custodian's, and two analysts' at the door.
+    OneDoor,
     // One worker, and one session at each port: a leader's and an analyst's.
     Led,
     LateLed,
@@ -35,6 +36,9 @@ fn client_at(run: Run, number: u32) -> Client {
         (Run::Late, 1) => Client::Late,
         (Run::Crossed, 1) => Client::One,
         (Run::Crossed, 2) => Client::Other,
+        (Run::OneDoor, 0) => Client::Publisher,
+        (Run::OneDoor, 1) => Client::Silent,
+        (Run::OneDoor, 2) => Client::Asking,
         (Run::Led, 0) => Client::Leader,
         (Run::Led, 1) => Client::Behind,
         (Run::LateLed, 0) => Client::LateLeader,
@@ -62,13 +66,12 @@ fn add<'a>(
     Ok(())
 }
 
-// As many ports as a command has.
+// The ports of a run.
 fn ports<'a>(alloc: Global, run: Run, replies: &'a Replies) -> Result<Vec<Port<Talk<'a>>>, Memory>
-    ensures ports { IfOk result (λ net. vec_len net ≡ MOST_WORKERS + 1) }
-    ensures fresh { IfOk result (λ net. All IsFresh net.items) }
+    ensures { IfOk result (λ net. All IsFresh net.items) }
 {
     let mut net = Vec::new(alloc);
-    for number in 0..MOST_WORKERS + 1 {
+    for number in 0..PORTS as u32 {
         add(&mut net, client_at(run, number), replies)?;
     }
     Ok(net)
@@ -89,8 +92,16 @@ fn serves<R: Threads + Wait + Sync + Eprint>(
     }
 }
 
-// Whether both clients of a run get the right replies, and the command writes just this text.
-fn both_get_theirs<R: Threads + Wait + Sync + Eprint>(
+// How many clients a run has.
+fn clients_of(run: Run) -> u32 {
+    match run {
+        Run::OneDoor => 3,
+        _ => 2,
+    }
+}
+
+// Whether all clients of a run get the right replies, and the command writes just this text.
+fn all_get_theirs<R: Threads + Wait + Sync + Eprint>(
     rt: &R,
     alloc: Global,
     run: Run,
@@ -102,7 +113,8 @@ fn both_get_theirs<R: Threads + Wait + Sync + Eprint>(
         second: AtomicU32::new(0),
         right: AtomicU32::new(0),
     };
-    serves(rt, alloc, run, &replies, command, text) && replies.right.load(Ordering::SeqCst) == 2
+    serves(rt, alloc, run, &replies, command, text)
+        && replies.right.load(Ordering::SeqCst) == clients_of(run)
 }
 
 // What is written of a run in which the custodian publishes between the analyst's tables.
@@ -112,53 +124,67 @@ const LATE: &[u8] = b"worker 0 sessions 1\nworker 1 sessions 1\nrelease 1\n";
 const CROSSED: &[u8] =
     b"worker 0 sessions 0\nworker 1 sessions 1\nworker 2 sessions 1\nrelease 0\n";
 
+// The same of servers with a door.
+const LATE_DOOR: &[u8] = b"port 5000 sessions 1\nport 5001 sessions 1\nrelease 1\n";
+
+const CROSSED_DOOR: &[u8] = b"port 5000 sessions 0\nport 5001 sessions 2\nrelease 0\n";
+
+// What is written of one in which one of two analysts at the door is silent.
+const ONE_DOOR: &[u8] = b"port 5000 sessions 1\nport 5001 sessions 2\nrelease 1\n";
+
 // What is written of one in which a leader brings two batches.
-const LED: &[u8] = b"worker 0 sessions 1\nworker 1 sessions 1\nrelease 2\n";
+const LED: &[u8] = b"port 5000 sessions 1\nport 5001 sessions 1\nrelease 2\n";
 
 #[test]
 fn sessions_share_cubes(rt: HostRuntime) {
     let command = "serve classes recodes ptable people 0 5000 1 1";
-    assert!(&rt; both_get_theirs(&rt, rt.alloc(), Run::Late, command, LATE));
+    assert!(&rt; all_get_theirs(&rt, rt.alloc(), Run::Late, command, LATE));
 }
 
 #[test]
 fn sessions_run_at_the_same_time(rt: HostRuntime) {
     let command = "serve classes recodes ptable people 0 5000 2 1";
-    assert!(&rt; both_get_theirs(&rt, rt.alloc(), Run::Crossed, command, CROSSED));
+    assert!(&rt; all_get_theirs(&rt, rt.alloc(), Run::Crossed, command, CROSSED));
 }
 
 #[test]
 fn sessions_share_cubes_beside_a_journal(rt: HostRuntime) {
     let command = "host classes recodes ptable people 0 - - journal 5000 1 1";
-    assert!(&rt; both_get_theirs(&rt, rt.alloc(), Run::Late, command, LATE));
+    assert!(&rt; all_get_theirs(&rt, rt.alloc(), Run::Late, command, LATE_DOOR));
 }
 
 #[test]
 fn sessions_run_at_the_same_time_beside_a_journal(rt: HostRuntime) {
     let command = "host classes recodes ptable people 0 - - journal 5000 2 1";
-    assert!(&rt; both_get_theirs(&rt, rt.alloc(), Run::Crossed, command, CROSSED));
+    assert!(&rt; all_get_theirs(&rt, rt.alloc(), Run::Crossed, command, CROSSED_DOOR));
 }
 
 #[test]
 fn mirror_of_a_leader(rt: HostRuntime) {
     let command = "mirror classes recodes ptable people 0 - - 5000 1 1";
-    assert!(&rt; both_get_theirs(&rt, rt.alloc(), Run::Led, command, LED));
+    assert!(&rt; all_get_theirs(&rt, rt.alloc(), Run::Led, command, LED));
 }
 
 #[test]
 fn sessions_share_cubes_of_a_mirror(rt: HostRuntime) {
     let command = "mirror classes recodes ptable people 0 - - 5000 1 1";
-    assert!(&rt; both_get_theirs(&rt, rt.alloc(), Run::LateLed, command, LATE));
+    assert!(&rt; all_get_theirs(&rt, rt.alloc(), Run::LateLed, command, LATE_DOOR));
 }
 
 #[test]
 fn dwellings_of_a_mirror(rt: HostRuntime) {
     let command = "mirror classes recodes ptable people 0 dwellings links 5000 1 1";
-    assert!(&rt; both_get_theirs(&rt, rt.alloc(), Run::HomesLed, command, LATE));
+    assert!(&rt; all_get_theirs(&rt, rt.alloc(), Run::HomesLed, command, LATE_DOOR));
 }
 
 #[test]
 fn release_taken_back_at_a_mirror(rt: HostRuntime) {
     let command = "mirror classes recodes ptable people 0 - - 5000 1 1";
-    assert!(&rt; both_get_theirs(&rt, rt.alloc(), Run::TakenBack, command, LATE));
+    assert!(&rt; all_get_theirs(&rt, rt.alloc(), Run::TakenBack, command, LATE_DOOR));
+}
+
+#[test]
+fn one_door(rt: HostRuntime) {
+    let command = "host classes recodes ptable people 0 - - journal 5000 3 1";
+    assert!(&rt; all_get_theirs(&rt, rt.alloc(), Run::OneDoor, command, ONE_DOOR));
 }

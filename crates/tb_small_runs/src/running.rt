@@ -1,9 +1,9 @@
 // Runs over forms in memory, and what they are given.
 
-ghost use Rattle.std.specs.Prelude.{◌≡◌, ◌<◌, ◌+◌, All, IfOk, false, vec_len};
+ghost use Rattle.std.specs.Prelude.{◌≡◌, ◌<◌, ◌≤◌, All, IfOk, false, vec_len};
 ghost use Rattle.tb_mem_disk.specs.HeldDisk.{HeldDisk};
 ghost use Rattle.tb_serve.specs.Stages.{IsFresh};
-ghost use Rattle.tb_command.specs.declared.service.TheConstants.{MOST_WORKERS};
+ghost use Rattle.tb_command.specs.Commands.{command_of, ports_asked};
 
 use std::alloc::Global;
 use std::marker::Brand;
@@ -11,7 +11,7 @@ use std::sync::Wait;
 use std::sync::ledger::{Blank, Ledger};
 use std::thread::Threads;
 use tb_base::{Memory, Status, Steps};
-use tb_command::{Arguments, MOST_WORKERS};
+use tb_command::Arguments;
 use tb_io::{MemListen, SureFiles, SureSink};
 use tb_mem_disk::MemDisk;
 use tb_serve::Port;
@@ -48,13 +48,13 @@ fn quiet(alloc: Global) -> Result<Port<MemListen>, Memory>
     Ok(Port::of(MemListen::new(alloc, false, Vec::new(alloc), &[])?))
 }
 
-/// Ports to which no session is to come, as many as a run has.
-pub fn quiet_ports(alloc: Global) -> Result<Vec<Port<MemListen>>, Memory>
-    ensures ports { IfOk result (λ net. vec_len net ≡ MOST_WORKERS + 1) }
+/// So many ports to which no session is to come.
+pub fn quiet_ports(alloc: Global, count: u32) -> Result<Vec<Port<MemListen>>, Memory>
+    ensures ports { IfOk result (λ net. vec_len net ≡ count) }
     ensures fresh { IfOk result (λ net. All IsFresh net.items) }
 {
     let mut net = Vec::new(alloc);
-    for _ in 0..=MOST_WORKERS {
+    for _ in 0..count {
         net.push(quiet(alloc)?)?;
     }
     Ok(net)
@@ -64,14 +64,14 @@ pub fn quiet_ports(alloc: Global) -> Result<Vec<Port<MemListen>>, Memory>
 fn count_surely<R: Threads + Wait + Sync, L: Ledger>(
     rt: &R,
     alloc: Global,
-    words: &[String],
+    arguments: &Arguments<'_>,
     files: &mut SureFiles,
     out: &mut SureSink,
     net: &mut Vec<Port<MemListen>>,
     disk: &mut MemDisk,
     blank: Blank,
 ) -> Status
-    requires ports { vec_len net.old ≡ MOST_WORKERS + 1 }
+    requires ports { ports_asked (command_of arguments.now) ≤ vec_len net.old }
     requires fresh { All IsFresh net.old.items }
     requires attached { disk.old.attached ≡ false }
     requires name { blank.name ≡ L.name }
@@ -79,11 +79,10 @@ fn count_surely<R: Threads + Wait + Sync, L: Ledger>(
     requires some { 0 < L.parts }
 {
     let mut steps = Steps::<L>::new(blank);
-    let arguments = Arguments::read(words);
-    run_surely(rt, alloc, &arguments, files, out, net, disk, &mut steps)
+    run_surely(rt, alloc, arguments, files, out, net, disk, &mut steps)
 }
 
-/// Runs a command over these files and this disk, with quiet ports of its own, and returns its
+/// Runs a command over these files and this disk, with the quiet ports that it asks for, and returns its
 /// status. What it writes is added to `out`.
 pub fn run_with_disk<R: Threads + Wait + Sync>(
     rt: &R,
@@ -95,6 +94,8 @@ pub fn run_with_disk<R: Threads + Wait + Sync>(
 ) -> Result<Status, Memory>
     requires { disk.old.attached ≡ false }
 {
-    let mut net = quiet_ports(alloc)?;
-    Ok(count_surely::<R, Brand>(rt, alloc, words, files, out, &mut net, disk, Blank::new(1)))
+    let arguments = Arguments::read(words);
+    let mut net = quiet_ports(alloc, arguments.ports())?;
+    let blank = Blank::new(1);
+    Ok(count_surely::<R, Brand>(rt, alloc, &arguments, files, out, &mut net, disk, blank))
 }

@@ -23,6 +23,7 @@ use Rattle.tb_release.specs.Batches.{BatchValue}
 use Rattle.tb_release.specs.Chains.{IsChain}
 use Rattle.tb_release.specs.declared.edits.Edit.{Edit}
 use Rattle.tb_serve.specs.Each.{Each}
+use Rattle.tb_serve.specs.Places.{number_at}
 use Rattle.tb_serve.specs.Ports.{PortValue}
 use Rattle.tb_serve.specs.Serves.{EndsAt, HasServed, IsPortServed, IsVisited, role_at}
 use Rattle.tb_session.specs.Asks.{asks_of}
@@ -44,7 +45,8 @@ use Rattle.tb_top.specs.MirrorOutputs.{IsMirrorOutput}
 use Rattle.tb_top.specs.Outputs.{IsOutput}
 use Rattle.tb_top.specs.Promises.{IsAskedOutput, IsHostKept, IsJournalText, IsLastLine, IsWhole, Tells}
 use Rattle.tb_command.specs.ServicePorts.{Service}
-use Rattle.tb_top.specs.Services.{IsServiceOutput, IsUnserved, ports_of}
+use Rattle.tb_serve.specs.declared.places.Places.{Places}
+use Rattle.tb_top.specs.Services.{IsServiceOutput, IsUnserved, places_of, ports_of}
 use Rattle.tb_top.proofs.Headline.{IsOne, all_follow, custodian_counts, custodian_grows, lines_along, lines_begin, lines_grow, reply_grows, same_grows, step_counts}
 use Rattle.tb_top.proofs.PortLemmas.{all-unserved, each-unserved}
 
@@ -154,10 +156,10 @@ module _ (never_fall : NumbersNeverFall) (census : CensusValue) (most : ℕ) whe
   Along who before after =
       (c : List BatchValue) × (who ≢ owner.Leader → IsChain (base_of census) c) × Each (By who c) before after
 
-  serve_along : (port : ℕ) (chain : List BatchValue) (before after : List PortValue) → Each (IsPortServed census.setup (base_of census) port most chain) before after
+  serve_along : (places : Places) (chain : List BatchValue) (before after : List PortValue) → Each (IsPortServed census.setup (base_of census) places most chain) before after
       → Along owner.Custodian before after
-  serve_along port chain [] after each = ([], λ own. tt, record { same_length = each.same_length; at = λ i d below. absurd (omega arith) })
-  serve_along port chain (p ∷ ps) after each = (
+  serve_along places chain [] after each = ([], λ own. tt, record { same_length = each.same_length; at = λ i d below. absurd (omega arith) })
+  serve_along places chain (p ∷ ps) after each = (
     chain,
     λ own. custodian_chain chain p (get_or after zero p) (each.at zero p (omega arith)).sessions,
     record {
@@ -197,21 +199,21 @@ module _ (never_fall : NumbersNeverFall) (census : CensusValue) (most : ℕ) whe
       )
 
   -- a mirror's port
-  mirror_port : (port : ℕ) (last : LaneValue) (i : ℕ) (before after : PortValue) → IsPortMirrored census.setup (base_of census) port most last i before after
+  mirror_port : (places : Places) (last : LaneValue) (i : ℕ) (before after : PortValue) → IsPortMirrored census.setup (base_of census) places most last i before after
       → By owner.Leader last.follower.chain.batches i before after
-  mirror_port port last zero before after h (inl other) = absurd (other refl)
-  mirror_port port last zero before after h (inr other) = absurd (other refl)
-  mirror_port port last (suc i) before after h other = served_along [] last.follower.chain.batches (suc i) before after h.sessions
+  mirror_port places last zero before after h (inl other) = absurd (other refl)
+  mirror_port places last zero before after h (inr other) = absurd (other refl)
+  mirror_port places last (suc i) before after h other = served_along [] last.follower.chain.batches (suc i) before after h.sessions
 
   -- and all of them
-  mirrored_along : (port : ℕ) (last : LaneValue) (before after : List PortValue) → Each (IsPortMirrored census.setup (base_of census) port most last) before after
+  mirrored_along : (places : Places) (last : LaneValue) (before after : List PortValue) → Each (IsPortMirrored census.setup (base_of census) places most last) before after
       → Along owner.Leader before after
-  mirrored_along port last before after each = (
+  mirrored_along places last before after each = (
     last.follower.chain.batches,
     λ own. absurd (own refl),
     record {
       same_length = each.same_length;
-      at = λ i d below other. mirror_port port last i (get_or before i d) (get_or after i d) (each.at i d below) other;
+      at = λ i d below other. mirror_port places last i (get_or before i d) (get_or after i d) (each.at i d below) other;
     },
   )
 
@@ -295,8 +297,8 @@ module _ (never_fall : NumbersNeverFall) (call : Call) (at : List ℕ → Option
   none_served each = take_unserved (service.workers + 1) call.ports call.ports_after each
 
   service_along : (s : Status) (text : List ℕ) → IsServiceOutput census service call.ports call.ports_after s text → ArePortsAlong owner.Custodian census service before after
-  service_along s text (inl (chain, served, is, report)) = inl (serve_along never_fall census service.sessions service.port chain before after served.0)
-  service_along s text (inr (untouched, rose, is, line)) = inr (each-unserved service.port before after untouched.0)
+  service_along s text (inl (chain, served, is, report)) = inl (serve_along never_fall census service.sessions (places_of service) chain before after served.0)
+  service_along s text (inr (untouched, rose, is, line)) = inr (each-unserved (number_at (places_of service)) before after untouched.0)
 
   abbrev serves : AskedValue
   serves = asked_with census owner.Custodian (lines.Ports service)
@@ -308,8 +310,8 @@ module _ (never_fall : NumbersNeverFall) (call : Call) (at : List ℕ → Option
 
   mirror_along : (s : Status) (text : List ℕ) → IsMirrorOutput census service call.ports call.ports_after s text → ArePortsAlong owner.Leader census service before after
   mirror_along s text (inl (last, served, is, report)) =
-      inl (mirrored_along never_fall census service.sessions service.port last before after served.0)
-  mirror_along s text (inr (untouched, rose, is, line)) = inr (each-unserved service.port before after untouched.0)
+      inl (mirrored_along never_fall census service.sessions (places_of service) last before after served.0)
+  mirror_along s text (inr (untouched, rose, is, line)) = inr (each-unserved (number_at (places_of service)) before after untouched.0)
 
   abbrev mirrors : AskedValue
   mirrors = asked_with census owner.Leader (lines.Ports service)
@@ -324,9 +326,9 @@ module _ (never_fall : NumbersNeverFall) (call : Call) (at : List ℕ → Option
       → ArePortsAlong (owner.Journal journal) census service before after
   hosts_along journal s (long, others, inl (same, still, ended)) = inr (all-unserved before after same)
   hosts_along journal s (long, others, inr (inl (fault, same, left, refused, ended))) = inr (all-unserved before after same)
-  hosts_along journal s (long, others, inr (inr (inl (none, left)))) = inr (each-unserved service.port before after none.0)
+  hosts_along journal s (long, others, inr (inr (inl (none, left)))) = inr (each-unserved (number_at (places_of service)) before after none.0)
   hosts_along journal s (long, others, inr (inr (inr (inl (same, rose, stood, ended))))) = inr (all-unserved before after same)
-  hosts_along journal s (long, others, inr (inr (inr (inr (inl (unbound, recovered)))))) = inr (each-unserved service.port before after unbound.0)
+  hosts_along journal s (long, others, inr (inr (inr (inr (inl (unbound, recovered)))))) = inr (each-unserved (number_at (places_of service)) before after unbound.0)
   hosts_along journal s (long, others, inr (inr (inr (inr (inr all))))) =
       inl (host_along never_fall census service.sessions journal all.batches all.first_moment all.first_faults all.hosted.last before after
       (all_follow census.setup (base_of census) all.batches all.recovered.follow) all.hosted.sessions)

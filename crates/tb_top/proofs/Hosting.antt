@@ -15,6 +15,7 @@ use Rattle.tb_keep.specs.declared.recovery.JournalFault.{JournalFault}
 use Rattle.tb_model.specs.Releases.{ReleaseValue}
 use Rattle.tb_model.specs.Setups.{SetupValue}
 use Rattle.tb_serve.specs.Each.{Each}
+use Rattle.tb_serve.specs.Places.{number_at}
 use Rattle.tb_serve.specs.Ports.{PortValue}
 use Rattle.tb_serve.specs.Reports.{memory_line, net_line, some_failed}
 use Rattle.tb_serve.specs.Serves.{IsEnded, Output, final_status, output}
@@ -31,7 +32,8 @@ use Rattle.tb_top.specs.Asking.{census_over}
 use Rattle.tb_top.specs.Loading.{IsBase}
 use Rattle.tb_top.specs.Promises.{IsWhole, Keeps}
 use Rattle.tb_command.specs.ServicePorts.{Service}
-use Rattle.tb_top.specs.Services.{IsIdle, ports_of}
+use Rattle.tb_serve.specs.declared.places.Places.{Places}
+use Rattle.tb_top.specs.Services.{IsIdle, places_of, ports_of}
 use Rattle.tb_command.specs.declared.command.Command.{Command}
 use Rattle.tb_top.proofs.Boards.{same-base}
 use Rattle.tb_top.proofs.DiskKept.{KeepsDisk, served-on-disk}
@@ -90,12 +92,12 @@ module _ (setup : SetupValue) (opening : OpeningValue) (custodian : CustodianVal
   census = census_over setup opening.start.base
 
   -- what was done from what the custodian of the board had seen
-  pub hosts-on-board : (port workers sessions : ℕ) → port ≡ service.port → workers ≡ service.workers → sessions ≡ service.sessions
+  pub hosts-on-board : (places : Places) (workers sessions : ℕ) → places ≡ places_of service → workers ≡ service.workers → sessions ≡ service.sessions
       → (r : Result Status JournalFault)
-      → Hosts setup custodian.writer.start.base port sessions (take (workers + 1) before) (take (workers + 1) after) saw out r
-      → Hosts setup (base_of census) service.port service.sessions (ports_of service before) (ports_of service after) saw out r
-  hosts-on-board port workers sessions one two three r h =
-      let P : ReleaseValue → Type 0 = λ base. Hosts setup base service.port service.sessions (ports_of service before) (ports_of service after)
+      → Hosts setup custodian.writer.start.base places sessions (take (workers + 1) before) (take (workers + 1) after) saw out r
+      → Hosts setup (base_of census) (places_of service) service.sessions (ports_of service before) (ports_of service after) saw out r
+  hosts-on-board places workers sessions one two three r h =
+      let P : ReleaseValue → Type 0 = λ base. Hosts setup base (places_of service) service.sessions (ports_of service before) (ports_of service after)
       saw out r in
       subst P (same-base setup opening custodian made first) (rw (sym one, sym two, sym three) h)
 
@@ -108,10 +110,10 @@ line-beside text final {s} {f} {f'} {mid} t' faults taken h =
 
 -- ---- the report
 
-reported-as : (live : Bool) (ports : List PortValue) (release : ℕ) (out : Output) (s : Status) → IsHostReported live ports release out s
-    → IsEnded (host_report live ports release) (host_status live ports) out s
-reported-as true ports release out s h = h
-reported-as false ports release out s h = h
+reported-as : (live : Bool) (places : Places) (ports : List PortValue) (release : ℕ) (out : Output) (s : Status) → IsHostReported live places ports release out s
+    → IsEnded (host_report live places ports release) (host_status live ports) out s
+reported-as true places ports release out s h = h
+reported-as false places ports release out s h = h
 
 -- ---- the ports
 
@@ -121,8 +123,8 @@ hosted-enough : (setup : SetupValue) (base : ReleaseValue) (most : ℕ) (first l
 hosted-enough setup base most first last zero p q h = h.enough
 hosted-enough setup base most first last (suc i) p q h = h.visited.enough
 
-left-idle : (port : ℕ) (ports ports' : List PortValue) → Each (λ i _. IsLeftAt port i) ports ports' → All IsIdle ports'
-left-idle port ports ports' each = λ i d below.
+left-idle : (places : Places) (ports ports' : List PortValue) → Each (λ i _. IsLeftAt places i) ports ports' → All IsIdle ports'
+left-idle places ports ports' each = λ i d below.
     let at = each.at i d (omega (arith, below, each.same_length)) in
     record { party = at.party; lines = at.lines }
 
@@ -188,21 +190,21 @@ module _ (call : Call) (command : Command) (census : CensusValue) (journal : Lis
       (λ at h. (census, journal, (lines.Ports service, h), inl (fault, refused, left, refl, refl))) ended
 
   -- nothing was accepted
-  by_untouched : (text : List ℕ) (final : Status) → IsFinal final → Each (IsUntouched service.port) (take n call.ports) (take n call.ports_after)
+  by_untouched : (text : List ℕ) (final : Status) → IsFinal final → Each (IsUntouched (number_at (places_of service))) (take n call.ports) (take n call.ports_after)
       → (final ≡ status.NetFault → NetFailed call) → final ≢ status.DiskFault
       → ((at : List ℕ → Option (List ℕ)) → asked_of at call.words ≡ Ok task → IsWhole call at final text)
       → IsEnded text final (output_of call) s → Keeps call s
   by_untouched text final is each net no_disk whole ended =
-      let idle = idle-whole n call.ports call.ports_after long each.same_length rest fresh (each-idle service.port _ _ each ours) in
+      let idle = idle-whole n call.ports call.ports_after long each.same_length rest fresh (each-idle (number_at (places_of service)) _ _ each ours) in
       by_line text final is net (λ h. absurd (no_disk h)) idle whole ended
 
-  by_no_memory : Each (IsUntouched service.port) (take n call.ports) (take n call.ports_after)
+  by_no_memory : Each (IsUntouched (number_at (places_of service))) (take n call.ports) (take n call.ports_after)
       → IsEnded memory_line status.Memory (output_of call) s → Keeps call s
   by_no_memory each ended =
-      let none = each-whole n call.ports call.ports_after long each.same_length rest _ unserved (each-unserved service.port _ _ each) in
+      let none = each-whole n call.ports call.ports_after long each.same_length rest _ unserved (each-unserved (number_at (places_of service)) _ _ each) in
       by_untouched memory_line status.Memory tt each (λ h. cc) (λ h. cc) (λ at h. (inl refl, none)) ended
 
-  by_unbound : Each (IsUntouched service.port) (take n call.ports) (take n call.ports_after)
+  by_unbound : Each (IsUntouched (number_at (places_of service))) (take n call.ports) (take n call.ports_after)
       → IsOneNotBound (take n call.ports) (take n call.ports_after) → IsEnded net_line status.NetFault (output_of call) s → Keeps call s
   by_unbound each one ended =
       let rose = risen-unbound (take n call.ports) (take n call.ports_after) one in
@@ -210,7 +212,7 @@ module _ (call : Call) (command : Command) (census : CensusValue) (journal : Lis
       (λ at h. (task, h, inr ((each, rest), one, refl, refl))) ended
 
   -- all ports were served
-  module _ (all : HostsAll census.setup (base_of census) service.port service.sessions (take n call.ports) (take n call.ports_after) saw
+  module _ (all : HostsAll census.setup (base_of census) (places_of service) service.sessions (take n call.ports) (take n call.ports_after) saw
       (output_of call) s) where
     abbrev last : KeptState
     last = all.hosted.last
@@ -222,7 +224,7 @@ module _ (call : Call) (command : Command) (census : CensusValue) (journal : Lis
     output_now final text = IsHostOutput census service call.ports call.ports_after final text
 
     output_is : output_now (host_status (is_none last.further) ports)
-        (host_report (is_none last.further) ports (length last.state.chain))
+        (host_report (is_none last.further) (places_of service) ports (length last.state.chain))
     output_is = inl (
       all.batches,
       all.first_moment,
@@ -241,7 +243,7 @@ module _ (call : Call) (command : Command) (census : CensusValue) (journal : Lis
     )
 
     idle_now : All IsIdle call.ports_after
-    idle_now = idle-whole n call.ports call.ports_after long all.bound.same_length rest fresh (left-idle service.port _ _ all.bound)
+    idle_now = idle-whole n call.ports call.ports_after long all.bound.same_length rest fresh (left-idle (places_of service) _ _ all.bound)
 
     rises : some_failed ports ≡ true → NetFailed call
     rises some =
@@ -250,21 +252,21 @@ module _ (call : Call) (command : Command) (census : CensusValue) (journal : Lis
         (λ i d below. (hosted-enough census.setup (base_of census) service.sessions (after_playing (base_of census) all.batches all.first_moment all.first_faults)
         last i _ _ (all.hosted.sessions.at i d below)).risen) some)
 
-    by_report : (live : Bool) → output_now (host_status live ports) (host_report live ports (length last.state.chain))
-        → IsEnded (host_report live ports (length last.state.chain)) (host_status live ports) (output_of call) s → Keeps call s
+    by_report : (live : Bool) → output_now (host_status live ports) (host_report live (places_of service) ports (length last.state.chain))
+        → IsEnded (host_report live (places_of service) ports (length last.state.chain)) (host_status live ports) (output_of call) s → Keeps call s
     by_report true is ended =
         let ending = ending_of ports in
         let final = final_status ports in
-        by_line (host_report true ports (length last.state.chain)) final (final_is final (done_or_net ports ending))
+        by_line (host_report true (places_of service) ports (length last.state.chain)) final (final_is final (done_or_net ports ending))
         (λ h. rises (some_by ports ending h)) (λ h. absurd (no_disk_by final (done_or_net ports ending) h)) idle_now
-        (λ at h. whole_by_output call at final (host_report true ports (length last.state.chain)) (done_or_net ports ending) (task, h, is)) ended
+        (λ at h. whole_by_output call at final (host_report true (places_of service) ports (length last.state.chain)) (done_or_net ports ending) (task, h, is)) ended
     by_report false is ended =
-        by_line (host_report false ports (length last.state.chain)) status.DiskFault tt (λ h. cc) (λ h. (keeps, inr (serves, (census, service, is)))) idle_now
+        by_line (host_report false (places_of service) ports (length last.state.chain)) status.DiskFault tt (λ h. cc) (λ h. (keeps, inr (serves, (census, service, is)))) idle_now
         (λ at h. inr (task, h, is)) ended
 
     by_all : Keeps call s
     by_all = by_report (is_none last.further) output_is
-        (reported-as (is_none last.further) ports (length last.state.chain) (output_of call) s all.hosted.reported)
+        (reported-as (is_none last.further) (places_of service) ports (length last.state.chain) (output_of call) s all.hosted.reported)
 
   by_run : IsHostRun census service (ports_of service call.ports) (ports_of service call.ports_after) saw (output_of call) s → Keeps call s
   by_run (inl refused) = by_refused refused

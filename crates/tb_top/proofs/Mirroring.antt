@@ -20,7 +20,7 @@ use Rattle.tb_top.specs.KeepOutputs.{IsStill}
 use Rattle.tb_top.specs.MirrorOutputs.{IsMirrorAnswered}
 use Rattle.tb_top.specs.Promises.{Keeps}
 use Rattle.tb_command.specs.ServicePorts.{Service}
-use Rattle.tb_top.specs.Services.{IsIdle}
+use Rattle.tb_top.specs.Services.{IsIdle, places_of}
 use Rattle.tb_command.specs.declared.command.Command.{Command}
 use Rattle.tb_top.proofs.Serving.{by_memory, by_sessions, by_unbound, idle-by, risen-by}
 
@@ -31,10 +31,10 @@ mirrored-enough setup base most last zero p q h = h.enough
 mirrored-enough setup base most last (suc i) p q h = h.visited.enough
 
 module _ (census : CensusValue) (service : Service) (last : LaneValue) (ports ports' : List PortValue)
-    (each : Each (IsPortMirrored census.setup (base_of census) service.port service.sessions last) ports ports') where
+    (each : Each (IsPortMirrored census.setup (base_of census) (places_of service) service.sessions last) ports ports') where
   mirrored-idle : All IsIdle ports'
   mirrored-idle =
-      idle-by (IsPortMirrored census.setup (base_of census) service.port service.sessions last) ports ports'
+      idle-by (IsPortMirrored census.setup (base_of census) (places_of service) service.sessions last) ports ports'
       (λ i p q at. record { party = at.party; lines = at.lines }) each
 
   mirrored-risen : some_failed ports' ≡ true → HasRisenSome ports ports'

@@ -84,25 +84,25 @@ pub risen-unbound : (ports ports' : List PortValue) → IsOneNotBound ports port
 risen-unbound ports ports' (i, below, left) = (i, below, λ d. (left d).risen)
 
 -- a port where nothing was accepted
-untouched-unserved : (first i : ℕ) (p q : PortValue) → IsUntouched first i p q → IsUnserved p q
-untouched-unserved first i p q h = record { out = h.out; to_come = h.to_come; came_back = h.came_back }
+untouched-unserved : (number : ℕ → ℕ) (i : ℕ) (p q : PortValue) → IsUntouched number i p q → IsUnserved p q
+untouched-unserved number i p q h = record { out = h.out; to_come = h.to_come; came_back = h.came_back }
 
-untouched-idle : (first i : ℕ) (p q : PortValue) → IsUntouched first i p q → IsIdle p → IsIdle q
-untouched-idle first i p q h idle = record {
+untouched-idle : (number : ℕ → ℕ) (i : ℕ) (p q : PortValue) → IsUntouched number i p q → IsIdle p → IsIdle q
+untouched-idle number i p q h idle = record {
   party = ap (λ (x : PortValue). x.party) h.rest ∙ idle.party;
   lines = ap (λ (x : PortValue). x.has_lines) h.rest ∙ idle.lines;
 }
 
-pub each-unserved : (first : ℕ) (ports ports' : List PortValue) → Each (IsUntouched first) ports ports' → Each (λ _. IsUnserved) ports ports'
-each-unserved first ports ports' each = record {
+pub each-unserved : (number : ℕ → ℕ) (ports ports' : List PortValue) → Each (IsUntouched number) ports ports' → Each (λ _. IsUnserved) ports ports'
+each-unserved number ports ports' each = record {
   same_length = each.same_length;
-  at = λ i d below. untouched-unserved first i (get_or ports i d) (get_or ports' i d) (each.at i d below);
+  at = λ i d below. untouched-unserved number i (get_or ports i d) (get_or ports' i d) (each.at i d below);
 }
 
-pub each-idle : (first : ℕ) (ports ports' : List PortValue) → Each (IsUntouched first) ports ports' → All IsFresh ports → All IsIdle ports'
-each-idle first ports ports' each fresh = λ i d below.
+pub each-idle : (number : ℕ → ℕ) (ports ports' : List PortValue) → Each (IsUntouched number) ports ports' → All IsFresh ports → All IsIdle ports'
+each-idle number ports ports' each fresh = λ i d below.
     let inside : i < length ports = omega (arith, below, each.same_length) in
-    untouched-idle first i (get_or ports i d) (get_or ports' i d) (each.at i d inside) (fresh-idle (get_or ports i d) (fresh i d inside))
+    untouched-idle number i (get_or ports i d) (get_or ports' i d) (each.at i d inside) (fresh-idle (get_or ports i d) (fresh i d inside))
 
 -- the first of fresh ports are fresh
 pub take-fresh : (n : ℕ) (ports : List PortValue) → n ≤ length ports → All IsFresh ports → All IsFresh (take n ports)

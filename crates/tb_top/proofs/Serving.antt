@@ -8,6 +8,7 @@ use Rattle.tb_base.specs.declared.status.Status.TheVariants as status
 use Rattle.tb_io.specs.Faults.{HasRisen}
 use Rattle.tb_release.specs.Batches.{BatchValue}
 use Rattle.tb_serve.specs.Each.{Each}
+use Rattle.tb_serve.specs.Places.{number_at}
 use Rattle.tb_serve.specs.Ports.{PortValue}
 use Rattle.tb_serve.specs.Reports.{memory_line, net_line, report, some_failed}
 use Rattle.tb_serve.specs.Serves.{IsEnded, IsPortServed, final_status}
@@ -21,7 +22,7 @@ use Rattle.tb_top.specs.KeepOutputs.{HasFailed, IsStill}
 use Rattle.tb_top.specs.Outputs.{IsOutput}
 use Rattle.tb_command.specs.ServicePorts.{Service}
 use Rattle.tb_top.specs.Promises.{HasDiskCause, IsAskedOutput, IsByInput, IsDefined, IsJournalText, IsTextOf, IsUnkeptReport, IsWhole, Keeps, defined_status}
-use Rattle.tb_top.specs.Services.{IsIdle, IsServiceAnswered}
+use Rattle.tb_top.specs.Services.{IsIdle, IsServiceAnswered, places_of}
 use Rattle.tb_command.specs.declared.command.Command.{Command}
 use Rattle.tb_command.specs.declared.command.Command.TheVariants as command
 use Rattle.tb_top.proofs.DiskKept.{KeepsDisk, left-alone}
@@ -220,9 +221,9 @@ pub idle-by : (R : ℕ → PortValue → PortValue → Type 0) (ports ports' : L
 idle-by R ports ports' idle each = λ i d below. idle i _ _ (each.at i d (omega (arith, below, each.same_length)))
 
 served-idle : (census : CensusValue) (service : Service) (chain : List BatchValue) (ports ports' : List PortValue)
-    → Each (IsPortServed census.setup (base_of census) service.port service.sessions chain) ports ports' → All IsIdle ports'
+    → Each (IsPortServed census.setup (base_of census) (places_of service) service.sessions chain) ports ports' → All IsIdle ports'
 served-idle census service chain ports ports' each =
-    idle-by (IsPortServed census.setup (base_of census) service.port service.sessions chain) ports ports'
+    idle-by (IsPortServed census.setup (base_of census) (places_of service) service.sessions chain) ports ports'
     (λ i p q at. record { party = at.party; lines = at.lines }) each
 
 -- some accept failed only where a count rose
@@ -236,7 +237,7 @@ risen-by ports ports' same rises some =
     (i, inside, λ d. rises i d inside (failed_at ports' i x d below (sym at) failed))
 
 failed-risen : (census : CensusValue) (service : Service) (chain : List BatchValue) (ports ports' : List PortValue)
-    → Each (IsPortServed census.setup (base_of census) service.port service.sessions chain) ports ports' → some_failed ports' ≡ true
+    → Each (IsPortServed census.setup (base_of census) (places_of service) service.sessions chain) ports ports' → some_failed ports' ≡ true
     → HasRisenSome ports ports'
 failed-risen census service chain ports ports' each some =
     risen-by ports ports' each.same_length (λ i d inside. (each.at i d inside).sessions.visited.enough.risen) some
@@ -270,22 +271,22 @@ module _ (call : Call) (command : Command) (task : AskedValue) (service : Servic
   on_disk = left-alone call task s (inl other) told still
 
   -- nothing was accepted
-  by_untouched : (text : List ℕ) (final : Status) → IsFinal final → Each (IsUntouched service.port) (take n call.ports) (take n call.ports_after)
+  by_untouched : (text : List ℕ) (final : Status) → IsFinal final → Each (IsUntouched (number_at (places_of service))) (take n call.ports) (take n call.ports_after)
       → (final ≡ status.NetFault → NetFailed call) → final ≢ status.DiskFault → final ≢ status.Journal
       → ((at : List ℕ → Option (List ℕ)) → asked_of at call.words ≡ Ok task → IsWhole call at final text)
       → IsEnded text final (output_of call) s → Keeps call s
   by_untouched text final is each net no_disk no_journal whole ended =
-      let idle = idle-whole n call.ports call.ports_after long each.same_length rest fresh (each-idle service.port _ _ each ours) in
+      let idle = idle-whole n call.ports call.ports_after long each.same_length rest fresh (each-idle (number_at (places_of service)) _ _ each ours) in
       keeps_by_final call command task s final text named told free is net (λ h. absurd (no_disk h)) (λ h. absurd (no_journal h)) idle no_others
       (not_generated final) whole on_disk ended
 
-  pub by_memory : Each (IsUntouched service.port) (take n call.ports) (take n call.ports_after)
+  pub by_memory : Each (IsUntouched (number_at (places_of service))) (take n call.ports) (take n call.ports_after)
       → IsEnded memory_line status.Memory (output_of call) s → Keeps call s
   by_memory each ended =
-      let none = each-whole n call.ports call.ports_after long each.same_length rest _ unserved (each-unserved service.port _ _ each) in
+      let none = each-whole n call.ports call.ports_after long each.same_length rest _ unserved (each-unserved (number_at (places_of service)) _ _ each) in
       by_untouched memory_line status.Memory tt each (λ h. cc) (λ h. cc) (λ h. cc) (λ at asked. (inl refl, none)) ended
 
-  pub by_unbound : Each (IsUntouched service.port) (take n call.ports) (take n call.ports_after)
+  pub by_unbound : Each (IsUntouched (number_at (places_of service))) (take n call.ports) (take n call.ports_after)
       → IsOneNotBound (take n call.ports) (take n call.ports_after)
       → IsOutput task call.ports call.ports_after status.NetFault net_line → IsEnded net_line status.NetFault (output_of call) s → Keeps call s
   by_unbound each one out ended =
@@ -296,12 +297,12 @@ module _ (call : Call) (command : Command) (task : AskedValue) (service : Servic
   -- all ports were served, and the number of this release was reported
   pub by_sessions : (release : ℕ) → length (take n call.ports_after) ≡ length (take n call.ports) → All IsIdle (take n call.ports_after)
       → (some_failed (take n call.ports_after) ≡ true → HasRisenSome (take n call.ports) (take n call.ports_after))
-      → IsOutput task call.ports call.ports_after (final_status (take n call.ports_after)) (report (take n call.ports_after) release)
-      → IsEnded (report (take n call.ports_after) release) (final_status (take n call.ports_after)) (output_of call) s → Keeps call s
+      → IsOutput task call.ports call.ports_after (final_status (take n call.ports_after)) (report (places_of service) (take n call.ports_after) release)
+      → IsEnded (report (places_of service) (take n call.ports_after) release) (final_status (take n call.ports_after)) (output_of call) s → Keeps call s
   by_sessions release same idle rises out ended =
       let ports = take n call.ports_after in
       let ending = ending_of ports in
-      let text = report ports release in
+      let text = report (places_of service) ports release in
       keeps_by_final call command task s (final_status ports) text named told free
       (final_is (final_status ports) (done_or_net ports ending))
       (λ h. risen-whole n call.ports call.ports_after long same rest (rises (some_by ports ending h)))

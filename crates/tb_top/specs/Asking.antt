@@ -1,6 +1,6 @@
 -- What the arguments and the files ask for: a task over a census; or why the run ends before it
 -- begins.
-use Rattle.std.specs.Prelude.{◌==◌, ℕ, Bool, true, false, List, [], ◌∷◌, length, Option, Some, None, Result, Ok, Err, is_some, ok_or, nat_le, nat_lt, if◌then◌else◌}
+use Rattle.std.specs.Prelude.{◌==◌, ◌+◌, ℕ, Bool, true, false, List, [], ◌∷◌, length, Option, Some, None, Result, Ok, Err, is_some, ok_or, nat_le, nat_lt, if◌then◌else◌}
 use Rattle.tb_base.specs.declared.records.Record.{Record}
 use Rattle.tb_base.specs.declared.keys.Keys.{Keys}
 use Rattle.tb_model.specs.Releases.{ReleaseValue, first_release}
@@ -203,6 +203,13 @@ come_at_ports (lines.Script script) = false
 come_at_ports (lines.Lanes script) = false
 come_at_ports (lines.Ports service) = true
 come_at_ports (lines.Sums population script) = false
+
+-- how many ports they take
+abbrev pub ports_taken : AskedLines → ℕ
+ports_taken (lines.Script script) = 0
+ports_taken (lines.Lanes script) = 0
+ports_taken (lines.Ports service) = service.workers + 1
+ports_taken (lines.Sums population script) = 0
 
 -- whether it is sessions
 abbrev pub is_service : AskedValue → Bool

@@ -12,6 +12,7 @@ use Rattle.tb_keep.specs.Playing.{CanAllFollow}
 use Rattle.tb_keep.specs.Seen.{IsAsItWas, JournalSeen}
 use Rattle.tb_keep.specs.declared.recovery.JournalFault.{JournalFault}
 use Rattle.tb_release.specs.declared.edits.Edit.{Edit}
+use Rattle.tb_serve.specs.Places.{number_at}
 use Rattle.tb_serve.specs.Ports.{PortValue}
 use Rattle.tb_serve.specs.Reports.{memory_line, net_line, report}
 use Rattle.tb_serve.specs.Serves.{IsEnded, Output, final_status}
@@ -19,25 +20,26 @@ use Rattle.tb_serve.specs.Stages.{IsOneNotBound, IsUntouched}
 use Rattle.tb_top.specs.Asking.{CensusValue, base_of}
 use Rattle.tb_top.specs.KeepOutputs.{DiskSeen, IsStill, journal_line}
 use Rattle.tb_command.specs.ServicePorts.{Service}
-use Rattle.tb_top.specs.Services.{EachPort, ports_of}
+use Rattle.tb_serve.specs.declared.places.Places.{Places}
+use Rattle.tb_top.specs.Services.{EachPort, places_of, ports_of}
 
 -- the status where all was served and written, by whether the journal is live then
 abbrev pub host_status : Bool → List PortValue → Status
 host_status live ports = if live then final_status ports else status.DiskFault
 
 -- and the report: while the journal is live it is that of a server without one
-abbrev pub host_report : Bool → List PortValue → (release : ℕ) → List ℕ
-host_report live ports release =
-    if live then report ports release else disk_report ports release
+abbrev pub host_report : Bool → Places → List PortValue → (release : ℕ) → List ℕ
+host_report live places ports release =
+    if live then report places ports release else disk_report places ports release
 
 -- the sessions of each port were served, those of the first from where the custodian stood first to
--- where he stands then; and its listener is left bound to the port of its number
+-- where he stands then; and its listener is left bound to its number
 abbrev pub AreSessionsHosted : CensusValue → Service → (first last : KeptState)
     → (before after : List PortValue) → Type 0
 AreSessionsHosted census service first last =
     EachPort service (λ i before after.
     IsHosted census.setup (base_of census) service.sessions first last i before after
-    × IsLeftAt service.port i after)
+    × IsLeftAt (places_of service) i after)
 
 -- a text is what a server with a journal ends with, by its status: how many sessions each port had
 -- and how many batches were published, those of the journal's file among them; or, where a listener
@@ -51,8 +53,9 @@ IsHostOutput census service before after s text =
     before after
     × (s ≡ host_status (is_none last.further) (ports_of service after))
     × (text
-    ≡ host_report (is_none last.further) (ports_of service after) (length last.state.chain)))
-    ⊎ (EachPort service (IsUntouched service.port) before after
+    ≡ host_report (is_none last.further) (places_of service) (ports_of service after)
+    (length last.state.chain)))
+    ⊎ (EachPort service (IsUntouched (number_at (places_of service))) before after
     × IsOneNotBound (ports_of service before) (ports_of service after)
     × (s ≡ status.NetFault) × (text ≡ net_line))
 
@@ -83,7 +86,8 @@ abbrev pub IsHostRun : CensusValue → Service → (before after : List PortValu
     → Output → Status → Type 0
 IsHostRun census service before after saw out s =
     IsFileRefused census before after saw out s
-    ⊎ HostsUntil census.setup (base_of census) service.port service.sessions before after saw out s
+    ⊎ HostsUntil census.setup (base_of census) (places_of service) service.sessions before after saw
+    out s
 
 -- A server with a journal was run: there is a port for each worker, and the others stay. Memory
 -- was refused before the file was attached, and the disk was left alone; or it couldn't be, or was

@@ -2,10 +2,10 @@
 
 ghost use Rattle.std.specs.Prelude.{◌≡◌, IfErr, IfOk, None, Some, Err, true};
 ghost use Rattle.tb_command.specs.Commands.{asks_to_generate, asks_to_keep, asks_to_serve};
-ghost use Rattle.tb_command.specs.Commands.{command_of};
+ghost use Rattle.tb_command.specs.Commands.{command_of, ports_asked};
 ghost use Rattle.tb_command.specs.declared.command.Command.{Command as CommandValue};
 ghost use Rattle.tb_endings.specs.declared.endings.End.TheVariants as end;
-ghost use Rattle.tb_top.specs.Asking.{asked_over, is_keep, is_service};
+ghost use Rattle.tb_top.specs.Asking.{asked_over, is_keep, is_service, ports_taken};
 ghost use Rattle.tb_top.specs.InputFiles.{command_files};
 ghost use Rattle.tb_top.specs.Loading.{AskedIsFirst, Loads, asked_value, reading};
 
@@ -30,6 +30,8 @@ pub fn ask<'a, F: Files, R: Threads + Sync>(
     ensures first { IfOk result AskedIsFirst }
     ensures kind { IfOk result (λ asked. is_service (asked_value asked)
         ≡ asks_to_serve (command_of arguments.now)) }
+    ensures ports { IfOk result (λ asked. ports_taken asked.lines
+        ≡ ports_asked (command_of arguments.now)) }
     ensures keeps { IfOk result (λ asked. is_keep (asked_value asked)
         ≡ asks_to_keep (command_of arguments.now)) }
     ensures generated { asks_to_generate (command_of arguments.now) ≡ true

@@ -3,7 +3,7 @@
 
 ghost use Rattle.std.specs.Prelude.{◌≡◌, IfErr, IfOk, false};
 ghost use Rattle.tb_endings.specs.declared.endings.End.TheVariants as end;
-ghost use Rattle.tb_top.specs.Asking.{generated_asked, is_keep, is_service};
+ghost use Rattle.tb_top.specs.Asking.{generated_asked, is_keep, is_service, ports_taken};
 ghost use Rattle.tb_top.specs.GeneratedFiles.{HoldGenerated};
 ghost use Rattle.tb_top.specs.GeneratedFiles.{generated_inputs as inputs_of_generated};
 ghost use Rattle.tb_top.specs.Loading.{AskedIsFirst, Makes, asked_value};
@@ -59,6 +59,7 @@ pub fn load_generated<'a, R: Threads + Sync>(
 ) -> Result<Asked<'a>, End>
     ensures first { IfOk result AskedIsFirst }
     ensures kind { IfOk result (λ asked. is_service (asked_value asked) ≡ false) }
+    ensures ports { IfOk result (λ asked. ports_taken asked.lines ≡ 0) }
     ensures keeps { IfOk result (λ asked. is_keep (asked_value asked) ≡ false) }
     ensures makes { Makes asked_value (generated_asked population.now) result }
     ensures accepted { IfErr result (λ e. e ≡ end.Memory) }

@@ -7,7 +7,6 @@ ghost use Rattle.tb_disk.specs.Moments.{KeepsPast};
 ghost use Rattle.tb_model.specs.Schemas.{shape_of};
 ghost use Rattle.tb_serve.specs.Serves.{output};
 ghost use Rattle.tb_serve.specs.Stages.{IsFresh};
-ghost use Rattle.tb_command.specs.declared.service.TheConstants.{MOST_WORKERS};
 ghost use Rattle.tb_top.specs.HostOutputs.{IsHostAnswered, IsHostRun};
 ghost use Rattle.tb_top.specs.KeepOutputs.{disk_seen};
 ghost use Rattle.tb_top.specs.Asking.{census_over};
@@ -17,6 +16,7 @@ ghost use Rattle.tb_top.specs.Services.{ports_of};
 use crate::asked::Census;
 use crate::keep::{end_by_disk, end_refused};
 use crate::over::Over;
+use crate::places::places_of;
 use std::alloc::Global;
 use std::marker::Brand;
 use std::sync::Wait;
@@ -84,8 +84,10 @@ fn host_on_board<
         rt: over.rt,
         alloc: over.alloc,
     };
-    let (port, workers, sessions) = (service.port(), service.workers(), service.sessions());
-    match serve_with_journal(&setting, custodian, disk, port, workers, sessions, out, net) {
+    let (places, workers, sessions) = (places_of(service), service.workers(), service.sessions());
+    match serve_with_journal(
+        &setting, custodian, disk, places, workers, sessions, out, net,
+    ) {
         Ok(status) => status,
         Err(fault) => end_refused(&fault, out),
     }
@@ -189,7 +191,7 @@ pub(crate) fn answer_host<R: Threads + Wait + Sync, O: Sink, N: Listen + Send, D
 ) -> Status
     requires first { IsFirst census }
     requires attached { D.attached disk.old ≡ false }
-    requires ports { vec_len net.old ≡ MOST_WORKERS + 1 }
+    requires ports { hosted.now.service.now.workers + 1 ≤ vec_len net.old }
     requires fresh { All IsFresh net.old.items }
     ensures { IsHostAnswered (census_value census) hosted.now.service.now hosted.now.journal.now
         net.old.items net.new.items result
@@ -197,7 +199,5 @@ pub(crate) fn answer_host<R: Threads + Wait + Sync, O: Sink, N: Listen + Send, D
         (disk_seen D.named D.could_leave D.attached D.content
         D.may_leave D.moment D.left_since D.faults disk.old disk.new) }
 {
-    // Its clause tells that there is a port for each worker.
-    let _ = hosted.service.port();
     host_census(rt, alloc, census, hosted, out, net.as_mut_slice(), disk)
 }

@@ -1,6 +1,6 @@
 // The headline, and the top call over forms in memory.
 
-ghost use Rattle.std.specs.Prelude.{◌≡◌, ◌≢◌, ◌⊎◌, ◌+◌, All, Some, false};
+ghost use Rattle.std.specs.Prelude.{◌≡◌, ◌≢◌, ◌≤◌, ◌⊎◌, All, Some, false};
 ghost use Rattle.std.specs.Prelude.{true, vec_len};
 ghost use Rattle.tb_top.specs.KeepOutputs.{disk_seen};
 ghost use Rattle.tb_base.specs.declared.status.Status.TheVariants as status;
@@ -8,9 +8,8 @@ ghost use Rattle.tb_io.specs.HeldFiles.{bytes_of, bytes_or_none};
 ghost use Rattle.tb_serve.specs.Serves.{output};
 ghost use Rattle.tb_serve.specs.Stages.{IsFresh};
 ghost use Rattle.tb_serve.specs.Stages.{HasRisenSome};
-ghost use Rattle.tb_command.specs.declared.service.TheConstants.{MOST_WORKERS};
 ghost use Rattle.tb_top.specs.Asking.{asked_of};
-ghost use Rattle.tb_command.specs.Commands.{asks_to_keep, command_of};
+ghost use Rattle.tb_command.specs.Commands.{asks_to_keep, command_of, ports_asked};
 ghost use Rattle.tb_top.specs.Headline.{EachTableIsCounted};
 ghost use Rattle.tb_top.specs.InputFiles.{asks_for_dwellings};
 ghost use Rattle.tb_top.specs.InMemory.{Adds, NamesTheFailingRead, memory_call};
@@ -46,7 +45,7 @@ pub fn run_surely<N: Listen + Send, D: Disk + Send, L: Ledger>(
     disk: &mut D,
     steps: &mut Steps<L>,
 ) -> Status
-    requires ports { vec_len net.old ≡ MOST_WORKERS + 1 }
+    requires ports { ports_asked (command_of arguments.now) ≤ vec_len net.old }
     requires fresh { All IsFresh net.old.items }
     requires attached { D.attached disk.old ≡ false }
     ensures read { result ≢ status.ReadFault }
@@ -83,7 +82,7 @@ pub fn run_in_memory<N: Listen + Send, D: Disk + Send, L: Ledger>(
     disk: &mut D,
     steps: &mut Steps<L>,
 ) -> Status
-    requires ports { vec_len net.old ≡ MOST_WORKERS + 1 }
+    requires ports { ports_asked (command_of arguments.now) ≤ vec_len net.old }
     requires fresh { All IsFresh net.old.items }
     requires attached { D.attached disk.old ≡ false }
     // The bytes are the text of the status.
@@ -120,7 +119,7 @@ pub fn print_counted_tables<F: Files, O: Sink, N: Listen + Send, D: Disk + Send,
     disk: &mut D,
     steps: &mut Steps<L>,
 ) -> Status
-    requires ports { vec_len net.old ≡ MOST_WORKERS + 1 }
+    requires ports { ports_asked (command_of arguments.now) ≤ vec_len net.old }
     requires fresh { All IsFresh net.old.items }
     requires attached { D.attached disk.old ≡ false }
     ensures counted { let call = call_over arguments.now

@@ -23,6 +23,7 @@ pub mod laws;
 mod load;
 mod mirror;
 mod over;
+mod places;
 mod summary;
 mod summing;
 mod sums;

@@ -12,7 +12,7 @@ ghost use Rattle.std.specs.Prelude.{IfErr, IfOk, flat_map, option_map};
 ghost use Rattle.tb_base.specs.Persons.{AreDistinct};
 ghost use Rattle.tb_base.specs.Records.{AllFit};
 ghost use Rattle.tb_command.specs.Commands.{asks_to_generate, asks_to_keep, asks_to_serve};
-ghost use Rattle.tb_command.specs.Commands.{ports_service};
+ghost use Rattle.tb_command.specs.Commands.{ports_asked, ports_for, ports_service};
 ghost use Rattle.tb_model.specs.Schemas.{shape_of};
 ghost use Rattle.tb_endings.specs.declared.endings.End.TheVariants as end;
 ghost use Rattle.tb_endings.specs.declared.endings.Input.TheVariants as input;
@@ -20,6 +20,7 @@ ghost use Rattle.tb_top.specs.Asking.{asked_after, asked_over, base_in, bytes_in
 ghost use Rattle.tb_top.specs.Asking.{census_bytes, census_in, census_of, people_added};
 ghost use Rattle.tb_top.specs.Asking.{come_at_ports, input_place, is_keep, is_service};
 ghost use Rattle.tb_top.specs.Asking.{lines_over, most_bytes, people_in, perturbation_in};
+ghost use Rattle.tb_top.specs.Asking.{ports_taken};
 ghost use Rattle.tb_top.specs.Asking.{recodes_in, schema_in, script_in, scripted_in, task_over};
 ghost use Rattle.tb_top.specs.Asking.{setup_in, setup_over, units_added, units_in};
 ghost use Rattle.tb_top.specs.Asking.{with_units as census_with_units};
@@ -442,6 +443,8 @@ pub(crate) fn load_scripted<F: Files, R: Threads + Sync>(
 fn load_lines<F: Files>(alloc: Global, files: &mut F, lines: &Lines<'_>) -> Result<AskedLines, End>
     ensures kind { IfOk result (λ asked. come_at_ports asked
         ≡ is_some (ports_service lines.now)) }
+    ensures ports { IfOk result (λ asked. ports_taken asked
+        ≡ ports_for (ports_service lines.now)) }
     ensures loads { Loads
         (reading F.content F.faults F.readings files.old files.new)
         6
@@ -473,6 +476,8 @@ fn with_lines<'a, F: Files>(
     ensures first { IfOk result AskedIsFirst }
     ensures kind { IfOk result (λ asked. is_service (asked_value asked)
         ≡ is_some (ports_service task.now.lines)) }
+    ensures ports { IfOk result (λ asked. ports_taken asked.lines
+        ≡ ports_for (ports_service task.now.lines)) }
     ensures owner { IfOk result (λ asked. asked.owner ≡ task.now.owner) }
     ensures loads { Loads
         (reading F.content F.faults F.readings files.old files.new)
@@ -499,6 +504,8 @@ fn load_task<'a, F: Files, R: Threads + Sync>(
     ensures first { IfOk result AskedIsFirst }
     ensures kind { IfOk result (λ asked. is_service (asked_value asked)
         ≡ is_some (ports_service task.now.lines)) }
+    ensures ports { IfOk result (λ asked. ports_taken asked.lines
+        ≡ ports_for (ports_service task.now.lines)) }
     ensures owner { IfOk result (λ asked. asked.owner ≡ task.now.owner) }
     ensures loads { Loads
         (reading F.content F.faults F.readings files.old files.new)
@@ -524,6 +531,8 @@ pub fn load<'a, F: Files, R: Threads + Sync>(
     ensures first { IfOk result AskedIsFirst }
     ensures kind { IfOk result (λ asked. is_service (asked_value asked)
         ≡ asks_to_serve (Some command.now)) }
+    ensures ports { IfOk result (λ asked. ports_taken asked.lines
+        ≡ ports_asked (Some command.now)) }
     ensures keeps { IfOk result (λ asked. is_keep (asked_value asked)
         ≡ asks_to_keep (Some command.now)) }
     ensures generated { asks_to_generate (Some command.now) ≡ true

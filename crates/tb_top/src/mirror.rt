@@ -1,13 +1,13 @@
 // Sessions as a mirror of a leader, served over a census.
 
-ghost use Rattle.std.specs.Prelude.{◌≡◌, ◌+◌, All, vec_len};
+ghost use Rattle.std.specs.Prelude.{◌≤◌, ◌+◌, All, vec_len};
 ghost use Rattle.tb_serve.specs.Serves.{output};
 ghost use Rattle.tb_serve.specs.Stages.{IsFresh};
-ghost use Rattle.tb_command.specs.declared.service.TheConstants.{MOST_WORKERS};
 ghost use Rattle.tb_top.specs.Loading.{IsFirst, census_value};
 ghost use Rattle.tb_top.specs.MirrorOutputs.{IsMirrorAnswered};
 
 use crate::asked::Census;
+use crate::places::places_of;
 use std::alloc::Global;
 use std::sync::Wait;
 use std::thread::Threads;
@@ -28,19 +28,19 @@ pub(crate) fn answer_mirror<R: Threads + Wait + Sync, O: Sink, N: Listen + Send>
     net: &mut Vec<Port<N>>,
 ) -> Status
     requires first { IsFirst census }
-    requires ports { vec_len net.old ≡ MOST_WORKERS + 1 }
+    requires ports { service.now.workers + 1 ≤ vec_len net.old }
     requires fresh { All IsFresh net.old.items }
     ensures { IsMirrorAnswered (census_value census) service.now net.old.items net.new.items result
         (output (O.taken out.old) (O.taken out.new) (O.faults out.old) (O.faults out.new)) }
 {
     let Census { setup, release } = census;
-    let (port, workers, sessions) = (service.port(), service.workers(), service.sessions());
+    let (places, workers, sessions) = (places_of(service), service.workers(), service.sessions());
     serve_mirror(
         rt,
         alloc,
         &setup,
         release,
-        port,
+        places,
         workers,
         sessions,
         out,

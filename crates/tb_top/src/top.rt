@@ -6,14 +6,14 @@
 // Each way to end has a lemma that gives all of `Keeps`: `proofs/Finishing`, of a task that is no
 // script `Serving`, and of files that are made `Generating`.
 
-ghost use Rattle.std.specs.Prelude.{◌≡◌, ◌+◌, ℕ, List, All, false};
+ghost use Rattle.std.specs.Prelude.{◌≡◌, ◌≤◌, ◌+◌, ℕ, List, All, false};
 ghost use Rattle.std.specs.Prelude.{vec_len};
 ghost use Rattle.tb_base.specs.Records.{AllFit};
 ghost use Rattle.tb_model.specs.Schemas.{shape_of};
 ghost use Rattle.tb_serve.specs.Serves.{output};
 ghost use Rattle.tb_serve.specs.Stages.{IsFresh};
-ghost use Rattle.tb_command.specs.declared.service.TheConstants.{MOST_WORKERS};
-ghost use Rattle.tb_top.specs.Asking.{asked_with};
+ghost use Rattle.tb_command.specs.Commands.{command_of, ports_asked};
+ghost use Rattle.tb_top.specs.Asking.{asked_with, ports_taken};
 ghost use Rattle.tb_top.specs.KeepOutputs.{disk_seen};
 ghost use Rattle.tb_top.specs.Loading.{AskedIsFirst, IsBase, IsFirst, asked_value};
 ghost use Rattle.tb_top.specs.Asking.{census_over};
@@ -32,6 +32,7 @@ use crate::host::{Hosted, answer_host};
 use crate::keep::{Kept, answer_keep};
 use crate::lanes::answer_lanes;
 use crate::mirror::answer_mirror;
+use crate::places::places_of;
 use crate::summary::write_summary;
 use crate::summing::SummingSink;
 use crate::sums::Sums;
@@ -173,19 +174,19 @@ fn serve_census<R: Threads + Wait + Sync, O: Sink, N: Listen + Send>(
     net: &mut Vec<Port<N>>,
 ) -> Status
     requires first { IsFirst census }
-    requires ports { vec_len net.old ≡ MOST_WORKERS + 1 }
+    requires ports { service.now.workers + 1 ≤ vec_len net.old }
     requires fresh { All IsFresh net.old.items }
     ensures { IsServiceAnswered (census_value census) service.now net.old.items net.new.items result
         (O.faults out.old) (O.faults out.new) (O.taken out.old) (O.taken out.new) }
 {
     let Census { setup, release } = census;
-    let (port, workers, sessions) = (service.port(), service.workers(), service.sessions());
+    let (places, workers, sessions) = (places_of(service), service.workers(), service.sessions());
     serve(
         rt,
         alloc,
         &setup,
         release,
-        port,
+        places,
         workers,
         sessions,
         out,
@@ -234,7 +235,7 @@ fn answer_ports<R: Threads + Wait + Sync, O: Sink, N: Listen + Send, D: Disk + S
     disk: &mut D,
 ) -> Status
     requires first { IsFirst census }
-    requires ports { vec_len net.old ≡ MOST_WORKERS + 1 }
+    requires ports { service.now.workers + 1 ≤ vec_len net.old }
     requires fresh { All IsFresh net.old.items }
     requires attached { D.attached disk.old ≡ false }
     ensures { ArePortsAnswered run.now.owner.now (census_value census) service.now
@@ -268,7 +269,7 @@ fn answer_lines<R: Threads + Wait + Sync, O: Sink, N: Listen + Send, D: Disk + S
     steps: &mut Steps<L>,
 ) -> Status
     requires first { IsFirst census }
-    requires ports { vec_len net.old ≡ MOST_WORKERS + 1 }
+    requires ports { ports_taken lines.now ≤ vec_len net.old }
     requires fresh { All IsFresh net.old.items }
     requires attached { D.attached disk.old ≡ false }
     ensures { IsAnswered (asked_with (census_value census) run.now.owner.now lines.now)
@@ -300,7 +301,7 @@ fn answer<R: Threads + Wait + Sync, O: Sink, N: Listen + Send, D: Disk + Send, L
     steps: &mut Steps<L>,
 ) -> Status
     requires first { AskedIsFirst asked }
-    requires ports { vec_len net.old ≡ MOST_WORKERS + 1 }
+    requires ports { ports_taken asked.lines ≤ vec_len net.old }
     requires fresh { All IsFresh net.old.items }
     requires attached { D.attached disk.old ≡ false }
     ensures { IsAnswered (asked_value asked.entry) net.old.items net.new.items
@@ -367,8 +368,8 @@ pub fn tablebuilder<F: Files, O: Sink, N: Listen + Send, D: Disk + Send, L: Ledg
     disk: &mut D,
     steps: &mut Steps<L>,
 ) -> Status
-    // A port for the custodian and one for each worker that there may be, as they are made.
-    requires ports { vec_len net.old ≡ MOST_WORKERS + 1 }
+    // As many ports as the arguments ask for, and more, as they are made: the others stay so.
+    requires ports { ports_asked (command_of arguments.now) ≤ vec_len net.old }
     requires fresh { All IsFresh net.old.items }
     requires attached { D.attached disk.old ≡ false }
     // What the call keeps, promise by promise, over what it saw.

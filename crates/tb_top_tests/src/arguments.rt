@@ -9,7 +9,7 @@ use tb_small_runs::words_of;
 // Arguments, which one blank parts, and whether they are a command's.
 type Row = (&'static str, bool);
 
-static ROWS: [Row; 131] = [
+static ROWS: [Row; 137] = [
     ("", false),
     ("help", false),
     ("help script", false),
@@ -114,8 +114,11 @@ static ROWS: [Row; 131] = [
         "mirror classes - ptable people 0 - - journal 5000 1 1",
         false,
     ),
-    ("mirror classes - ptable people 0 - - 65520 1 1", false),
-    ("mirror classes - ptable people 0 - - 5000 17 1", false),
+    ("mirror classes - ptable people 0 - - 65533 1 1", true),
+    ("mirror classes - ptable people 0 - - 65534 1 1", false),
+    ("mirror classes - ptable people 0 - - 5000 1024 1", true),
+    ("mirror classes - ptable people 0 - - 5000 1025 1", false),
+    ("mirror classes - ptable people 0 - - 5000 0 1", false),
     ("mirror classes - ptable people 0 - - 5000 1 0", false),
     (
         "mirror classes - ptable people 0 dwellings links 5000 1 1",
@@ -128,6 +131,18 @@ static ROWS: [Row; 131] = [
     ),
     ("mirror classes - ptable people 0 5000 1 1", false),
     ("host classes - ptable people 0 - - journal 5000 1 1", true),
+    (
+        "host classes - ptable people 0 - - journal 65533 1024 1000000",
+        true,
+    ),
+    (
+        "host classes - ptable people 0 - - journal 65534 1 1",
+        false,
+    ),
+    (
+        "host classes - ptable people 0 - - journal 5000 1025 1",
+        false,
+    ),
     (
         "host classes - ptable people 0 dwellings links journal 5000 1 1",
         true,

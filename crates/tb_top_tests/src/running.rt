@@ -2,10 +2,10 @@
 // is a run with the bytes that it writes; the tables stand behind functions, so that no proof reads
 // them.
 
-ghost use Rattle.std.specs.Prelude.{◌≡◌, ◌<◌, ◌+◌, All, IfOk, false, vec_len};
+ghost use Rattle.std.specs.Prelude.{◌≡◌, ◌<◌, ◌≤◌, All, IfOk, false, vec_len};
 ghost use Rattle.tb_mem_disk.specs.HeldDisk.{HeldDisk};
 ghost use Rattle.tb_serve.specs.Stages.{IsFresh};
-ghost use Rattle.tb_command.specs.declared.service.TheConstants.{MOST_WORKERS};
+ghost use Rattle.tb_command.specs.Commands.{command_of, ports_asked};
 
 use std::alloc::Global;
 use std::marker::Brand;
@@ -67,13 +67,13 @@ fn no_file(alloc: Global) -> Result<MemDisk, Memory>
 fn count_in_memory<L: Ledger>(
     rt: &(impl Threads + Wait + Sync),
     alloc: Global,
-    words: &[String],
+    arguments: &Arguments<'_>,
     files: &mut MemFiles,
     out: &mut MemSink,
     net: &mut Vec<Port<MemListen>>,
     blank: Blank,
 ) -> Status
-    requires ports { vec_len net.old ≡ MOST_WORKERS + 1 }
+    requires ports { ports_asked (command_of arguments.now) ≤ vec_len net.old }
     requires fresh { All IsFresh net.old.items }
     requires name { blank.name ≡ L.name }
     requires parts { blank.parts ≡ L.parts }
@@ -83,10 +83,7 @@ fn count_in_memory<L: Ledger>(
         return Status::Memory;
     };
     let mut steps = Steps::<L>::new(blank);
-    let arguments = Arguments::read(words);
-    run_in_memory(
-        rt, alloc, &arguments, files, out, net, &mut disk, &mut steps,
-    )
+    run_in_memory(rt, alloc, arguments, files, out, net, &mut disk, &mut steps)
 }
 
 /// Runs a command over files and a sink that never fail, and a disk of its own.
@@ -110,9 +107,10 @@ fn status_of(
 ) -> Result<u8, Memory> {
     let words = words_of(alloc, row.arguments)?;
     let mut files = files_of(alloc, row.others, row.fails)?;
-    let mut net = quiet_ports(alloc)?;
+    let arguments = Arguments::read(&words);
+    let mut net = quiet_ports(alloc, arguments.ports())?;
     let blank = Blank::new(1);
-    let status = count_in_memory::<Brand>(rt, alloc, &words, &mut files, out, &mut net, blank);
+    let status = count_in_memory::<Brand>(rt, alloc, &arguments, &mut files, out, &mut net, blank);
     Ok(status.number())
 }
 

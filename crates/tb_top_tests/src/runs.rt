@@ -38,7 +38,7 @@ const WITH_KEY_24: &[u8] = b"pcv,ckey,pvalue\n3,64,-2\n1,7,1\n4,71,2\n3,127,3\n2
 const WIDE_PEOPLE: &[u8] = b"person,record_key,SEX,AGE,AREA\n101,4000,1,0-15,E1\n\
     102,100,1,16-64,E1\n103,20,1,65+,E2\n104,7,2,16-64,E2\n";
 
-static RUNS: [Over; 39] = [
+static RUNS: [Over; 40] = [
     ("one_variable", WITHOUT_RECODES, &[], 0, SEX),
     ("one_variable", WITH_RECODES, &[], 0, SEX),
     (
@@ -313,6 +313,13 @@ static RUNS: [Over; 39] = [
         &[],
         0,
         NOBODY_SERVED,
+    ),
+    (
+        "a_mirror_without_sessions",
+        "mirror classes - ptable people 0 - - 65533 1024 1000000",
+        &[],
+        0,
+        b"port 65533 sessions 0\nport 65534 sessions 0\nrelease 0\n",
     ),
     (
         "a_service_over_a_file_at_fault",

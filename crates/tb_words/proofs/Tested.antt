@@ -24,6 +24,7 @@ use Rattle.tb_command.specs.declared.forms.LinesFrom.{LinesFrom}
 use Rattle.tb_command.specs.declared.forms.LinesFrom.TheVariants as lines_from
 use Rattle.tb_command.specs.declared.forms.OwnedBy.{OwnedBy}
 use Rattle.tb_command.specs.declared.forms.OwnedBy.TheVariants as owned_by
+use Rattle.tb_command.specs.ServicePorts.{most_port, most_workers}
 use Rattle.tb_words.specs.Words.{AreCommand, AreOf, AreOfOne, IsCommand, handed, handed_on, is_plain}
 use Rattle.tb_words.proofs.Plain.{both}
 
@@ -173,16 +174,16 @@ lines_pass lines_from.Script words i lines h =
     let (name, named) = map_some _ (file_named (word_at words i)) lines h in (passes_file (word_at words i) name named, tt)
 lines_pass lines_from.Lanes words i lines h =
     let (name, named) = map_some _ (file_named (word_at words i)) lines h in (passes_file (word_at words i) name named, tt)
-lines_pass lines_from.Ports words i lines h =
+lines_pass (lines_from.Ports kind) words i lines h =
     let (service, some) = map_some _ _ lines h in
     let (port, a, h1) = then_some _ (number_within 1 _ (word_at words i)) service some in
     let (workers, b, h2) = then_some _ (number_within 1 _ (word_at words (i + 1))) service h1 in
     let (sessions, c) = map_some _ (number_within 1 _ (word_at words (i + 2))) service h2 in
     let second : i + 1 ≡ suc i = omega arith in
     let third : i + 2 ≡ suc (suc i) = omega arith in (
-      passes_within 1 65519 port (word_at words i) a,
+      passes_within 1 (most_port kind) port (word_at words i) a,
       (
-        subst (λ j. Passes (word_at words j)) second (passes_within 1 16 workers (word_at words (i + 1)) b),
+        subst (λ j. Passes (word_at words j)) second (passes_within 1 (most_workers kind) workers (word_at words (i + 1)) b),
         (subst (λ j. Passes (word_at words j)) third (passes_within 1 1000000 sessions (word_at words (i + 2)) c), tt),
       ),
     )
@@ -212,7 +213,7 @@ end_there f = go f.lines refl
     go : (l : LinesFrom) → f.lines ≡ l → end_place f ≡ lines_place f + length (lines_positions f.lines)
     go lines_from.Script is = rw is refl
     go lines_from.Lanes is = rw is refl
-    go lines_from.Ports is = rw is refl
+    go (lines_from.Ports kind) is = rw is refl
 
 -- so many positions it has, group by group
 count_of : (f : FormValue) → length (positions_of f)

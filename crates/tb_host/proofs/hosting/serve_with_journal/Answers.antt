@@ -9,11 +9,12 @@ use Rattle.tb_model.specs.Releases.{ReleaseValue}
 use Rattle.tb_model.specs.Setups.{SetupValue}
 use Rattle.tb_serve.specs.Ports.{PortValue}
 use Rattle.tb_serve.specs.Serves.{Output, output}
+use Rattle.tb_serve.specs.declared.places.Places.{Places}
 use Rattle.tb_host.proofs.Served.{seen}
 use Rattle.tb_host.proofs.hosting.serve_with_journal.Goals as goal
 
 -- what became of the first ports of a list
-hosts_first : (setup : SetupValue) (base : ReleaseValue) (k most n : ℕ) (all first after rest : List PortValue) (saw : JournalSeen) (out : Output)
+hosts_first : (setup : SetupValue) (base : ReleaseValue) (k : Places) (most n : ℕ) (all first after rest : List PortValue) (saw : JournalSeen) (out : Output)
     (ended : Result Status JournalFault) → first ≡ take n all → length after ≡ n
     → Hosts setup base k most first after saw out ended → Hosts setup base k most (take n all) (take n (after ++ rest)) saw out ended
 hosts_first setup base k most n all first after rest saw out ended is long hosts =
@@ -22,7 +23,7 @@ hosts_first setup base k most n all first after rest saw out ended is long hosts
 
 pub returns-clause-hosts : goal.returns-clause-hosts
 returns-clause-hosts g c =
-    hosts_first c.args.setting.now.setup.now c.args.custodian.writer.start.base c.args.first c.args.sessions
+    hosts_first c.args.setting.now.setup.now c.args.custodian.writer.start.base c.args.places c.args.sessions
     (c.args.workers + 1) c.args.net.now c.split_at_mut-ports.result.0.now c.serve_ports.new.ports c.split_at_mut-ports.result.1.now
     (seen g.D.Disk.content g.D.Disk.may_leave g.D.Disk.moment g.D.Disk.left_since g.D.Disk.faults c.args.disk.now c.serve_ports.new.disk)
     (output (g.O.Sink.taken c.args.out.now) (g.O.Sink.taken c.serve_ports.new.out) (g.O.Sink.faults c.args.out.now)

@@ -5,11 +5,12 @@ use Rattle.tb_model.specs.Releases.{ReleaseValue}
 use Rattle.tb_model.specs.Setups.{SetupValue}
 use Rattle.tb_serve.specs.Ports.{PortValue}
 use Rattle.tb_serve.specs.Serves.{Output, output}
+use Rattle.tb_serve.specs.declared.places.Places.{Places}
 use Rattle.tb_mirror.specs.Mirroring.{Mirrors}
 use Rattle.tb_mirror.proofs.serving.serve_mirror.Goals as goal
 
 -- what became of the first ports of a list
-mirrors_first : (setup : SetupValue) (base : ReleaseValue) (k most n : ℕ) (all first after rest : List PortValue) (out : Output)
+mirrors_first : (setup : SetupValue) (base : ReleaseValue) (k : Places) (most n : ℕ) (all first after rest : List PortValue) (out : Output)
     (ended : Status) → first ≡ take n all → length after ≡ n
     → Mirrors setup base k most first after out ended → Mirrors setup base k most (take n all) (take n (after ++ rest)) out ended
 mirrors_first setup base k most n all first after rest out ended is long served =
@@ -18,7 +19,7 @@ mirrors_first setup base k most n all first after rest out ended is long served 
 
 pub returns-clause-mirrors : goal.returns-clause-mirrors
 returns-clause-mirrors g c =
-    mirrors_first c.args.setup.now c.args.base c.args.first c.args.sessions
+    mirrors_first c.args.setup.now c.args.base c.args.places c.args.sessions
     (c.args.workers + 1) c.args.net.now c.split_at_mut-ports.result.0.now c.serve_ports.new.ports c.split_at_mut-ports.result.1.now
     (output (g.O.Sink.taken c.args.out.now) (g.O.Sink.taken c.serve_ports.new.out) (g.O.Sink.faults c.args.out.now)
     (g.O.Sink.faults c.serve_ports.new.out)) c.serve_ports.result

@@ -41,6 +41,6 @@ returns-clause-mirrored g c =
           (at_first c.args.setup.now c.args.opening c.new-board.result.1 old.follower.chain.custody.party old.follower.window old.open made c.new-mirror.ensures.custodian c.new-mirror.ensures.window
           c.new-mirror.ensures.open c.requires.shape) (ap (λ (h : HolderValue). h.start.base) writer) (ap (λ (h : HolderValue). h.list) writer) refl c.serve_from-mirror.ensures.left.same_length
           c.serve_from-mirror.ensures.first c.serve_from-mirror.ensures.others,
-      subst (λ (n : ℕ). IsEnded (report after n) (final_status after) (output (g.O.Sink.taken c.args.out.now) (g.O.Sink.taken c.end_with_report.new.out) (g.O.Sink.faults c.args.out.now) (g.O.Sink.faults c.end_with_report.new.out)) c.end_with_report.result)
+      subst (λ (n : ℕ). IsEnded (report c.args.places after n) (final_status after) (output (g.O.Sink.taken c.args.out.now) (g.O.Sink.taken c.end_with_report.new.out) (g.O.Sink.faults c.args.out.now) (g.O.Sink.faults c.end_with_report.new.out)) c.end_with_report.result)
           c.release-release.ensures c.end_with_report.ensures.ended,
     )

@@ -5,10 +5,11 @@ use Rattle.tb_model.specs.Releases.{ReleaseValue}
 use Rattle.tb_model.specs.Setups.{SetupValue}
 use Rattle.tb_serve.specs.Ports.{PortValue}
 use Rattle.tb_serve.specs.Serves.{Output, Serves, output}
+use Rattle.tb_serve.specs.declared.places.Places.{Places}
 use Rattle.tb_serve.proofs.serving.serve.Goals as goal
 
 -- what became of the first ports of a list
-served_first : (setup : SetupValue) (base : ReleaseValue) (k most n : ℕ) (all first after rest : List PortValue) (out : Output)
+served_first : (setup : SetupValue) (base : ReleaseValue) (k : Places) (most n : ℕ) (all first after rest : List PortValue) (out : Output)
     (ended : Status) → first ≡ take n all → length after ≡ n
     → Serves setup base k most first after out ended → Serves setup base k most (take n all) (take n (after ++ rest)) out ended
 served_first setup base k most n all first after rest out ended is long served =
@@ -17,7 +18,7 @@ served_first setup base k most n all first after rest out ended is long served =
 
 pub returns-clause-served : goal.returns-clause-served
 returns-clause-served g c =
-    served_first c.args.setup.now c.args.base c.args.first c.args.sessions
+    served_first c.args.setup.now c.args.base c.args.places c.args.sessions
     (c.args.workers + 1) c.args.net.now c.split_at_mut-ports.result.0.now c.serve_ports.new.ports c.split_at_mut-ports.result.1.now
     (output (g.O.Sink.taken c.args.out.now) (g.O.Sink.taken c.serve_ports.new.out) (g.O.Sink.faults c.args.out.now)
     (g.O.Sink.faults c.serve_ports.new.out)) c.serve_ports.result

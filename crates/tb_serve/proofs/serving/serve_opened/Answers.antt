@@ -13,6 +13,6 @@ returns-clause-served g c =
       (seen_by c.serve_from-owner.result.party).list,
       all_served c.args.setup.now c.args.opening.start.base c.args.sessions c.new-board.result.1 c.new-owner.result.party c.serve_from-owner.result.party c.args.ports.now after
           c.new-owner.ensures (ap (λ (k : CustodianValue). k.writer.start.base) first) (ap (λ (k : CustodianValue). k.writer.list) first) c.serve_from-owner.ensures.left.same_length c.serve_from-owner.ensures.first c.serve_from-owner.ensures.others,
-      subst (λ (n : ℕ). IsEnded (report after n) (final_status after) (output (g.O.Sink.taken c.args.out.now) (g.O.Sink.taken c.end_with_report.new.out) (g.O.Sink.faults c.args.out.now) (g.O.Sink.faults c.end_with_report.new.out)) c.end_with_report.result)
+      subst (λ (n : ℕ). IsEnded (report c.args.places after n) (final_status after) (output (g.O.Sink.taken c.args.out.now) (g.O.Sink.taken c.end_with_report.new.out) (g.O.Sink.faults c.args.out.now) (g.O.Sink.faults c.end_with_report.new.out)) c.end_with_report.result)
           c.release-release.ensures c.end_with_report.ensures.ended,
     )

@@ -1,5 +1,6 @@
 use Rattle.std.proofs.Common.{ap, inl, inr}
 use Rattle.tb_board.specs.Starts.{StartValue}
+use Rattle.tb_serve.specs.Places.{number_at}
 use Rattle.tb_serve.specs.Serves.{output}
 use Rattle.tb_serve.specs.Stages.{GetsReady, IsCleared, IsUntouched}
 use Rattle.tb_serve.proofs.PortEnds.{unserved_ready}
@@ -16,15 +17,15 @@ returns-in-NotBound g c = inr (inl (c.in-NotBound.ensures.0, c.in-NotBound.ensur
 pub returns-in_default : goal.returns-in_default
 returns-in_default g c =
     inl (
-      each_then (GetsReady c.args.first) (λ _. IsCleared) (IsUntouched c.args.first) c.args.ports.now c.prepare.new.ports
+      each_then (GetsReady (number_at c.args.places)) (λ _. IsCleared) (IsUntouched (number_at c.args.places)) c.args.ports.now c.prepare.new.ports
           c.clear_all.new.ports c.in-Ready.ensures c.clear_all.ensures
-          (λ i d lt ready cleared. unserved_ready c.args.first i _ _ _ (c.requires.fresh i d lt) ready cleared),
+          (λ i d lt ready cleared. unserved_ready (number_at c.args.places) i _ _ _ (c.requires.fresh i d lt) ready cleared),
       c.write_end-in_default.ensures.ended,
     )
 
 pub returns : goal.returns
 returns g c =
-    inr (inr (served_all c.args.setup.now c.args.base c.in-Ok.opening.start.base c.args.first c.args.sessions c.args.ports.now
+    inr (inr (served_all c.args.setup.now c.args.base c.in-Ok.opening.start.base c.args.places c.args.sessions c.args.ports.now
     c.prepare.new.ports c.serve_opened.new.ports
     (output (g.O.Sink.taken c.args.out.now) (g.O.Sink.taken c.serve_opened.new.out) (g.O.Sink.faults c.args.out.now)
     (g.O.Sink.faults c.serve_opened.new.out))

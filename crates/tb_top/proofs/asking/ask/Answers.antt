@@ -37,6 +37,9 @@ returns-in_ok-in_positions-in-Some-clause-usage g c = λ none. absurd (not_none 
 pub returns-in_ok-in_positions-in-Some-clause-kind : goal.returns-in_ok-in_positions-in-Some-clause-kind
 returns-in_ok-in_positions-in-Some-clause-kind g c = rw (sym c.in-Some.ensures) c.load.ensures.kind
 
+pub returns-in_ok-in_positions-in-Some-clause-ports : goal.returns-in_ok-in_positions-in-Some-clause-ports
+returns-in_ok-in_positions-in-Some-clause-ports g c = rw (sym c.in-Some.ensures) c.load.ensures.ports
+
 pub returns-in_ok-in_positions-in-Some-clause-keeps : goal.returns-in_ok-in_positions-in-Some-clause-keeps
 returns-in_ok-in_positions-in-Some-clause-keeps g c = rw (sym c.in-Some.ensures) c.load.ensures.keeps
 

@@ -9,7 +9,7 @@ use Rattle.tb_top.proofs.host.host_on_board.Goals as goal
 pub returns-in-Ok-clause-run : goal.returns-in-Ok-clause-run
 returns-in-Ok-clause-run g c =
     inr (hosts-on-board c.args.over.now.setup.now c.args.opening _ c.new-board.ensures.custodian c.requires.first c.args.service.now c.args.net.now
-    c.serve_with_journal.new.net _ _ _ _ _ c.port-port.ensures.port c.workers-workers.ensures c.sessions-sessions.ensures (Ok c.in-Ok.status)
+    c.serve_with_journal.new.net _ _ _ _ _ c.places_of-places.ensures.places c.workers-workers.ensures c.sessions-sessions.ensures (Ok c.in-Ok.status)
     c.in-Ok.ensures.hosts)
 
 pub returns-clause-run : goal.returns-clause-run
@@ -29,6 +29,6 @@ returns-clause-run g c =
     let out = output (g.O.Sink.taken c.args.out.now) (g.O.Sink.taken c.serve_with_journal.new.out) (g.O.Sink.faults c.args.out.now)
     (g.O.Sink.faults c.serve_with_journal.new.out) in
     let (ports, taken, faults, left, refused) = hosts-on-board c.args.over.now.setup.now c.args.opening _ c.new-board.ensures.custodian c.requires.first
-    c.args.service.now c.args.net.now c.serve_with_journal.new.net saw out _ _ _ c.port-port.ensures.port c.workers-workers.ensures
+    c.args.service.now c.args.net.now c.serve_with_journal.new.net saw out _ _ _ c.places_of-places.ensures.places c.workers-workers.ensures
     c.sessions-sessions.ensures (Err fault) c.in-Err.ensures.hosts in
     inl (fault, ports, left, refused, line-beside (journal_line fault) status.Journal _ faults taken c.end_refused.ensures.ended)

@@ -5,7 +5,7 @@ use Rattle.tb_serve.specs.Ports.{PortValue}
 use Rattle.tb_serve.specs.Serves.{output}
 use Rattle.tb_top.specs.Loading.{census_value}
 use Rattle.tb_top.specs.MirrorOutputs.{IsMirrorAnswered}
-use Rattle.tb_top.specs.Services.{ports_of}
+use Rattle.tb_top.specs.Services.{places_of, ports_of}
 use Rattle.tb_top.proofs.PortLemmas.{written-back}
 use Rattle.tb_top.proofs.mirror.answer_mirror.Goals as goal
 
@@ -20,14 +20,14 @@ returns g c =
     let full : length ports ≡ c.args.net.now.len = sym (ap length value) ∙ count in
     let same : length new ≡ c.args.net.now.len = c.serve_mirror.auto.net ∙ count in
     let back : take c.args.net.now.len (new ++ drop (length new) ports) ≡ new = written-back c.args.net.now.len ports new full same in
-    let long : service.workers + 1 ≤ length ports = omega (arith, c.port-port.ensures.ports.workers, c.requires.ports, full) in
+    let long : service.workers + 1 ≤ length ports = omega (arith, c.requires.ports, full) in
     let seen = output (g.O.Sink.taken c.args.out.now) (g.O.Sink.taken c.serve_mirror.new.out) (g.O.Sink.faults c.args.out.now) (g.O.Sink.faults c.serve_mirror.new.out) in
-    let over : Mirrors c.args.census.setup c.args.census.release service.port service.sessions (ports_of service ports)
+    let over : Mirrors c.args.census.setup c.args.census.release (places_of service) service.sessions (ports_of service ports)
     (ports_of service new) seen c.serve_mirror.result =
-    rw (sym c.workers-workers.ensures, sym c.port-port.ensures.port, sym c.sessions-sessions.ensures, sym value) c.serve_mirror.ensures.mirrors in
+    rw (sym c.workers-workers.ensures, sym c.places_of-places.ensures.places, sym c.sessions-sessions.ensures, sym value) c.serve_mirror.ensures.mirrors in
     let others : drop (service.workers + 1) new ≡ drop (service.workers + 1) ports =
     rw (sym c.workers-workers.ensures, sym value) c.serve_mirror.ensures.rest in
-    let served = subst (λ (base : ReleaseValue). Mirrors c.args.census.setup base service.port service.sessions (ports_of service ports)
+    let served = subst (λ (base : ReleaseValue). Mirrors c.args.census.setup base (places_of service) service.sessions (ports_of service ports)
     (ports_of service new) seen c.serve_mirror.result) c.requires.first.0 over in
     subst (λ (ps : List PortValue). IsMirrorAnswered (census_value c.args.census) service ports ps c.serve_mirror.result seen)
     (sym back) (long, others, served)
