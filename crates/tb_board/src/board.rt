@@ -20,6 +20,7 @@ use crate::custodian::Custodian;
 use crate::locked::Locked;
 use crate::named::Named;
 use crate::opening::Opening;
+use crate::permits::{Permit, Permits};
 use crate::publishing::Publication;
 use crate::step::Step;
 use std::alloc::Global;
@@ -30,20 +31,33 @@ use tb_front::{Front, Note, Pass};
 use tb_release::{EditFault, Edits};
 
 /// A desk behind a lock, beside the front of its chain, for any number of threads. Each call that
-/// takes `rt` waits for the lock and is one turn of it; the others take no lock. A pass and a
-/// custodian belong to one board. What becomes of the desk is told by the turns of `Locked`, and by
-/// no clause of these calls.
+/// takes `rt` waits for the lock and is one turn of it, but for those of permits, which have a lock
+/// of their own; the others take no lock. A pass, a custodian and a permit belong to one board.
+/// What becomes of the desk is told by the turns of `Locked`, and by no clause of these calls.
 #[derive(Drop)]
 pub struct Board<B: Named> {
     front: Front<Step>,
     locked: Mutex<Locked<B>>,
+    permits: Permits,
     ghost named: { front ≡ B.name },
 }
 
 impl<B: Named> Board<B> {
-    /// A board with its one custodian, which is at release 0. It takes no memory.
+    /// A board with its one custodian, which is at release 0, and more permits than there are
+    /// threads. It takes no memory.
     pub fn new(opening: Opening) -> (Board<B>, Custodian)
         requires { opening.name ≡ B.name }
+        ensures custodian { result.1 ≡ first_custodian opening }
+        ensures name { result.1.writer.name ≡ B.name }
+        ensures whole { IsWhole result.1 }
+    {
+        Board::<B>::with_permits(opening, u32::MAX)
+    }
+
+    /// The same with so many permits, at least one.
+    pub fn with_permits(opening: Opening, permits: u32) -> (Board<B>, Custodian)
+        requires name { opening.name ≡ B.name }
+        requires some { 0 < permits }
         ensures custodian { result.1 ≡ first_custodian opening }
         ensures name { result.1.writer.name ≡ B.name }
         ensures whole { IsWhole result.1 }
@@ -54,8 +68,23 @@ impl<B: Named> Board<B> {
             desk,
             custodian,
         } = opening;
-        let locked = Mutex::new(Locked::of(desk, keeper));
-        (Board { front, locked }, custodian)
+        let board = Board {
+            front,
+            locked: Mutex::new(Locked::of(desk, keeper)),
+            permits: Permits::new(permits),
+        };
+        (board, custodian)
+    }
+
+    /// Takes a permit to make a cube: it waits until one is left, and holds no lock meanwhile or
+    /// afterwards.
+    pub fn permit(&self, rt: &impl Wait) -> Permit {
+        self.permits.take(rt)
+    }
+
+    /// Gives a permit back.
+    pub fn give_back(&self, rt: &impl Wait, permit: Permit) {
+        self.permits.give_back(rt, permit);
     }
 
     /// A pass that has seen the chain of this turn.

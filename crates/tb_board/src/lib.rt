@@ -4,6 +4,8 @@
 //! A call that takes `rt` is one turn of the lock, and one call of the desk. No guard is handed
 //! out, and no cube is built, led on or printed in a turn. A publication takes its memory, but the
 //! desk's room for one batch, before its turn; refused, or out of memory, it leaves all as it was.
+//! Beside the desk a board has permits (`permits.rt`): whoever makes a cube holds one, so that no
+//! more are made at the same time than there are. Taking one is no turn of the lock.
 //!
 //! Begin at `board.rt`, then `locked.rt`: what stands behind the lock is known by its type alone,
 //! so a board has a name in its type (`Named`): an `Opening` is made first, and then a function
@@ -17,6 +19,7 @@ mod custodian;
 mod locked;
 mod named;
 mod opening;
+mod permits;
 mod publishing;
 mod step;
 
@@ -26,5 +29,6 @@ pub use custodian::Custodian;
 pub use locked::Locked;
 pub use named::Named;
 pub use opening::Opening;
+pub use permits::Permit;
 pub use publishing::Publication;
 pub use step::{Start, Step};

@@ -20,7 +20,7 @@ use tb_board::{Board, Named, Opening};
 use tb_io::{Listen, Sink};
 use tb_release::Release;
 use tb_serve::{Places, Port, Readiness, end_with_report, prepare, serve_from, write_end};
-use tb_session::{FIRST_CAPACITY, Owner, Setting};
+use tb_session::{FIRST_CAPACITY, MOST_CUBES_AT_ONCE, Owner, Setting};
 use tb_text::Setup;
 
 // What the board is made of.
@@ -57,7 +57,7 @@ fn serve_opened<B: Named + Send + Sync, O: Sink, N: Listen + Send, R: Threads + 
         (O.taken out.new) (O.faults out.old) (O.faults out.new)) result }
     ensures left { Each (λ _. IsLeft) ports.old ports.new }
 {
-    let (board, custodian) = Board::<B>::new(opening);
+    let (board, custodian) = Board::<B>::with_permits(opening, MOST_CUBES_AT_ONCE);
     let setting = Setting {
         setup,
         board: &board,

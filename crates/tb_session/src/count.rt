@@ -1,21 +1,26 @@
 // A query's table over the release that a pass takes.
 //
 // What was taken is the cut: `cube_of` has clauses on it alone (`IsTaken`), and knows neither desk
-// nor board.
+// nor board. Where a cube is made (`is_there` tells), a permit of the board is held from before it
+// is begun until it is offered or let go; a table from a kept cube asks for none.
 
-ghost use Rattle.std.specs.Prelude.{◌≡◌, ◌≢◌, ◌+◌, ◌≤◌, IfOk, OnOk, List, None, length};
+ghost use Rattle.std.specs.Prelude.{◌≡◌, ◌≢◌, ◌+◌, ◌≤◌, IfOk, OnOk, List, None, Some, length};
+ghost use Rattle.std.specs.Prelude.{not};
 ghost use Rattle.tb_base.specs.declared.var_set.TheConstants.{VARIABLES_IN_PLACE};
 ghost use Rattle.tb_board.specs.Holders.{release_seen, IsChainSeen};
+ghost use Rattle.tb_board.specs.Turns.{IsTakenAt};
 ghost use Rattle.tb_core.specs.Desks.{HasCube};
-ghost use Rattle.tb_core.specs.Got.{cube_got};
-ghost use Rattle.tb_core.specs.Takes.{cost_of, cube_price, release_in, IsTaken};
+ghost use Rattle.tb_core.specs.Got.{cube_got, is_new, is_own as is_the_own};
+ghost use Rattle.tb_core.specs.Takes.{cost_of, cube_price, found_in, number_of, release_in};
+ghost use Rattle.tb_core.specs.Takes.{IsTaken};
+ghost use Rattle.tb_core.specs.Views.{hit_of};
 ghost use Rattle.tb_cube.specs.Cubes.{cube_over, unpacked};
 ghost use Rattle.tb_core.specs.Desks.{IsCubeAt};
 ghost use Rattle.tb_front.specs.Holders.{IsLater};
 ghost use Rattle.tb_model.specs.Releases.{ReleaseValue};
 ghost use Rattle.tb_model.specs.Schemas.{shape_of};
 ghost use Rattle.tb_model.specs.Texts.{table_text as text_of_table};
-ghost use Rattle.tb_plan.specs.Plans.{cube_cells_of};
+ghost use Rattle.tb_plan.specs.Plans.{cube_cells_of, vars_of};
 ghost use Rattle.tb_query.specs.Over.{IsOver};
 ghost use Rattle.tb_release.specs.Batches.{BatchValue};
 ghost use Rattle.tb_session.specs.Parties.{IsPassOf, SawTurn};
@@ -29,7 +34,7 @@ use std::thread::Threads;
 use tb_base::{Memory, Shape, Steps, VarSet};
 use tb_board::{Board, Named, Step};
 use tb_build::{Gate, build};
-use tb_core::{CubeFor, Offer, Taken, lead_on};
+use tb_core::{CubeFor, Hit, Offer, Taken, lead_on};
 use tb_cube::Cube;
 use tb_front::Pass;
 use tb_plan::Plan;
@@ -98,8 +103,62 @@ pub(crate) fn offer<B: Named>(
     }
 }
 
-// The cells of a plan's table over the release that the pass takes, from a cube that the board
-// keeps, or from one that is made and offered to it.
+/// Whether the cube that was found is the one over these variables of the release that was taken.
+/// Else one is made: built, or copied or narrowed and led on.
+pub(crate) fn is_there(vars: &VarSet, taken: &Taken) -> bool
+    ensures { result ≡ not (is_new (number_of taken.now) vars.now (found_in taken.now)) }
+{
+    match &taken.hit {
+        None => false,
+        Some(hit) => is_own(hit, vars, taken.release.number()),
+    }
+}
+
+// Whether a cube that was found is that of a numbered release over some variables.
+fn is_own(hit: &Hit, vars: &VarSet, number: u32) -> bool
+    ensures { result ≡ is_the_own number vars.now ((hit_of hit.now).cube.vars, hit.now.number) }
+{
+    if *hit.cube.vars() != *vars {
+        return false;
+    }
+    hit.number == number
+}
+
+// The cells of a plan's table over the release that was taken, from a cube that the board keeps, or
+// from one that is made and offered to it.
+fn count_taken<B: Named, R: Threads + Wait + Sync, G: Gate, L: Ledger>(
+    rt: &R,
+    alloc: Global,
+    board: &Board<B>,
+    shape: &Shape,
+    plan: &Plan,
+    pass: &mut Pass<Step>,
+    taken: &Taken,
+    gate: &mut G,
+    steps: &mut Steps<L>,
+) -> Result<Counted, Memory>
+    requires own { IsPassOf B.name shape.now pass.old }
+    requires shape { shape.now ≡ plan.now.shape }
+    requires cube { cube_cells_of plan.now ≢ None }
+    requires taken { IsTakenAt pass.old (Some (vars_of plan.now)) taken.now }
+    ensures same { pass.new ≡ pass.old }
+    ensures price { steps.new ≤ steps.old + cube_price (release_in taken.now) }
+    ensures counted { IfOk result (IsCounted plan.now (release_in taken.now)) }
+{
+    let vars = plan.vars();
+    let got = cube_of(rt, alloc, shape, vars, taken, gate, steps)?;
+    let counted = roll_up(alloc, got.cube(), plan, &taken.release)?;
+    let number = taken.release.number();
+    match got {
+        CubeFor::Kept(_cube) => {}
+        CubeFor::Made(cube) => offer(rt, alloc, board, pass, vars, number, cube),
+    }
+    Ok(counted)
+}
+
+// The cells of a plan's table over the release that the pass takes, from a cube. Where one has to
+// be made it waits for a permit, which it holds until the cube is offered; meanwhile it has what it
+// took, and no lock.
 fn count_by_cube<B: Named, R: Threads + Wait + Sync, G: Gate, L: Ledger>(
     rt: &R,
     alloc: Global,
@@ -119,14 +178,13 @@ fn count_by_cube<B: Named, R: Threads + Wait + Sync, G: Gate, L: Ledger>(
     ensures counted { IfOk result (IsCounted plan.now (release_seen pass.new)) }
 {
     let taken = board.take(rt, pass, Some(plan.vars()))?;
-    let got = cube_of(rt, alloc, shape, plan.vars(), &taken, gate, steps)?;
-    let counted = roll_up(alloc, got.cube(), plan, &taken.release)?;
-    let number = taken.release.number();
-    match got {
-        CubeFor::Kept(_cube) => {}
-        CubeFor::Made(cube) => offer(rt, alloc, board, pass, plan.vars(), number, cube),
+    if is_there(plan.vars(), &taken) {
+        return count_taken(rt, alloc, board, shape, plan, pass, &taken, gate, steps);
     }
-    Ok(counted)
+    let permit = board.permit(rt);
+    let counted = count_taken(rt, alloc, board, shape, plan, pass, &taken, gate, steps);
+    board.give_back(rt, permit);
+    counted
 }
 
 // The same where the cube would have too many cells, counted from the records.

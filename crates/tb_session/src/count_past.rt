@@ -26,7 +26,7 @@ ghost use Rattle.tb_session.specs.PastTables.{oldest_of, past_price};
 ghost use Rattle.tb_session.specs.PastTaken.{IsPast, IsPastOf, IsTakenFor, base_in, chain_in};
 ghost use Rattle.tb_tables.specs.Counting.{IsCounted};
 
-use crate::count::{cube_of, offer};
+use crate::count::{cube_of, is_there, offer};
 use std::alloc::Global;
 use std::sync::ledger::Ledger;
 use std::sync::{Arc, Wait};
@@ -213,7 +213,7 @@ fn count_got<B: Named, L: Ledger>(
 }
 
 // The same, with the cube of the release that was taken made first.
-fn count_past_by_cube<B: Named, R: Threads + Wait + Sync, G: Gate, L: Ledger>(
+fn count_by_taken<B: Named, R: Threads + Wait + Sync, G: Gate, L: Ledger>(
     rt: &R,
     alloc: Global,
     board: &Board<B>,
@@ -238,6 +238,43 @@ fn count_past_by_cube<B: Named, R: Threads + Wait + Sync, G: Gate, L: Ledger>(
     let vars = plan.vars();
     let got = cube_of(rt, alloc, shape, vars, &past.taken, gate, steps)?;
     count_got(rt, alloc, board, plan, pass, past, number, got, steps)
+}
+
+// The same. Where a cube has to be made, the one of the release that was taken or the copy of it
+// that is led to release n, it waits for a permit, which it holds while it has a cube of its own.
+fn count_past_by_cube<B: Named, R: Threads + Wait + Sync, G: Gate, L: Ledger>(
+    rt: &R,
+    alloc: Global,
+    board: &Board<B>,
+    shape: &Shape,
+    plan: &Plan,
+    pass: &mut Pass<Step>,
+    past: &Past,
+    number: u32,
+    gate: &mut G,
+    steps: &mut Steps<L>,
+) -> Result<Counted, Memory>
+    requires own { IsPassOf B.name shape.now pass.old }
+    requires shape { shape.now ≡ plan.now.shape }
+    requires cube { cube_cells_of plan.now ≢ None }
+    requires past { IsPastOf plan.now pass.old past.now }
+    requires there { number ≤ length (chain_in past.now) }
+    ensures same { pass.new ≡ pass.old }
+    ensures price { steps.new ≤ steps.old + past_price (base_in past.now) (chain_in past.now) }
+    ensures counted { IfOk result (IsCounted plan.now
+        (release_numbered (base_in past.now) (chain_in past.now) number)) }
+{
+    if number == past.taken.release.number() && is_there(plan.vars(), &past.taken) {
+        return count_by_taken(
+            rt, alloc, board, shape, plan, pass, past, number, gate, steps,
+        );
+    }
+    let permit = board.permit(rt);
+    let counted = count_by_taken(
+        rt, alloc, board, shape, plan, pass, past, number, gate, steps,
+    );
+    board.give_back(rt, permit);
+    counted
 }
 
 // The same where the cube would have too many cells, counted from the records of release n.

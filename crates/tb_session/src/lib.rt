@@ -8,8 +8,9 @@
 //!
 //! Begin at `answering.rt`, `answer`: by role, what the line asks for (`asks_of`), a reply without
 //! a sink (`Reply`), then its text. A query (`query.rt`, `count.rt`) takes one turn, counts what it
-//! took, and offers its cube in another; `past.rt` has `at N`, `homes.rt` dwellings. Only
-//! `answer_own` and `answer_own_past` lend the custodian's own pass, and settle it after.
+//! took, under a permit of the board where it makes a cube, and offers that in another turn;
+//! `past.rt` has `at N`, `homes.rt` dwellings. Only `answer_own` and `answer_own_past` lend the
+//! custodian's own pass, and settle it after.
 #![tactic(auto)]
 
 mod answering;
@@ -36,7 +37,7 @@ pub use answering::answer;
 pub use asks::{Asks, asks_of};
 pub use confirming::{analyst_of, confirm, tell};
 pub use custody::{Custody, informed_analyst};
-pub use limits::FIRST_CAPACITY;
+pub use limits::{FIRST_CAPACITY, MOST_CUBES_AT_ONCE};
 pub use owner::Owner;
 pub use party::{Party, Role};
 pub use prepared::answer_prepared;

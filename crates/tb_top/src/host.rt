@@ -30,7 +30,7 @@ use tb_host::serve_with_journal;
 use tb_io::{Listen, Sink};
 use tb_release::Release;
 use tb_serve::Port;
-use tb_session::{FIRST_CAPACITY, Setting};
+use tb_session::{FIRST_CAPACITY, MOST_CUBES_AT_ONCE, Setting};
 
 /// A service, and the name of the journal that is kept with it.
 #[derive(Drop)]
@@ -77,7 +77,7 @@ fn host_on_board<
     ensures rest { drop (service.now.workers + 1) net.new ≡ drop (service.now.workers + 1) net.old }
 {
     let setup = over.setup;
-    let (board, custodian) = Board::<B>::new(opening);
+    let (board, custodian) = Board::<B>::with_permits(opening, MOST_CUBES_AT_ONCE);
     let setting = Setting {
         setup,
         board: &board,

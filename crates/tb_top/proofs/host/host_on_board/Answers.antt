@@ -8,7 +8,7 @@ use Rattle.tb_top.proofs.host.host_on_board.Goals as goal
 
 pub returns-in-Ok-clause-run : goal.returns-in-Ok-clause-run
 returns-in-Ok-clause-run g c =
-    inr (hosts-on-board c.args.over.now.setup.now c.args.opening _ c.new-board.ensures.custodian c.requires.first c.args.service.now c.args.net.now
+    inr (hosts-on-board c.args.over.now.setup.now c.args.opening _ c.with_permits-board.ensures.custodian c.requires.first c.args.service.now c.args.net.now
     c.serve_with_journal.new.net _ _ _ _ _ c.places_of-places.ensures.places c.workers-workers.ensures c.sessions-sessions.ensures (Ok c.in-Ok.status)
     c.in-Ok.ensures.hosts)
 
@@ -28,7 +28,7 @@ returns-clause-run g c =
     } in
     let out = output (g.O.Sink.taken c.args.out.now) (g.O.Sink.taken c.serve_with_journal.new.out) (g.O.Sink.faults c.args.out.now)
     (g.O.Sink.faults c.serve_with_journal.new.out) in
-    let (ports, taken, faults, left, refused) = hosts-on-board c.args.over.now.setup.now c.args.opening _ c.new-board.ensures.custodian c.requires.first
+    let (ports, taken, faults, left, refused) = hosts-on-board c.args.over.now.setup.now c.args.opening _ c.with_permits-board.ensures.custodian c.requires.first
     c.args.service.now c.args.net.now c.serve_with_journal.new.net saw out _ _ _ c.places_of-places.ensures.places c.workers-workers.ensures
     c.sessions-sessions.ensures (Err fault) c.in-Err.ensures.hosts in
     inl (fault, ports, left, refused, line-beside (journal_line fault) status.Journal _ faults taken c.end_refused.ensures.ended)
