@@ -1,0 +1,5 @@
+pub mod Answers
+pub mod Conversations
+pub mod Requests
+pub mod Moves
+pub mod Voices
