@@ -469,6 +469,16 @@ class Feeding(WithRedis):
         host.release = 9
         self.wait_for_last(9, feed)
 
+    def test_something_is_said_where_nothing_is_asked(self):
+        self.write(journal_of(1))
+        host = self.double(Host(1))
+        words = ["feed", self.journal, f"127.0.0.1:{host.port}", *self.files]
+        feed = self.started(words, "feeding.STAY_SECONDS = 0.05")
+        self.wait_for_last(1, feed)
+        asked = host.asked
+        self.wait(lambda: host.stayed > 2, feed)
+        self.assertEqual((host.asked, host.sessions), (asked, 1))
+
 
 class Applying(WithRedis):
     def wait_for(self, mirror, count, *relays, first=1):
@@ -494,6 +504,14 @@ class Applying(WithRedis):
         self.wait(lambda: self.note().at == 4, apply)
         self.assertEqual(self.note()[:4], (4, 4, digests[4], "up"))
         self.assertIn(" is at 0, the stream tables at 3\n", apply.text())
+
+    def test_something_is_said_where_nothing_is_brought(self):
+        self.fill(1)
+        mirror = self.double(Mirror())
+        apply = self.apply(mirror, change="applying.STAY_SECONDS = 0.05")
+        self.wait_for(mirror, 1, apply)
+        self.wait(lambda: mirror.lines.count("#") > 2, apply)
+        self.assertEqual(mirror.sessions, 1)
 
     def test_want_of_memory(self):
         """The message comes again from `begin`; what came behind that edit doesn't count."""

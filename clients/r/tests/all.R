@@ -405,6 +405,7 @@ server_tests <- list(
     shuffled <- table[c(9, 4, 1, 7, 2, 8, 3, 6, 5), ]
     expect(shuffled[order(shuffled$AGE, shuffled$SEX), "count"], table$count)
     # Labels of which two are equal, and one is as the totals are.
+    tb_forget_releases()
     table <- tb_table(session, "AGE", totals = TRUE, labels = TRUE)
     expect(levels(table$AGE), c("same", "old", "Total"))
     expect(as.character(table$AGE), c("Total", "same", "same", "old", "Total"))
