@@ -1,5 +1,5 @@
 .PHONY: help test prove gate-times plant try try-guide build demo serve guide quotes clients refusals pressure growths
-.PHONY: crash mirrors bench bench-serve bench-journal bench-mirrors bench-door bench-tools check-r dist deb
+.PHONY: crash mirrors bench bench-serve bench-journal bench-mirrors bench-door bench-scale bench-tools check-r dist deb
 .PHONY: try-dist analysis
 
 # `make help` prints each comment that begins with an audience in brackets, and the target below it. All
@@ -194,6 +194,13 @@ bench-door: bench-tools build
 	mkdir -p bench/out
 	rustc -O --edition 2021 -o bench/out/client bench/client.rs
 	python3 bench/door.py crates/tablebuilder/out/tablebuilder bench/out/client bench/out
+
+# [measure] Censuses of 10 million persons and, by MILLIONS="10 30", of more, beside one of a million, and
+# one of 40 variables. As `make bench`; it says first what it needs of disk and memory.
+bench-scale: bench-tools build
+	mkdir -p bench/out
+	rustc -O --edition 2021 -o bench/out/census bench/census.rs
+	python3 bench/scale.py crates/tablebuilder/out/tablebuilder bench/out/census bench/out $(MILLIONS)
 
 # [measure] Replies of two mirrors beside those of one, and how far a mirror is behind its host. As
 # `make bench`, redis-server and python3-redis, and four processors of which nothing else takes a part;

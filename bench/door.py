@@ -10,21 +10,25 @@ cube is kept. Measured are
   beside none: the replies a second;
 - a publication of one amend beside 1,000 sessions that say nothing, and beside none;
 - 300 sessions that each ask for five tables, with two seconds between them: the longest wait;
-- what the process holds before a session, and with 1,000.
+- what the process holds before a session, and with 1,000;
+- the most that a process of its own holds where 1,000 sessions ask at once for one table of 101,000
+  places, whose cube isn't kept, beside one where 16 do.
 
 Runs follow each other in turn, and a ratio is the median of the ratios of such runs. The client
-compares every reply of the ten byte by byte, and the others are compared here. Nothing here fails
+compares every reply of the ten byte by byte, and the others are compared here, byte by byte too. Nothing here fails
 because of a time: a target that is missed is printed.
 """
 import asyncio
 import contextlib
 import os
 import resource
+import selectors
 import socket
 import statistics
 import sys
 import tempfile
 import time
+import typing
 
 # So that nothing is written beside the files of the bench.
 sys.dont_write_bytecode = True
@@ -38,12 +42,17 @@ WORKERS, ASKING, THINKING = 1_000, 10, 300
 RUNS, SECONDS, PUBLICATIONS, NO_LIMIT = 5, 1, 100, 990_000
 TABLES, THOUGHT = 5, 2
 PERSONS = 20_000
+# A table of many places, and how many ask for it; what each place takes of a session that waits for its
+# turn to write, and what a session takes, in bytes.
+LARGE_QUERY, FEW = "table AREA by AGE by SEX by TENURE", 16
+A_REPLY, A_SESSION = 850_000, 50 * 1024
+CHUNK = 1 << 18
 
 
-def held(pid):
-    """The bytes that a process holds now."""
+def held(pid, name="VmRSS"):
+    """The bytes that a process holds now, or, by `VmHWM`, held at most."""
     with open(f"/proc/{pid}/status", encoding="ascii") as status:
-        told = [line.split()[1] for line in status if line.startswith("VmRSS")]
+        told = [line.split()[1] for line in status if line.startswith(name)]
     return int(told[0]) * 1024
 
 
@@ -61,6 +70,36 @@ def silent(server, count, reply):
                 sys.exit("bench: another reply than that of `script`")
         server.had[1] += count
         yield
+
+
+def ask_at_once(port, count, query, reply):
+    """So many sessions, all open, of which each then asks for one table and reads it whole."""
+    with contextlib.ExitStack() as stack, selectors.DefaultSelector() as ready:
+        sessions = [
+            stack.enter_context(socket.create_connection(("127.0.0.1", port), PATIENCE))
+            for _ in range(count)
+        ]
+        read = dict.fromkeys(sessions, 0)
+        for session in sessions:
+            session.sendall(f"{query}\n".encode())
+            ready.register(session, selectors.EVENT_READ)
+        while ready.get_map():
+            for key, _ in ready.select(PATIENCE) or sys.exit("bench: no reply"):
+                piece, at = key.fileobj.recv(CHUNK), read[key.fileobj]
+                read[key.fileobj] += len(piece)
+                if not piece or reply[at : at + len(piece)] != piece:
+                    sys.exit("bench: another reply than that of `script`")
+                if read[key.fileobj] == len(reply):
+                    ready.unregister(key.fileobj)
+
+
+def most_held(tools, folder, count, reply):
+    """What a server holds at most, and the seconds until so many have a table whose cube isn't kept."""
+    server = Server(host_words(tools, folder), folder, WORKERS, NO_LIMIT)
+    with killed_at_last(server):
+        began = time.perf_counter()
+        ask_at_once(server.first + 1, count, LARGE_QUERY, reply)
+        return held(server.process.pid, "VmHWM"), time.perf_counter() - began
 
 
 def publish(server, persons, first):
@@ -95,19 +134,33 @@ async def think_all(port):
     return await asyncio.gather(*(think(port, place) for place in range(THINKING)))
 
 
-def measure(tools, folder, persons, reply):
-    """Replies of ten beside none and beside 990, publications so, waits, and the memory."""
-    beside, alone, busy, quiet, waits, figures = [], [], [], [], [], []
+class Told(typing.NamedTuple):
+    """Replies of ten beside 990 and alone, publications beside 1,000 and alone, waits, what the process
+    holds before a session and with 1,000, and the most it holds and the seconds by how many ask."""
+
+    beside: list
+    alone: list
+    busy: list
+    quiet: list
+    waits: list
+    before: int
+    full: int
+    cold: dict
+
+
+def measure(tools, folder, persons):
+    beside, alone, busy, quiet, waits = [], [], [], [], []
+    reply = reply_to(tools, folder, QUERY)
     asking = Asking(ASKING, 1, NO_LIMIT, SECONDS, QUERY, f"{folder}/reply")
     server = Server(host_words(tools, folder), folder, WORKERS, NO_LIMIT)
     with killed_at_last(server):
-        figures.append(held(server.process.pid))
+        before = held(server.process.pid)
         for _ in range(RUNS):
             alone.append(rate(tools, server, asking))
             with silent(server, WORKERS - ASKING, reply):
                 beside.append(rate(tools, server, asking))
         with silent(server, WORKERS, reply):
-            figures.append(held(server.process.pid))
+            full = held(server.process.pid)
         for _ in range(RUNS):
             waits.append(max(asyncio.run(think_all(server.first + 1))) * 1e3)
         for run in range(RUNS):
@@ -118,33 +171,51 @@ def measure(tools, folder, persons, reply):
                     address = ("127.0.0.1", server.first + 1)
                     stack.enter_context(socket.create_connection(address, PATIENCE))
                 busy.append(publish(server, persons, (2 * run + 1) * PUBLICATIONS))
-    return beside, alone, busy, quiet, waits, figures
+    large = reply_to(tools, folder, LARGE_QUERY)
+    cold = {count: most_held(tools, folder, count, large) for count in (FEW, WORKERS)}
+    return Told(beside, alone, busy, quiet, waits, before, full, cold)
 
 
-def print_figures(beside, alone, busy, quiet, waits, figures):
+def print_figures(told):
     print("| What | Runs | Median (least to most) |")
     print("|---|---|---|")
-    for what, told in [
-        (f"{ASKING} sessions that ask, replies a second", alone),
-        (f"the same beside {WORKERS - ASKING} that say nothing", beside),
-        ("a publication of one amend, microseconds", [each * 1e6 for each in quiet]),
-        (f"the same beside {WORKERS:,} that say nothing", [each * 1e6 for each in busy]),
-        (f"{THINKING} sessions with {THOUGHT} s of thought: the longest wait, ms", waits),
-        ("held before a session, KiB", [figures[0] / 1024]),
-        (f"held with {WORKERS:,}, KiB", [figures[1] / 1024]),
-    ]:
-        spread = f"{statistics.median(told):,.0f} ({min(told):,.0f} to {max(told):,.0f})"
-        print(f"| {what} | {len(told)} | {spread} |")
+    rows = [
+        (f"{ASKING} sessions that ask, replies a second", told.alone),
+        (f"the same beside {WORKERS - ASKING} that say nothing", told.beside),
+        ("a publication of one amend, microseconds", [each * 1e6 for each in told.quiet]),
+        (f"the same beside {WORKERS:,} that say nothing", [each * 1e6 for each in told.busy]),
+        (f"{THINKING} sessions with {THOUGHT} s of thought: the longest wait, ms", told.waits),
+        ("held before a session, KiB", [told.before / 1024]),
+        (f"held with {WORKERS:,}, KiB", [told.full / 1024]),
+    ]
+    for count, (most, seconds) in told.cold.items():
+        what = f"{count:,} that ask for `{LARGE_QUERY}`, cold"
+        rows += [(f"{what}: held at most, MiB", [most / 1024 / 1024]), (f"{what}: ms", [seconds * 1e3])]
+    for what, figures in rows:
+        spread = f"{statistics.median(figures):,.0f} ({min(figures):,.0f} to {max(figures):,.0f})"
+        print(f"| {what} | {len(figures)} | {spread} |")
 
 
-def targets(beside, alone, busy, quiet, waits, figures):
+def targets(told):
     what = f"{ASKING} sessions beside {WORKERS - ASKING} that say nothing: rate beside that alone"
-    yield at_least(what, median_ratio(beside, alone), 0.9)
+    yield at_least(what, median_ratio(told.beside, told.alone), 0.9)
     what = f"a publication beside {WORKERS:,} that say nothing: time beside that alone"
-    yield at_most(what, median_ratio(busy, quiet), 1.1)
-    yield at_most("the longest wait of an analyst who thinks, ms", statistics.median(waits), 50)
-    yield at_most("a session that waits, KiB", (figures[1] - figures[0]) / WORKERS / 1024, 50)
-    yield at_most(f"the process with {WORKERS:,}, MiB", figures[1] / 1024 / 1024, 100)
+    yield at_most(what, median_ratio(told.busy, told.quiet), 1.1)
+    yield at_most("the longest wait of an analyst who thinks, ms", statistics.median(told.waits), 50)
+    yield at_most("a session that waits, KiB", (told.full - told.before) / WORKERS / 1024, 50)
+    yield at_most(f"the process with {WORKERS:,}, MiB", told.full / 1024 / 1024, 100)
+    (few, _), (many, _) = told.cold[FEW], told.cold[WORKERS]
+    allowed = few + WORKERS * (A_REPLY + A_SESSION)
+    yield at_most(f"{WORKERS:,} cold tables at once: memory beside what is allowed", many / allowed, 1)
+
+
+def reply_to(tools, folder, query):
+    """What `script` prints for this query, which is also left in a file."""
+    script = f"{folder}/script.txt"
+    write_script(script, query, 1)
+    seconds_of(words_of(tools.program, folder, script), f"{folder}/reply")
+    with open(f"{folder}/reply", "rb") as file:
+        return file.read()
 
 
 def main(program, client, disk, persons=PERSONS):
@@ -154,15 +225,11 @@ def main(program, client, disk, persons=PERSONS):
     with tempfile.TemporaryDirectory(dir=disk) as room, tempfile.TemporaryDirectory() as folder:
         tools = Tools(*map(os.path.abspath, (program, client)), "", "", room)
         make_input(folder, persons, ASCENDING)
-        script = f"{folder}/script.txt"
-        write_script(script, QUERY, 1)
-        seconds_of(words_of(tools.program, folder, script), f"{folder}/reply")
-        with open(f"{folder}/reply", "rb") as file:
-            told = measure(tools, folder, persons, file.read())
+        told = measure(tools, folder, persons)
     print(f"{machine()}; {persons:,} persons, `{QUERY}`, its cube kept\n")
-    print_figures(*told)
+    print_figures(told)
     print()
-    print_targets(targets(*told))
+    print_targets(targets(told))
 
 
 if __name__ == "__main__":

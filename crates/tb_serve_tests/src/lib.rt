@@ -19,6 +19,8 @@ mod command;
 #[cfg(test)]
 mod compared;
 #[cfg(test)]
+mod doors;
+#[cfg(test)]
 mod failing;
 #[cfg(test)]
 mod held;
