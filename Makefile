@@ -1,5 +1,5 @@
 .PHONY: help test prove gate-times plant try try-guide build demo serve guide quotes clients refusals pressure growths
-.PHONY: crash mirrors bench bench-serve bench-journal bench-mirrors bench-door bench-scale bench-tools check-r dist deb
+.PHONY: crash mirrors bench bench-serve bench-journal bench-mirrors bench-door bench-scale bench-peers bench-tools check-r dist deb
 .PHONY: try-dist analysis
 
 # `make help` prints each comment that begins with an audience in brackets, and the target below it. All
@@ -201,6 +201,11 @@ bench-scale: bench-tools build
 	mkdir -p bench/out
 	rustc -O --edition 2021 -o bench/out/census bench/census.rs
 	python3 bench/scale.py crates/tablebuilder/out/tablebuilder bench/out/census bench/out $(MILLIONS)
+
+# [measure] The same load and tables by pandas, data.table, SQLite and PostgreSQL, those of them that are
+# there, each cell compared. As `make bench`; less than two minutes.
+bench-peers: bench-tools build
+	python3 bench/peers.py crates/tablebuilder/out/tablebuilder
 
 # [measure] Replies of two mirrors beside those of one, and how far a mirror is behind its host. As
 # `make bench`, redis-server and python3-redis, and four processors of which nothing else takes a part;
