@@ -1,6 +1,7 @@
 pub mod Bytes
 pub mod Cells
 pub mod Codes
+pub mod Columns
 pub mod Keys
 pub mod Laws
 pub mod Lists

@@ -1,12 +1,15 @@
-// Records by column: a list of their keys, and one of their categories for each variable.
+// The columns of records' categories, one for each variable.
 
-ghost use Rattle.std.specs.Prelude.{◌≡◌, ◌<◌, List, All, IfOk, OnOk, length};
-ghost use Rattle.std.specs.Vec.{vec_capacity, vec_len};
+ghost use Rattle.std.specs.Prelude.{◌≡◌, ◌<◌, ◌≤◌, List, All, IfOk, OnOk, length};
 ghost use Rattle.tb_base.specs.declared.records.Record.{Record as AnyRecord};
+ghost use Rattle.tb_base.specs.Columns.{numbers_in};
 ghost use Rattle.tb_base.specs.Records.{category_at};
-ghost use Rattle.tb_base.specs.Pieces.{code_column, key_column, AreChanged, AreColumns};
-ghost use Rattle.tb_base.specs.Pieces.{with_last, with_other, without};
+ghost use Rattle.tb_base.specs.Pieces.{code_column, key_column, person_column, width_column};
+ghost use Rattle.tb_base.specs.Pieces.{AreAllColumns, AreChanged, AreColumns, CanHoldAll};
+ghost use Rattle.tb_base.specs.Pieces.{with_last, with_other, without, CanTakeAll, IsRow};
 
+use crate::codes::Codes;
+use crate::column::Column;
 use crate::memory::Memory;
 use crate::records::Record;
 use std::alloc::Global;
@@ -23,6 +26,38 @@ fn category_of(one: &Record, v: usize) -> u16
     }
 }
 
+/// How many categories a record has. It returns `Memory` where a `u16` can't hold that.
+pub fn width_of(one: &Record) -> Result<u16, Memory>
+    ensures { IfOk result (λ width. width ≡ length one.now.codes) }
+{
+    match u16::try_from(one.codes.len()) {
+        Ok(width) => Ok(width),
+        Err(_) => Err(Memory),
+    }
+}
+
+/// How many categories the widest of records has.
+pub fn most_categories(records: &[Record]) -> usize
+    ensures { All (λ r. length r.codes ≤ result) records.now }
+{
+    let mut most = 0;
+    for one in records {
+        most = most.max(one.codes.len());
+    }
+    most
+}
+
+/// The persons of records, with room for so many.
+pub fn persons_of(alloc: Global, records: &[Record], room: usize) -> Result<Vec<u32>, Memory>
+    ensures { IfOk result (λ persons. persons.items ≡ person_column records.now) }
+{
+    let mut persons = Vec::with_capacity(alloc, room)?;
+    for one in records {
+        persons.push(one.person)?;
+    }
+    Ok(persons)
+}
+
 /// The keys of records, with room for so many.
 pub fn keys_of(alloc: Global, records: &[Record], room: usize) -> Result<Vec<u16>, Memory>
     ensures { IfOk result (λ keys. keys.items ≡ key_column records.now) }
@@ -34,26 +69,40 @@ pub fn keys_of(alloc: Global, records: &[Record], room: usize) -> Result<Vec<u16
     Ok(keys)
 }
 
-// The categories of records of one variable, with room for so many.
-fn codes_of(alloc: Global, records: &[Record], v: usize, room: usize) -> Result<Vec<u16>, Memory>
-    ensures { IfOk result (λ codes. codes.items ≡ code_column records.now v) }
+/// How many categories each record has, with room for so many.
+pub fn widths_of(alloc: Global, records: &[Record], room: usize) -> Result<Column, Memory>
+    ensures { IfOk result (λ widths. numbers_in widths ≡ width_column records.now) }
 {
-    let mut codes = Vec::with_capacity(alloc, room)?;
+    let mut widths = Column::with_room(alloc, room)?;
     for one in records {
-        codes.push(category_of(one, v))?;
+        let width = width_of(one)?;
+        widths.push(width)?;
+    }
+    Ok(widths)
+}
+
+// The categories of records of one variable, with room for so many.
+fn codes_of(alloc: Global, records: &[Record], v: usize, room: usize) -> Result<Column, Memory>
+    ensures { IfOk result (λ codes. numbers_in codes ≡ code_column records.now v) }
+{
+    let mut codes = Column::with_room(alloc, room)?;
+    for one in records {
+        let code = category_of(one, v);
+        codes.push(code)?;
     }
     Ok(codes)
 }
 
 // Adds the column of the next variable.
 fn add_column(
-    columns: &mut Vec<Vec<u16>>,
+    columns: &mut Vec<Column>,
     alloc: Global,
     records: &[Record],
     room: usize,
 ) -> Result<(), Memory>
     requires { AreColumns columns.old.items records.now }
     ensures columns { OnOk result (AreColumns columns.new.items records.now) }
+    ensures long { OnOk result (length columns.new.items ≡ length columns.old.items + 1) }
 {
     let v = columns.len();
     let codes = codes_of(alloc, records, v, room)?;
@@ -67,8 +116,9 @@ pub fn columns_of(
     records: &[Record],
     width: usize,
     room: usize,
-) -> Result<Vec<Vec<u16>>, Memory>
-    ensures { IfOk result (λ columns. AreColumns columns.items records.now) }
+) -> Result<Vec<Column>, Memory>
+    ensures columns { IfOk result (λ columns. AreColumns columns.items records.now) }
+    ensures long { IfOk result (λ columns. length columns.items ≡ width) }
 {
     let mut columns = Vec::with_capacity(alloc, width)?;
     for v in 0..width {
@@ -77,46 +127,132 @@ pub fn columns_of(
     Ok(columns)
 }
 
-/// An equal column, with room for so many.
-pub fn copy_of(alloc: Global, column: &[u16], room: usize) -> Result<Vec<u16>, Memory>
-    ensures { IfOk result (λ copy. copy.items ≡ column.now) }
+// Adds a column of zeros: that of a variable which none of so many records has.
+fn add_zeros(
+    columns: &mut Vec<Column>,
+    alloc: Global,
+    count: usize,
+    room: usize,
+) -> Result<(), Memory>
+    ensures long { OnOk result (length columns.new.items ≡ length columns.old.items + 1) }
+    ensures columns { (records : List AnyRecord) → length records ≡ count
+        → AreAllColumns columns.old.items records → AreAllColumns columns.new.items records }
 {
-    let mut copy = Vec::with_capacity(alloc, room)?;
-    copy.extend_from_slice(column)?;
-    Ok(copy)
+    let zeros = Column::zeros(alloc, count, room)?;
+    columns.push(zeros)?;
+    Ok(())
+}
+
+/// Adds columns until there are those of so many variables. Of so many records they are the
+/// columns as before.
+pub fn add_up_to(
+    columns: &mut Vec<Column>,
+    alloc: Global,
+    width: usize,
+    count: usize,
+    room: usize,
+) -> Result<(), Memory>
+    ensures wide { OnOk result (width ≤ length columns.new.items) }
+    ensures columns { (records : List AnyRecord) → length records ≡ count
+        → AreAllColumns columns.old.items records → AreAllColumns columns.new.items records }
+{
+    'add: while columns.len() < width {
+        add_zeros(columns, alloc, count, room)?;
+    }
+    Ok(())
 }
 
 /// Equal columns, with room for so many records.
-pub fn copy_columns(
-    alloc: Global,
-    columns: &[Vec<u16>],
-    room: usize,
-) -> Result<Vec<Vec<u16>>, Memory>
+pub fn copy_columns(alloc: Global, columns: &[Column], room: usize) -> Result<Vec<Column>, Memory>
     ensures { IfOk result (λ copies. (records : List AnyRecord)
-        → AreColumns columns.now records → AreColumns copies.items records) }
+        → AreAllColumns columns.now records → AreAllColumns copies.items records) }
 {
     let mut copies = Vec::with_capacity(alloc, columns.len())?;
     for column in columns {
-        let copy = copy_of(alloc, column, room)?;
+        let copy = column.copy(alloc, room)?;
         copies.push(copy)?;
     }
     Ok(copies)
 }
 
-/// Takes the memory for one more record in each column.
-pub fn reserve_all(columns: &mut [Vec<u16>]) -> Result<(), Memory>
+/// The categories at a place of the first columns, so many. It takes memory for them.
+pub fn row_of(
+    alloc: Global,
+    columns: &[Column],
+    place: usize,
+    width: usize,
+) -> Result<Codes, Memory>
+    requires wide { width ≤ length columns.now }
+    requires there { All (λ c. place < length (numbers_in c)) columns.now }
+    ensures { IfOk result (λ codes. IsRow columns.now place width codes) }
+{
+    let mut row = Vec::with_capacity(alloc, width)?;
+    for v in 0..width {
+        row.push(columns[v].at(place))?;
+    }
+    Codes::of(alloc, &row)
+}
+
+/// Makes each column wide enough for a record's category.
+pub fn fit_all(columns: &mut [Column], one: &Record) -> Result<(), Memory>
     ensures same { AreChanged (λ v codes. codes) columns.old columns.new }
-    ensures room { OnOk result (All (λ c. vec_len c < vec_capacity c) columns.new) }
+    ensures can { OnOk result (CanHoldAll one.now columns.new) }
 {
     for v in 0..columns.len() {
-        columns[v].reserve(1)?;
+        columns[v].fit(category_of(one, v))?;
     }
     Ok(())
 }
 
+/// Takes the memory for a record's category in each column.
+pub fn make_all_ready(columns: &mut [Column], one: &Record) -> Result<(), Memory>
+    ensures same { AreChanged (λ v codes. codes) columns.old columns.new }
+    ensures can { OnOk result (CanTakeAll one.now columns.new) }
+{
+    for v in 0..columns.len() {
+        columns[v].make_ready(category_of(one, v))?;
+    }
+    Ok(())
+}
+
+/// Makes columns wide enough for a record's categories, also of variables that none of so many
+/// records before had. Of those they are the columns as before.
+pub fn fit_columns(
+    columns: &mut Vec<Column>,
+    alloc: Global,
+    one: &Record,
+    count: usize,
+    room: usize,
+) -> Result<(), Memory>
+    ensures wide { OnOk result (length one.now.codes ≤ length columns.new.items) }
+    ensures can { OnOk result (CanHoldAll one.now columns.new.items) }
+    ensures columns { (records : List AnyRecord) → length records ≡ count
+        → AreAllColumns columns.old.items records → AreAllColumns columns.new.items records }
+{
+    add_up_to(columns, alloc, one.codes.len(), count, room)?;
+    fit_all(columns, one)
+}
+
+/// Takes the memory for a record's categories in columns, as `fit_columns` does.
+pub fn make_columns_ready(
+    columns: &mut Vec<Column>,
+    alloc: Global,
+    one: &Record,
+    count: usize,
+    room: usize,
+) -> Result<(), Memory>
+    ensures wide { OnOk result (length one.now.codes ≤ length columns.new.items) }
+    ensures can { OnOk result (CanTakeAll one.now columns.new.items) }
+    ensures columns { (records : List AnyRecord) → length records ≡ count
+        → AreAllColumns columns.old.items records → AreAllColumns columns.new.items records }
+{
+    add_up_to(columns, alloc, one.codes.len(), count, room)?;
+    make_all_ready(columns, one)
+}
+
 /// Puts a record's category last in each column, for which there is room.
-pub fn push_all(columns: &mut [Vec<u16>], one: &Record)
-    requires { All (λ c. vec_len c < vec_capacity c) columns.old }
+pub fn push_all(columns: &mut [Column], one: &Record)
+    requires { CanTakeAll one.now columns.old }
     ensures { AreChanged (with_last one.now) columns.old columns.new }
 {
     for v in 0..columns.len() {
@@ -125,8 +261,8 @@ pub fn push_all(columns: &mut [Vec<u16>], one: &Record)
 }
 
 /// Takes the category at a place out of each column.
-pub fn remove_all(columns: &mut [Vec<u16>], place: usize)
-    requires { All (λ c. place < vec_len c) columns.old }
+pub fn remove_all(columns: &mut [Column], place: usize)
+    requires { All (λ c. place < length (numbers_in c)) columns.old }
     ensures { AreChanged (without place) columns.old columns.new }
 {
     for v in 0..columns.len() {
@@ -134,13 +270,13 @@ pub fn remove_all(columns: &mut [Vec<u16>], place: usize)
     }
 }
 
-/// Puts another record's category at a place of each column.
-pub fn replace_all(columns: &mut [Vec<u16>], place: usize, one: &Record)
-    requires { All (λ c. place < vec_len c) columns.old }
+/// Puts another record's category, for which the columns are wide enough, at a place of each.
+pub fn replace_all(columns: &mut [Column], place: usize, one: &Record)
+    requires there { All (λ c. place < length (numbers_in c)) columns.old }
+    requires can { CanHoldAll one.now columns.old }
     ensures { AreChanged (with_other place one.now) columns.old columns.new }
 {
     for v in 0..columns.len() {
-        let code = category_of(one, v);
-        columns[v][place] = code;
+        columns[v].set(place, category_of(one, v));
     }
 }

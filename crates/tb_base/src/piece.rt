@@ -1,26 +1,35 @@
-ghost use Rattle.std.specs.Prelude.{◌≡◌, ◌<◌, ◌++◌, ◌∷◌, [], All, Some, IfOk, OnErr, OnOk};
-ghost use Rattle.std.specs.Prelude.{length, remove, slice_get, slice_set};
-ghost use Rattle.std.specs.Option.{ForSome};
+ghost use Rattle.std.specs.Prelude.{◌≡◌, ◌<◌, ◌≤◌, ◌++◌, ◌∷◌, [], List, Some, IfOk, OnErr, OnOk};
+ghost use Rattle.std.specs.Prelude.{length, remove, replicate, slice_get, slice_set, MatchOption};
 ghost use Rattle.std.specs.Vec.{vec_capacity, vec_len};
-ghost use Rattle.tb_base.specs.Pieces.{code_column, key_column, AreChanged};
+ghost use Rattle.tb_base.specs.declared.records.Record.{Record as AnyRecord};
+ghost use Rattle.tb_base.specs.Columns.{numbers_in};
+ghost use Rattle.tb_base.specs.Pieces.{code_column, key_column, person_column, AreAllColumns};
+ghost use Rattle.tb_base.specs.Pieces.{CanTakeAll};
 
+use crate::column::{Column, copy_of};
 use crate::columns::{
-    columns_of, copy_columns, copy_of, keys_of, push_all, remove_all, replace_all, reserve_all,
+    columns_of, copy_columns, fit_columns, keys_of, make_columns_ready, most_categories,
+    persons_of, push_all, remove_all, replace_all, row_of, width_of, widths_of,
 };
 use crate::memory::Memory;
+use crate::record_list::RecordList;
 use crate::records::Record;
 use std::alloc::Global;
 use std::marker::Model;
-use std::mem;
 
-/// Records in order, which are also kept by column: their keys, and their categories of each
-/// variable that the first of them had when the piece was made. A category that a record lacks is
-/// 0 there.
+/// Records in order, kept by column: their persons, their keys, how many categories each has, and
+/// their categories of each variable, a byte each where all are below 256. A record is made where
+/// one is asked for.
+///
+/// A category that a record lacks is 0 in its column, so records of different widths may stand
+/// together. A record of more than 65,535 categories is refused as out of memory.
 #[derive(Drop)]
 pub struct Piece {
-    records: Vec<Record>,
+    persons: Vec<u32>,
     keys: Vec<u16>,
-    columns: Vec<Vec<u16>>,
+    widths: Column,
+    columns: Vec<Column>,
+    records: RecordList,
 }
 
 impl Model for Piece {
@@ -28,89 +37,82 @@ impl Model for Piece {
     ghost use Rattle.std.specs.Coded.{coded_list};
     ghost use Rattle.tb_base.specs.declared.records.Record.{Record};
     ghost use Rattle.tb_base.specs.Records.{record_code};
-    ghost use Rattle.tb_base.specs.Pieces.{AreBeside};
+    ghost use Rattle.tb_base.specs.Pieces.{AreByColumn};
 
     ghost Value = { List Record };
 
     ghost coded = { coded_list record_code };
 
-    ghost view = { λ p. p.records.items };
+    ghost view = { λ p. p.records.records };
 
-    ghost invariant = { λ p. AreBeside p.keys.items p.columns.items p.records.items };
+    ghost invariant = { λ p.
+        AreByColumn p.persons.items p.keys.items p.widths p.columns.items p.records.records };
 }
 
-// How many variables the first of these records has.
-fn width_of(records: &[Record]) -> usize {
-    match records.first() {
-        Some(one) => one.codes.len(),
-        None => 0,
-    }
-}
-
-// Copies of records, with room for so many.
-fn copies_of(alloc: Global, records: &[Record], room: usize) -> Result<Vec<Record>, Memory>
-    ensures { IfOk result (λ copies. copies.items ≡ records.now) }
-{
-    let mut copies = Vec::with_capacity(alloc, room)?;
-    for one in records {
-        copies.push(one.copy()?)?;
-    }
-    Ok(copies)
-}
-
-// Takes the memory for one more record in each list.
-fn reserve_one(
-    records: &mut Vec<Record>,
+// Takes the memory for one more record.
+fn make_ready(
+    persons: &mut Vec<u32>,
     keys: &mut Vec<u16>,
-    columns: &mut [Vec<u16>],
+    columns: &mut Vec<Column>,
+    one: &Record,
 ) -> Result<(), Memory>
-    ensures records { records.new.items ≡ records.old.items }
+    ensures persons { persons.new.items ≡ persons.old.items }
     ensures keys { keys.new.items ≡ keys.old.items }
-    ensures columns { AreChanged (λ v codes. codes) columns.old columns.new }
-    ensures for_record { OnOk result (vec_len records.new < vec_capacity records.new) }
+    ensures columns { (records : List AnyRecord) → length records ≡ length persons.old.items
+        → AreAllColumns columns.old.items records → AreAllColumns columns.new.items records }
+    ensures for_person { OnOk result (vec_len persons.new < vec_capacity persons.new) }
     ensures for_key { OnOk result (vec_len keys.new < vec_capacity keys.new) }
-    ensures for_codes { OnOk result (All (λ c. vec_len c < vec_capacity c) columns.new) }
+    ensures wide { OnOk result (length one.now.codes ≤ length columns.new.items) }
+    ensures for_codes { OnOk result (CanTakeAll one.now columns.new.items) }
 {
-    records.reserve(1)?;
+    persons.reserve(1)?;
     keys.reserve(1)?;
-    reserve_all(columns)
+    let alloc = *persons.allocator();
+    make_columns_ready(columns, alloc, one, persons.len(), persons.capacity())
 }
 
 impl Piece {
-    /// A piece of these records. It takes memory for their columns.
-    pub fn of(alloc: Global, records: Vec<Record>) -> Result<Piece, Memory>
-        ensures { IfOk result (λ piece. piece ≡ records.items) }
+    /// No records, with room for so many.
+    pub fn with_room(alloc: Global, room: usize) -> Result<Piece, Memory>
+        ensures { IfOk result (λ piece. piece ≡ []) }
     {
-        let room = records.capacity();
-        let keys = keys_of(alloc, &records, room)?;
-        let columns = columns_of(alloc, &records, width_of(&records), room)?;
-        Ok(Piece {
-            records,
-            keys,
-            columns,
-        })
+        Piece::of(alloc, &[], room)
     }
 
-    /// A piece of one record, with room for so many.
-    pub fn of_one(alloc: Global, one: Record, room: usize) -> Result<Piece, Memory>
-        ensures { IfOk result (λ piece. piece ≡ one ∷ []) }
+    /// A piece of these records, with room for so many.
+    pub fn of(alloc: Global, records: &[Record], room: usize) -> Result<Piece, Memory>
+        ensures { IfOk result (λ piece. piece ≡ records.now) }
     {
-        let mut records = Vec::with_capacity(alloc, room)?;
-        records.push(one)?;
-        Piece::of(alloc, records)
+        let persons = persons_of(alloc, records, room)?;
+        let keys = keys_of(alloc, records, room)?;
+        let widths = widths_of(alloc, records, room)?;
+        let most = most_categories(records);
+        let columns = columns_of(alloc, records, most, room)?;
+        let records = RecordList::of(records);
+        Ok(Piece {
+            persons,
+            keys,
+            widths,
+            columns,
+            records,
+        })
     }
 
     /// An equal piece, with room for so many records.
     pub fn copy(&self, alloc: Global, room: usize) -> Result<Piece, Memory>
         ensures { IfOk result (λ piece. piece ≡ self.now) }
     {
-        let records = copies_of(alloc, &self.records, room)?;
+        let persons = copy_of(alloc, &self.persons, room)?;
         let keys = copy_of(alloc, &self.keys, room)?;
+        let widths = self.widths.copy(alloc, room)?;
         let columns = copy_columns(alloc, &self.columns, room)?;
+        let records = self.records.copy();
         Ok(Piece {
-            records,
+            persons,
             keys,
+            widths,
             columns,
+            records,
         })
     }
 
@@ -118,14 +120,15 @@ impl Piece {
     pub fn len(&self) -> usize
         ensures { result ≡ length self.now }
     {
-        self.records.len()
+        self.persons.len()
     }
 
-    /// The records, in order.
-    pub fn records(&self) -> &[Record]
-        ensures { result.now ≡ self.now }
+    /// The persons of the records, in order.
+    #[inline]
+    pub fn persons(&self) -> &[u32]
+        ensures { result.now ≡ person_column self.now }
     {
-        self.records.as_slice()
+        self.persons.as_slice()
     }
 
     /// The keys of the records, in order.
@@ -136,49 +139,87 @@ impl Piece {
         self.keys.as_slice()
     }
 
-    /// The categories of the records of one variable, in order, where they are kept by column.
+    /// The categories of the records of one variable, in order. Where there is no column, they are
+    /// all 0.
     #[inline]
-    pub fn column(&self, v: usize) -> Option<&[u16]>
-        ensures { ForSome result (λ codes. codes.now ≡ code_column self.now v) }
+    pub fn column(&self, v: usize) -> Option<&Column>
+        ensures { MatchOption result (code_column self.now v ≡ replicate (length self.now) 0)
+            (λ column. numbers_in column.now ≡ code_column self.now v) }
     {
         if v < self.columns.len() {
-            Some(self.columns[v].as_slice())
+            Some(&self.columns[v])
         } else {
             None
         }
     }
 
+    /// The record at a place, from 0. It takes memory for it.
+    pub fn record(&self, place: usize) -> Result<Record, Memory>
+        requires { place < length self.now }
+        ensures { IfOk result (λ one. slice_get self.now place ≡ Some one) }
+    {
+        let alloc = *self.persons.allocator();
+        let width = self.widths.at(place) as usize;
+        let codes = row_of(alloc, &self.columns, place, width)?;
+        Ok(Record {
+            person: self.persons[place],
+            key: self.keys[place],
+            codes,
+        })
+    }
+
     /// Puts a record last. Where the call is out of memory, nothing has changed.
-    pub fn push(&mut self, one: Record) -> Result<(), Memory>
-        ensures ok { OnOk result (self.new ≡ self.old ++ one ∷ []) }
+    pub fn push(&mut self, one: &Record) -> Result<(), Memory>
+        ensures ok { OnOk result (self.new ≡ self.old ++ one.now ∷ []) }
         ensures err { OnErr result (self.new ≡ self.old) }
     {
-        reserve_one(&mut self.records, &mut self.keys, &mut self.columns)?;
-        push_all(&mut self.columns, &one);
+        let width = width_of(one)?;
+        make_ready(&mut self.persons, &mut self.keys, &mut self.columns, one)?;
+        self.widths.push(width)?;
+        push_all(&mut self.columns, one);
         self.keys.push_reserved(one.key);
-        self.records.push_reserved(one);
+        self.persons.push_reserved(one.person);
+        self.records = self.records.and(one);
         Ok(())
     }
 
-    /// Takes a record out, and closes up.
-    pub fn take_out(&mut self, place: usize) -> Record
+    /// Takes a record out, and closes up. It takes memory for the record; where that is refused,
+    /// nothing has changed.
+    pub fn take_out(&mut self, place: usize) -> Result<Record, Memory>
         requires { place < length self.old }
-        ensures taken { slice_get self.old place ≡ Some result }
-        ensures new { self.new ≡ remove self.old place }
+        ensures taken { IfOk result (λ one. slice_get self.old place ≡ Some one) }
+        ensures ok { OnOk result (self.new ≡ remove self.old place) }
+        ensures err { OnErr result (self.new ≡ self.old) }
     {
+        let one = self.record(place)?;
+        self.widths.remove(place);
         remove_all(&mut self.columns, place);
         self.keys.remove(place);
-        self.records.remove(place)
+        self.persons.remove(place);
+        self.records = self.records.without(place);
+        Ok(one)
     }
 
-    /// Puts another record in the place of one, which is returned.
-    pub fn replace(&mut self, place: usize, new: Record) -> Record
+    /// Puts another record in the place of one, which is returned. It takes memory for that one,
+    /// and where a category is the first that needs two bytes; where it is refused, nothing has
+    /// changed.
+    pub fn replace(&mut self, place: usize, new: &Record) -> Result<Record, Memory>
         requires { place < length self.old }
-        ensures taken { slice_get self.old place ≡ Some result }
-        ensures new { self.new ≡ slice_set self.old place new }
+        ensures taken { IfOk result (λ one. slice_get self.old place ≡ Some one) }
+        ensures ok { OnOk result (self.new ≡ slice_set self.old place new.now) }
+        ensures err { OnErr result (self.new ≡ self.old) }
     {
-        replace_all(&mut self.columns, place, &new);
+        let one = self.record(place)?;
+        let width = width_of(new)?;
+        let (count, room) = (self.persons.len(), self.persons.capacity());
+        let alloc = *self.persons.allocator();
+        fit_columns(&mut self.columns, alloc, new, count, room)?;
+        self.widths.fit(width)?;
+        self.widths.set(place, width);
+        replace_all(&mut self.columns, place, new);
         self.keys[place] = new.key;
-        mem::replace(&mut self.records[place], new)
+        self.persons[place] = new.person;
+        self.records = self.records.with_other(place, new);
+        Ok(one)
     }
 }

@@ -27,6 +27,13 @@ find-none q [] none = refl
 find-none q (x ∷ xs) none =
     let h = none_first (eqb q x.person) (has_person xs q) none in rw (is_eq-nat_cmp q x.person, h.0) (find-none q xs h.1)
 
+-- the entry of the record at a place, by its person and its key
+pub entry-at : (page person key i : ℕ) (rs : List Record) (ps ks : List ℕ) → ps ≡ person_column rs → ks ≡ key_column rs → i < length rs → person ≡ get_or ps i 0 → key ≡ get_or ks i 0
+    → (one : Record) → one ≡ get_or rs i one → (person ≡ one.person) × (key ≡ one.key)
+entry-at page person key i rs ps ks persons keys low is_p is_k one at =
+    (is_p ∙ ap (λ xs. get_or xs i 0) persons ∙ get_or-map (λ r. r.person) rs i one 0 low ∙ ap (λ r. r.person) (sym at),
+    is_k ∙ ap (λ xs. get_or xs i 0) keys ∙ get_or-map (λ r. r.key) rs i one 0 low ∙ ap (λ r. r.key) (sym at))
+
 -- ---- the entries of a page's records
 pub one_noted : (page : ℕ) (rs : List Record) (i : ℕ) (one : Record) (start book book' : Book) → i < length rs → one ≡ get_or rs i one → book ≡ with_entries page (take i rs) start
     → book' ≡ finmap.insert book one.person (entry_of page one) → book' ≡ with_entries page (take (i + 1) rs) start

@@ -2,7 +2,7 @@
 use Rattle.std.proofs.Common.{◌≡◌, ℕ, zero, suc, ◌+◌, ◌<◌, Bool, true, false, cond, not, eqb, ltb, List, [], ◌∷◌, ◌++◌, map, length, get_or, set, refl, sym, ap, ◌∙◌, subst, inl, inr, arith}
 use Rattle.std.specs.Prelude.{Option, Some, None, filter, if◌then◌else◌, ◌||◌, is_some, remove, position}
 use Rattle.std.specs.Option.{option_map}
-use Rattle.std.specs.List.{HoldsAt, position_or_len}
+use Rattle.std.specs.List.{list_any, position_or_len}
 use Rattle.std.specs.Ordering.{nat_cmp}
 use Rattle.std.specs.declared.cmp.Ordering.TheVariants.{Equal}
 use Rattle.std.proofs.lemmas.Cmp.{ranked}
@@ -11,10 +11,12 @@ use Rattle.std.proofs.lemmas.Bool.Decides.{eqb_tells}
 use Rattle.std.proofs.lemmas.List.Folds.{list_any_at}
 use Rattle.tb_base.specs.declared.records.Record.{Record}
 use Rattle.tb_base.specs.Persons.{has_person, AreDistinct}
+use Rattle.tb_base.specs.Pieces.{person_column}
+use Rattle.std.proofs.lemmas.List.{get_or-map, length-map}
 use Rattle.tb_pages.proofs.Tests.{none_first}
 use Rattle.tb_model.specs.declared.rooms.TheConstants.{PAGE_ROOM}
 use Rattle.tb_model.specs.Pages.{PageValue, page_of, records_in, with_added}
-use Rattle.tb_pages.specs.Pages.{is_of, record_of, at_person, page_without, page_replaced, page_number}
+use Rattle.tb_pages.specs.Pages.{IsPlace, is_of, record_of, at_person, page_without, page_replaced, page_number}
 use Rattle.tb_pages.proofs.PageLaws.{filter_of_none, map_unless, without_there, replaced_there}
 
 -- ---- persons of two lists
@@ -177,21 +179,38 @@ place_at person (x ∷ xs) (suc k) d within is =
       | inr h ↦ next_place person x xs k h.0 (place_at person xs k d.1 (omega arith) is)
     ]
 
--- the record at which a search ends is the person's
-pub person_of_place : (rs : List Record) (person k : ℕ) (d : Record) → HoldsAt (λ (r : Record). nat_cmp r.person person ≡ Equal) rs k → is_of person (get_or rs k d) ≡ true
-person_of_place rs person k d at = eq-eqb person (get_or rs k d).person (sym (ranked (get_or rs k d).person person Equal (sym (at d))))
+-- ---- persons by themselves
+any-column : (q : ℕ) (rs : List Record) → list_any (λ p. eqb q p) (person_column rs) ≡ has_person rs q
+any-column q [] = refl
+any-column q (x ∷ xs) = ap (λ b. eqb q x.person || b) (any-column q xs)
 
-pos_lt : (q : ℕ) (rs : List Record) → has_person rs q ≡ true → position_or_len (is_of q) rs < length rs
+-- who has a record is among the records' persons
+pub among-persons : (q : ℕ) (ps : List ℕ) (rs : List Record) → ps ≡ person_column rs → has_person rs q ≡ true → list_any (λ p. eqb q p) ps ≡ true
+among-persons q ps rs are is = ap (list_any (λ p. eqb q p)) are ∙ any-column q rs ∙ is
+
+-- a person's place is that of the record
+pub place-of : (person k : ℕ) (ps : List ℕ) (rs : List Record) → ps ≡ person_column rs → k < length ps → eqb person (get_or ps k 0) ≡ true → IsPlace rs person k
+place-of person k ps rs are low own =
+    let long : length ps ≡ length rs = ap length are ∙ length-map rs (λ r. r.person) in
+    let within : k < length rs = omega (arith, low, long) in record {
+      within = within;
+      own = λ d. ap (eqb person) (sym (ap (λ xs. get_or xs k 0) are ∙ get_or-map (λ r. r.person) rs k d 0 within)) ∙ own;
+    }
+
+pub same-person : (person n : ℕ) → nat_cmp n person ≡ Equal → eqb person n ≡ true
+same-person person n is = eq-eqb person n (sym (ranked n person Equal (sym is)))
+
+pos_lt : (q : ℕ) (ps : List ℕ) → list_any (λ p. eqb q p) ps ≡ true → position_or_len (λ p. eqb q p) ps < length ps
 pos_lt q [] is = cc
 pos_lt q (x ∷ xs) is =
-    elim (eqb_tells q x.person) [
+    elim (eqb_tells q x) [
       | inl h ↦ rw h.0 (omega arith)
-      | inr h ↦ let more : has_person xs q ≡ true = rw h.0 at is in let low = pos_lt q xs more in rw h.0 (omega arith)
+      | inr h ↦ let more : list_any (λ p. eqb q p) xs ≡ true = rw h.0 at is in let low = pos_lt q xs more in rw h.0 (omega arith)
     ]
 
 -- a person who is there has a place
-pub has_place : (q : ℕ) (rs : List Record) → has_person rs q ≡ true → is_some (position (is_of q) rs) ≡ true
-has_place q rs is = rw (lt-ltb (position_or_len (is_of q) rs) (length rs) (pos_lt q rs is)) refl
+pub has_place : (q : ℕ) (ps : List ℕ) → list_any (λ p. eqb q p) ps ≡ true → is_some (position (λ p. eqb q p) ps) ≡ true
+has_place q ps is = rw (lt-ltb (position_or_len (λ p. eqb q p) ps) (length ps) (pos_lt q ps is)) refl
 
 -- ---- the pages of persons after a change
 to_last : (a b : Bool) (o n : Option ℕ) (last : ℕ) → (b ≡ true → a ≡ false) → n ≡ cond b (Some last) o

@@ -13,18 +13,20 @@ use crate::number::PageNumber;
 use crate::pages::Pages;
 use crate::shard::Entry;
 use std::alloc::Global;
-use tb_base::{Memory, Record};
+use tb_base::{Memory, Piece};
 
 // Adds the entries of a page's records, whose persons have none.
-fn note(lists: &mut Lists, page: u32, records: &[Record]) -> Result<(), Memory>
-    requires distinct { AreDistinct records.now }
-    requires new { All (λ r. get lists.old r.person ≡ None) records.now }
+fn note(lists: &mut Lists, page: u32, piece: &Piece) -> Result<(), Memory>
+    requires distinct { AreDistinct piece.now }
+    requires new { All (λ r. get lists.old r.person ≡ None) piece.now }
     requires numbered { page < PAGES }
-    ensures { OnOk result (lists.new ≡ with_entries page records.now lists.old) }
+    ensures { OnOk result (lists.new ≡ with_entries page piece.now lists.old) }
 {
-    for i in 0..records.len() {
-        let one = &records[i];
-        let (person, key) = (one.person, one.key);
+    let persons = piece.persons();
+    let keys = piece.keys();
+    for i in 0..persons.len() {
+        let person = persons[i];
+        let key = keys[i];
         let page = PageNumber::of(page);
         lists.push(Entry { person, key, page })?;
     }

@@ -7,7 +7,7 @@ ghost use Rattle.tb_model.specs.Pages.{records_in};
 use crate::pages::Pages;
 use std::alloc::Global;
 use std::marker::Model;
-use tb_base::{Memory, Piece, Record};
+use tb_base::{Memory, Piece};
 
 /// Records in pages, in pieces: the pages that aren't empty. They are all the pieces' records in
 /// order.
@@ -71,18 +71,10 @@ impl<'a> Lent<'a> {
     }
 
     /// The piece at place `i`, from 0.
-    pub fn piece(&self, i: usize) -> &[Record]
+    pub fn piece(&self, i: usize) -> &Piece
         requires { i < length self.now }
         ensures { result.now ≡ slice_index_or self.now i [] }
     {
         self.pages.page(self.places[i] as usize)
-    }
-
-    /// The same piece with its columns.
-    pub fn whole(&self, i: usize) -> &Piece
-        requires { i < length self.now }
-        ensures { result.now ≡ slice_index_or self.now i [] }
-    {
-        self.pages.whole(self.places[i] as usize)
     }
 }

@@ -12,7 +12,7 @@ use crate::shard::{Entry, Shard};
 use std::alloc::Global;
 use std::marker::Model;
 use std::sync::Arc;
-use tb_base::{Memory, Record};
+use tb_base::Memory;
 
 /// Entries in the list of their shard, each in the order in which they came. The lists are sorted
 /// once, at the end.
@@ -34,13 +34,13 @@ impl Model for Lists {
     ghost invariant = { λ l. AreLists (map entries_of l.lists.items) };
 }
 
-// Counts the records that belong to each shard.
-fn count(counts: &mut Vec<u32>, records: &[Record])
+// Counts the persons that belong to each shard.
+fn count(counts: &mut Vec<u32>, persons: &[u32])
     requires { length counts.old.items ≡ COUNT }
     ensures { length counts.new.items ≡ COUNT }
 {
-    for one in records {
-        let shard = one.person as usize % SHARDS;
+    for i in 0..persons.len() {
+        let shard = persons[i] as usize % SHARDS;
         counts[shard] = u32::saturating_add(counts[shard], 1);
     }
 }
@@ -53,7 +53,7 @@ fn counts_of(alloc: Global, pages: &Pages) -> Result<Vec<u32>, Memory>
     let mut counts = Vec::new(alloc);
     counts.resize(SHARDS, 0)?;
     for i in 0..pages.len() {
-        count(&mut counts, pages.page(i));
+        count(&mut counts, pages.page(i).persons());
     }
     Ok(counts)
 }

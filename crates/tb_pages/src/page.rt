@@ -1,8 +1,11 @@
-ghost use Rattle.std.specs.Prelude.{◌≡◌, ◌<◌, ◌≤◌, ◌++◌, ◌∷◌, [], true, IfOk, OnOk, length};
-ghost use Rattle.std.specs.Prelude.{position, remove, slice_get, slice_set, Some};
+ghost use Rattle.std.specs.Prelude.{◌≡◌, ◌==◌, ◌<◌, ◌≤◌, ◌++◌, ◌∷◌, [], true, IfOk, OnOk, List};
+ghost use Rattle.std.specs.Prelude.{length, position, remove, slice_get, slice_set, Some};
+ghost use Rattle.std.specs.List.{list_any};
+ghost use Rattle.tb_base.specs.declared.records.Record.{Record as AnyRecord};
 ghost use Rattle.tb_base.specs.Persons.{has_person};
+ghost use Rattle.tb_base.specs.Pieces.{person_column};
 ghost use Rattle.tb_model.specs.Pages.{page_of};
-ghost use Rattle.tb_pages.specs.Pages.{IsPlace, is_of};
+ghost use Rattle.tb_pages.specs.Pages.{IsPlace};
 
 use std::alloc::Global;
 use std::marker::Model;
@@ -37,7 +40,7 @@ impl Page {
         requires { length records.items ≤ PAGE_ROOM }
         ensures { IfOk result (λ page. page ≡ page_of records.items 0) }
     {
-        let piece = Piece::of(alloc, records)?;
+        let piece = Piece::of(alloc, &records, records.len())?;
         Ok(Page { piece, stamp: 0 })
     }
 
@@ -45,7 +48,8 @@ impl Page {
     pub(crate) fn of_one(alloc: Global, stamp: u32, one: Record) -> Result<Page, Memory>
         ensures { IfOk result (λ page. page ≡ page_of (one ∷ []) stamp) }
     {
-        let piece = Piece::of_one(alloc, one, PAGE_ROOM)?;
+        let mut piece = Piece::with_room(alloc, PAGE_ROOM)?;
+        piece.push(&one)?;
         Ok(Page { piece, stamp })
     }
 
@@ -72,14 +76,7 @@ impl Page {
         self.stamp
     }
 
-    /// The records, in order.
-    pub(crate) fn records(&self) -> &[Record]
-        ensures { result.now ≡ self.now.records }
-    {
-        self.piece.records()
-    }
-
-    /// The records with their columns.
+    /// The records, by column.
     pub(crate) fn piece(&self) -> &Piece
         ensures { result.now ≡ self.now.records }
     {
@@ -91,7 +88,7 @@ impl Page {
         requires { has_person self.now.records person ≡ true }
         ensures { IsPlace self.now.records person result }
     {
-        place_in(self.piece.records(), person)
+        place_in(self.piece.persons(), person)
     }
 
     /// Gives it another stamp.
@@ -106,44 +103,47 @@ impl Page {
         requires { length self.old.records < PAGE_ROOM }
         ensures { OnOk result (self.new ≡ page_of (self.old.records ++ one ∷ []) self.old.stamp) }
     {
-        self.piece.push(one)?;
+        self.piece.push(&one)?;
         Ok(())
     }
 
-    /// Takes a record out, and closes up.
-    pub(crate) fn take_out(&mut self, place: usize) -> Record
+    /// Takes a record out, and closes up. It takes memory for the record.
+    pub(crate) fn take_out(&mut self, place: usize) -> Result<Record, Memory>
         requires { place < length self.old.records }
-        ensures taken { slice_get self.old.records place ≡ Some result }
-        ensures new { self.new ≡ page_of (remove self.old.records place) self.old.stamp }
+        ensures taken { IfOk result (λ one. slice_get self.old.records place ≡ Some one) }
+        ensures new { OnOk result
+            (self.new ≡ page_of (remove self.old.records place) self.old.stamp) }
     {
         self.piece.take_out(place)
     }
 
-    /// Puts another record in the place of one, which is returned.
-    pub(crate) fn replace(&mut self, place: usize, new: Record) -> Record
+    /// Puts another record in the place of one, which is returned. It takes memory for that one.
+    pub(crate) fn replace(&mut self, place: usize, new: Record) -> Result<Record, Memory>
         requires { place < length self.old.records }
-        ensures taken { slice_get self.old.records place ≡ Some result }
-        ensures new { self.new ≡ page_of (slice_set self.old.records place new) self.old.stamp }
+        ensures taken { IfOk result (λ one. slice_get self.old.records place ≡ Some one) }
+        ensures new { OnOk result
+            (self.new ≡ page_of (slice_set self.old.records place new) self.old.stamp) }
     {
-        self.piece.replace(place, new)
+        self.piece.replace(place, &new)
     }
 }
 
-// The place of the record of a person who has one. Most pages ascend by their persons, and there it
-// is found by halves; else all are looked through.
-fn place_in(records: &[Record], person: u32) -> usize
-    requires { has_person records.now person ≡ true }
-    ensures { IsPlace records.now person result }
+// The place of a person who is among these. Most pages ascend by their persons, and there it is
+// found by halves; else all are looked through. The persons are those of any records.
+fn place_in(persons: &[u32], person: u32) -> usize
+    requires { list_any (λ p. person == p) persons.now ≡ true }
+    ensures { (records : List AnyRecord) → persons.now ≡ person_column records
+        → IsPlace records person result }
 {
-    match records.binary_search_by_key(&person, |r| r.person) {
+    match persons.binary_search(&person) {
         Ok(place) => place,
-        Err(_) => first_place(records, person).unwrap(),
+        Err(_) => first_place(persons, person).unwrap(),
     }
 }
 
-// The first place of a person's record.
-fn first_place(records: &[Record], person: u32) -> Option<usize>
-    ensures { result ≡ position (is_of person) records.now }
+// The first place of a person.
+fn first_place(persons: &[u32], person: u32) -> Option<usize>
+    ensures { result ≡ position (λ p. person == p) persons.now }
 {
-    records.iter().position(|r| person == r.person)
+    persons.iter().position(|p| person == *p)
 }

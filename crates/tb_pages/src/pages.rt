@@ -78,7 +78,7 @@ fn take_from(alloc: Global, page: &mut Arc<Page>, stamp: u32, at: usize) -> Resu
     match Arc::get_mut(page) {
         Some(mine) => {
             mine.restamp(stamp);
-            Ok(mine.take_out(at))
+            mine.take_out(at)
         }
         None => Err(Memory),
     }
@@ -100,7 +100,7 @@ fn replace_in(
     match Arc::get_mut(page) {
         Some(mine) => {
             mine.restamp(stamp);
-            Ok(mine.replace(at, one))
+            mine.replace(at, one)
         }
         None => Err(Memory),
     }
@@ -163,16 +163,8 @@ impl Pages {
         self.list[i].stamp()
     }
 
-    /// The records of page `i`.
-    pub fn page(&self, i: usize) -> &[Record]
-        requires { i < length self.now }
-        ensures { result.now ≡ (slice_index_or self.now i no_page).records }
-    {
-        self.list[i].records()
-    }
-
-    /// The records of page `i` with their columns.
-    pub fn whole(&self, i: usize) -> &Piece
+    /// The records of page `i`, by column.
+    pub fn page(&self, i: usize) -> &Piece
         requires { i < length self.now }
         ensures { result.now ≡ (slice_index_or self.now i no_page).records }
     {
@@ -211,8 +203,8 @@ impl Pages {
         Ok(())
     }
 
-    /// Takes the record at a place out of page `i`. It takes memory for the page, unless that is in
-    /// no other list.
+    /// Takes the record at a place out of page `i`. It takes memory for the record, and for the
+    /// page unless that is in no other list.
     pub fn take_out(
         &mut self,
         alloc: Global,
@@ -231,7 +223,7 @@ impl Pages {
     }
 
     /// Puts another record in the place of one of page `i`, which is returned. It takes memory for
-    /// the page, unless that is in no other list.
+    /// that one, and for the page unless that is in no other list.
     pub fn replace(
         &mut self,
         alloc: Global,

@@ -67,14 +67,14 @@ impl Register {
         Spot { page, place }
     }
 
-    /// The record of the person who stands at a spot.
-    pub fn record(&self, person: u32, spot: Spot) -> &Record
+    /// The record of the person who stands at a spot. It takes memory for it.
+    pub fn record(&self, person: u32, spot: Spot) -> Result<Record, Memory>
         requires register { IsRegister self.now }
         requires spot { IsSpot self.now.pages person spot }
-        ensures { record_of (records_in self.now.pages) person ≡ Some result.now }
+        ensures { IfOk result (λ one. record_of (records_in self.now.pages) person ≡ Some one) }
     {
         let _ = person;
-        &self.pages.page(spot.page)[spot.place]
+        self.pages.page(spot.page).record(spot.place)
     }
 
     /// Puts a new person's record into the last page, or into a new one where that is full.

@@ -3,5 +3,5 @@ use Rattle.tb_pages.specs.declared.book.TheConstants.{SHARDS}
 use Rattle.tb_pages.proofs.lists.count.Given as goal
 
 -- a count for each shard
-abbrev pub invariant-loop-one : goal.invariant-loop-one
-invariant-loop-one l = length l.counts.items ≡ SHARDS
+abbrev pub invariant-loop-i : goal.invariant-loop-i
+invariant-loop-i l = length l.counts.items ≡ SHARDS
