@@ -1,6 +1,7 @@
 -- Records by column: their persons, their keys, and their categories of each variable.
 use Rattle.std.specs.Prelude.{◌≡◌, ◌<◌, ◌≤◌, ◌++◌, ◌∷◌, [], ℕ, List, All, length, map}
 use Rattle.std.specs.Prelude.{drop, remove, slice_index, slice_index_or, slice_set, take}
+use Rattle.std.specs.List.{range_with_len}
 use Rattle.tb_base.specs.declared.column.Column.{Column}
 use Rattle.tb_base.specs.declared.records.Record.{Record}
 use Rattle.tb_base.specs.Columns.{numbers_in, CanHold, CanTake}
@@ -67,7 +68,21 @@ with_other place r v codes = slice_set codes place (category_at r v)
 pub record IsRow (columns : List Column) (place width : ℕ) (codes : List ℕ) : Type 0 where
   pub long : length codes ≡ width
   pub each : (v : ℕ) (d : Column) → v < width
-    → slice_index codes v ≡ slice_index (numbers_in (slice_index_or columns v d)) place
+      → slice_index codes v ≡ slice_index (numbers_in (slice_index_or columns v d)) place
+
+-- the record at a place, where these are the persons, keys, widths and columns of some
+abbrev pub record_at : List ℕ → List ℕ → Column → List Column → ℕ → Record
+record_at persons keys widths columns place = record {
+  person = slice_index persons place;
+  key = slice_index keys place;
+  codes = take (slice_index (numbers_in widths) place)
+      (map (λ c. slice_index (numbers_in c) place) columns);
+}
+
+-- all of them
+abbrev pub records_by : List ℕ → List ℕ → Column → List Column → List Record
+records_by persons keys widths columns =
+    map (record_at persons keys widths columns) (range_with_len 0 (length persons))
 
 -- what is kept of records: their persons, keys and widths, and columns of all their categories
 pub record AreByColumn (persons keys : List ℕ) (widths : Column) (columns : List Column)

@@ -101,11 +101,7 @@ impl Column {
         ensures same { numbers_in self.new ≡ numbers_in self.old }
         ensures can { OnOk result (CanHold number self.new) }
     {
-        if number < BYTE {
-            Ok(())
-        } else {
-            self.widen()
-        }
+        if number < BYTE { Ok(()) } else { self.widen() }
     }
 
     // Takes the memory for one more number.

@@ -1,6 +1,6 @@
 // The columns of records' categories, one for each variable.
 
-ghost use Rattle.std.specs.Prelude.{◌≡◌, ◌<◌, ◌≤◌, List, All, IfOk, OnOk, length};
+ghost use Rattle.std.specs.Prelude.{◌≡◌, ◌+◌, ◌<◌, ◌≤◌, List, All, IfOk, OnOk, length};
 ghost use Rattle.tb_base.specs.declared.records.Record.{Record as AnyRecord};
 ghost use Rattle.tb_base.specs.Columns.{numbers_in};
 ghost use Rattle.tb_base.specs.Records.{category_at};
@@ -36,13 +36,21 @@ pub fn width_of(one: &Record) -> Result<u16, Memory>
     }
 }
 
+// The larger of two numbers.
+fn larger(a: usize, b: usize) -> usize
+    ensures first { a ≤ result }
+    ensures second { b ≤ result }
+{
+    if a < b { b } else { a }
+}
+
 /// How many categories the widest of records has.
 pub fn most_categories(records: &[Record]) -> usize
     ensures { All (λ r. length r.codes ≤ result) records.now }
 {
     let mut most = 0;
     for one in records {
-        most = most.max(one.codes.len());
+        most = larger(most, one.codes.len());
     }
     most
 }

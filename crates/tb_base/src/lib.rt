@@ -24,7 +24,6 @@ mod memory;
 mod number;
 mod people;
 mod piece;
-mod record_list;
 mod records;
 mod rules;
 mod shape;

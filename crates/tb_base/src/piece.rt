@@ -1,5 +1,6 @@
-ghost use Rattle.std.specs.Prelude.{◌≡◌, ◌<◌, ◌≤◌, ◌++◌, ◌∷◌, [], List, Some, IfOk, OnErr, OnOk};
-ghost use Rattle.std.specs.Prelude.{length, remove, replicate, slice_get, slice_set, MatchOption};
+ghost use Rattle.std.specs.Prelude.{◌≡◌, ◌<◌, ◌≤◌, ◌++◌, ◌∷◌, [], All, List, Some, IfOk, OnErr};
+ghost use Rattle.std.specs.Prelude.{length, remove, slice_get, slice_index, slice_set, MatchOption};
+ghost use Rattle.std.specs.Prelude.{OnOk};
 ghost use Rattle.std.specs.Vec.{vec_capacity, vec_len};
 ghost use Rattle.tb_base.specs.declared.records.Record.{Record as AnyRecord};
 ghost use Rattle.tb_base.specs.Columns.{numbers_in};
@@ -12,7 +13,6 @@ use crate::columns::{
     persons_of, push_all, remove_all, replace_all, row_of, width_of, widths_of,
 };
 use crate::memory::Memory;
-use crate::record_list::RecordList;
 use crate::records::Record;
 use std::alloc::Global;
 use std::marker::Model;
@@ -29,7 +29,6 @@ pub struct Piece {
     keys: Vec<u16>,
     widths: Column,
     columns: Vec<Column>,
-    records: RecordList,
 }
 
 impl Model for Piece {
@@ -37,16 +36,16 @@ impl Model for Piece {
     ghost use Rattle.std.specs.Coded.{coded_list};
     ghost use Rattle.tb_base.specs.declared.records.Record.{Record};
     ghost use Rattle.tb_base.specs.Records.{record_code};
-    ghost use Rattle.tb_base.specs.Pieces.{AreByColumn};
+    ghost use Rattle.tb_base.specs.Pieces.{records_by, AreByColumn};
 
     ghost Value = { List Record };
 
     ghost coded = { coded_list record_code };
 
-    ghost view = { λ p. p.records.records };
+    ghost view = { λ p. records_by p.persons.items p.keys.items p.widths p.columns.items };
 
-    ghost invariant = { λ p.
-        AreByColumn p.persons.items p.keys.items p.widths p.columns.items p.records.records };
+    ghost invariant = { λ p. AreByColumn p.persons.items p.keys.items p.widths p.columns.items
+        (records_by p.persons.items p.keys.items p.widths p.columns.items) };
 }
 
 // Takes the memory for one more record.
@@ -88,13 +87,11 @@ impl Piece {
         let widths = widths_of(alloc, records, room)?;
         let most = most_categories(records);
         let columns = columns_of(alloc, records, most, room)?;
-        let records = RecordList::of(records);
         Ok(Piece {
             persons,
             keys,
             widths,
             columns,
-            records,
         })
     }
 
@@ -106,13 +103,11 @@ impl Piece {
         let keys = copy_of(alloc, &self.keys, room)?;
         let widths = self.widths.copy(alloc, room)?;
         let columns = copy_columns(alloc, &self.columns, room)?;
-        let records = self.records.copy();
         Ok(Piece {
             persons,
             keys,
             widths,
             columns,
-            records,
         })
     }
 
@@ -139,17 +134,29 @@ impl Piece {
         self.keys.as_slice()
     }
 
-    /// The categories of the records of one variable, in order. Where there is no column, they are
-    /// all 0.
+    /// The categories of the records of one variable, in order. Where there is no column, no record
+    /// has the variable.
     #[inline]
     pub fn column(&self, v: usize) -> Option<&Column>
-        ensures { MatchOption result (code_column self.now v ≡ replicate (length self.now) 0)
+        ensures { MatchOption result (All (λ r. length r.codes ≤ v) self.now)
             (λ column. numbers_in column.now ≡ code_column self.now v) }
     {
         if v < self.columns.len() {
             Some(&self.columns[v])
         } else {
             None
+        }
+    }
+
+    /// The category of the record at a place, from 0, and 0 where it has none.
+    #[inline]
+    pub fn category(&self, place: usize, v: usize) -> u16
+        requires { place < length self.now }
+        ensures { result ≡ slice_index (code_column self.now v) place }
+    {
+        match self.column(v) {
+            Some(column) => column.at(place),
+            None => 0,
         }
     }
 
@@ -179,7 +186,6 @@ impl Piece {
         push_all(&mut self.columns, one);
         self.keys.push_reserved(one.key);
         self.persons.push_reserved(one.person);
-        self.records = self.records.and(one);
         Ok(())
     }
 
@@ -196,7 +202,6 @@ impl Piece {
         remove_all(&mut self.columns, place);
         self.keys.remove(place);
         self.persons.remove(place);
-        self.records = self.records.without(place);
         Ok(one)
     }
 
@@ -219,7 +224,6 @@ impl Piece {
         replace_all(&mut self.columns, place, new);
         self.keys[place] = new.key;
         self.persons[place] = new.person;
-        self.records = self.records.with_other(place, new);
         Ok(one)
     }
 }

@@ -24,7 +24,7 @@ fn walk(cube: &mut Cube, lent: &Lent<'_>, from: usize, to: usize)
 {
     let mut before = 0;
     for i in 0..lent.pieces() {
-        let piece = lent.whole(i);
+        let piece = lent.piece(i);
         cube.add_piece(
             piece,
             from.saturating_sub(before),

@@ -2,7 +2,7 @@
 
 use std::alloc::Global;
 use std::test::Fail;
-use tb_base::{Codes, Memory, Piece, Record};
+use tb_base::{Codes, Column, Memory, Piece, Record};
 
 // A record of two variables.
 fn record(alloc: Global, person: u32, key: u16, codes: [u16; 2]) -> Result<Record, Memory> {
@@ -12,22 +12,23 @@ fn record(alloc: Global, person: u32, key: u16, codes: [u16; 2]) -> Result<Recor
 
 // Three persons, the first of whom makes the piece.
 fn three(alloc: Global) -> Result<Piece, Memory> {
-    let mut piece = Piece::of_one(alloc, record(alloc, 1, 200, [0, 3])?, 2)?;
-    piece.push(record(alloc, 2, 100, [1, 2])?)?;
-    piece.push(record(alloc, 3, 20, [2, 1])?)?;
+    let mut piece = Piece::with_room(alloc, 2)?;
+    piece.push(&record(alloc, 1, 200, [0, 3])?)?;
+    piece.push(&record(alloc, 2, 100, [1, 2])?)?;
+    piece.push(&record(alloc, 3, 20, [2, 1])?)?;
     Ok(piece)
 }
 
 // Whether these are the codes of a variable.
-fn is_column(piece: &Piece, v: usize, codes: &[u16]) -> bool {
+fn is_column(piece: &Piece, v: usize, codes: &[u8]) -> bool {
     match piece.column(v) {
-        Some(column) => column == codes,
-        None => false,
+        Some(Column::Narrow(column)) => column.as_slice() == codes,
+        _ => false,
     }
 }
 
 // Whether these are the keys, and the codes of both variables.
-fn has(piece: &Piece, keys: &[u16], first: &[u16], second: &[u16]) -> bool {
+fn has(piece: &Piece, keys: &[u16], first: &[u8], second: &[u8]) -> bool {
     piece.keys() == keys
         && is_column(piece, 0, first)
         && is_column(piece, 1, second)
@@ -47,7 +48,7 @@ fn columns_are_there(rt: HostRuntime) -> Result<(), Fail> {
 fn columns_follow_a_record_that_leaves(rt: HostRuntime) -> Result<(), Fail> {
     let mut piece = three(rt.alloc())?;
     if piece.len() == 3 {
-        piece.take_out(1);
+        piece.take_out(1)?;
     }
     assert!(rt; has(&piece, &[200, 20], &[0, 2], &[3, 1]));
     Ok(())
@@ -58,7 +59,7 @@ fn columns_follow_a_record_that_changes(rt: HostRuntime) -> Result<(), Fail> {
     let mut piece = three(rt.alloc())?;
     let new = record(rt.alloc(), 2, 7, [4, 0])?;
     if piece.len() == 3 {
-        piece.replace(1, new);
+        piece.replace(1, &new)?;
     }
     assert!(rt; has(&piece, &[200, 7, 20], &[0, 4, 2], &[3, 0, 1]));
     Ok(())

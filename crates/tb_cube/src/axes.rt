@@ -2,13 +2,14 @@
 //
 // A multiplication by a stride took no longer than a look-up of offsets.
 
-ghost use Rattle.std.specs.Prelude.{◌≡◌, ◌*◌, ◌<◌, All, IfOk, length};
+ghost use Rattle.std.specs.Prelude.{◌≡◌, ◌*◌, ◌<◌, All, IfOk, length, slice_index_or};
+ghost use Rattle.tb_base.specs.declared.records.Record.{Record as AnyRecord};
 ghost use Rattle.tb_base.specs.Records.{category_at};
 ghost use Rattle.tb_grid.specs.declared.products.TheConstants.{MOST_CELLS};
 ghost use Rattle.tb_cube.specs.Axes.{LeadsBelow, axes_of as axes_over, number_by};
 
 use std::alloc::Global;
-use tb_base::{Memory, Record, Shape, VarSet};
+use tb_base::{Memory, Piece, Record, Shape, VarSet};
 use tb_grid::cells_over;
 
 /// A variable, and how many cells one category more leads on.
@@ -50,6 +51,21 @@ pub fn number_of(axes: &[Axis], one: &Record) -> usize
     let mut number = 0;
     for axis in axes {
         number += offset_of(*axis, one);
+    }
+    number
+}
+
+/// The number of the cell of the record at a place of a piece.
+pub fn number_at(axes: &[Axis], piece: &Piece, place: usize) -> usize
+    requires there { place < length piece.now }
+    requires lead { (d : AnyRecord) → LeadsBelow MOST_CELLS axes.now (slice_index_or piece.now place d) }
+    ensures { (d : AnyRecord)
+        → result ≡ number_by axes.now (category_at (slice_index_or piece.now place d)) }
+{
+    let mut number = 0;
+    for axis in axes {
+        let code = piece.category(place, axis.variable as usize);
+        number += code as usize * axis.stride as usize;
     }
     number
 }

@@ -30,7 +30,7 @@ pub fn count_all<L: Ledger>(
     let mut cube = Cube::zero(alloc, shape, vars)?;
     let lent = release.lend(steps);
     for i in 0..lent.pieces() {
-        let piece = lent.whole(i);
+        let piece = lent.piece(i);
         cube.add_piece(piece, 0, piece.len());
     }
     Ok(cube)

@@ -30,9 +30,10 @@ find-none q (x ∷ xs) none =
 -- the entry of the record at a place, by its person and its key
 pub entry-at : (page person key i : ℕ) (rs : List Record) (ps ks : List ℕ) → ps ≡ person_column rs → ks ≡ key_column rs → i < length rs → person ≡ get_or ps i 0 → key ≡ get_or ks i 0
     → (one : Record) → one ≡ get_or rs i one → (person ≡ one.person) × (key ≡ one.key)
-entry-at page person key i rs ps ks persons keys low is_p is_k one at =
-    (is_p ∙ ap (λ xs. get_or xs i 0) persons ∙ get_or-map (λ r. r.person) rs i one 0 low ∙ ap (λ r. r.person) (sym at),
-    is_k ∙ ap (λ xs. get_or xs i 0) keys ∙ get_or-map (λ r. r.key) rs i one 0 low ∙ ap (λ r. r.key) (sym at))
+entry-at page person key i rs ps ks persons keys low is_p is_k one at = (
+  is_p ∙ ap (λ xs. get_or xs i 0) persons ∙ get_or-map (λ r. r.person) rs i one 0 low ∙ ap (λ r. r.person) (sym at),
+  is_k ∙ ap (λ xs. get_or xs i 0) keys ∙ get_or-map (λ r. r.key) rs i one 0 low ∙ ap (λ r. r.key) (sym at),
+)
 
 -- ---- the entries of a page's records
 pub one_noted : (page : ℕ) (rs : List Record) (i : ℕ) (one : Record) (start book book' : Book) → i < length rs → one ≡ get_or rs i one → book ≡ with_entries page (take i rs) start

@@ -290,8 +290,8 @@ impl Draft {
             (λ entry. IsMade (edits.Amend person sets.now) self.old self.new entry) }
     {
         let spot = self.register.find(person);
-        let old = self.register.record(person, spot);
-        let kept = amended_record(alloc, old, sets)?;
+        let old = self.register.record(person, spot)?;
+        let kept = amended_record(alloc, &old, sets)?;
         let after = kept.copy()?;
         let before = self.register.replace(alloc, self.number + 1, spot, kept)?;
         self.made += 1;
