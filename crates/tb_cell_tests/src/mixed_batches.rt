@@ -9,7 +9,7 @@ use std::alloc::Global;
 use std::marker::Brand;
 use std::sync::ledger::{Blank, Ledger};
 use std::test::Fail;
-use tb_base::{Record, Steps};
+use tb_base::{Piece, Steps};
 use tb_release::{Batch, EditFault, Release, next};
 use tb_schema::Schema;
 use tb_small_values::{edits_of, release, schema};
@@ -22,19 +22,13 @@ struct Want {
     pvalue: i16,
 }
 
-fn is_record(one: &Record, want: (u32, u16, u16)) -> bool {
-    if one.codes.len() != 3 {
+fn are_records(piece: &Piece, want: &[(u32, u16, u16)]) -> bool {
+    if piece.len() != want.len() || piece.column(2).is_none() || piece.column(3).is_some() {
         return false;
     }
-    (one.person, one.key, one.codes.at(1)) == want
-}
-
-fn are_records(records: &[Record], want: &[(u32, u16, u16)]) -> bool {
-    if records.len() != want.len() {
-        return false;
-    }
-    for i in 0..records.len() {
-        if !is_record(&records[i], want[i]) {
+    let (persons, keys) = (piece.persons(), piece.keys());
+    for i in 0..piece.len() {
+        if (persons[i], keys[i], piece.category(i, 1)) != want[i] {
             return false;
         }
     }

@@ -6,6 +6,7 @@ use Rattle.std.proofs.Math.Nat.{mod-add-mod, mod-eq_of_lt}
 use Rattle.std.proofs.lemmas.Bool.{lt-ltb, le-ltb, cases_lt}
 use Rattle.std.proofs.lemmas.Bool.Decides.{eqb_tells}
 use Rattle.std.proofs.lemmas.List.{ext_get_or, get_or-map, get_or-replicate, get_or-set_same, get_or-set_other, get_or-take, get_or_default, length-map, length-take-le, take-map, take_all}
+use Rattle.std.proofs.lemmas.List.Elements.{All-drop, All-take}
 use Rattle.std.proofs.lemmas.List.Sums.{sum_by_more}
 use Rattle.tb_base.specs.declared.cells.Cell.{Cell}
 use Rattle.tb_base.specs.declared.records.Record.{Record}
@@ -18,6 +19,10 @@ use Rattle.tb_cube.specs.Axes.{codes_by, no_axis, number_by, numbers_by, with_al
 use Rattle.tb_grid.proofs.Sums.{sum-one, sum-two}
 use Rattle.tb_cube.proofs.Adding.{made-with, number-any, rest-put, room-left, Number}
 
+-- no record
+abbrev pub no_record : Record
+no_record = record { person = 0; key = 0; codes = [] }
+
 -- a part of a column
 drop-map : {X Y : Type 0} (f : X → Y) (n : ℕ) (xs : List X) → drop n (map f xs) ≡ map f (drop n xs)
 drop-map f zero xs = refl
@@ -27,13 +32,24 @@ drop-map f (suc n) (x ∷ xs) = drop-map f n xs
 pub between-map : {X Y : Type 0} (f : X → Y) (from to : ℕ) (xs : List X) → between from to (map f xs) ≡ map f (between from to xs)
 between-map f from to xs = ap (λ ys. drop from ys) (take-map f to xs) ∙ drop-map f from (take to xs)
 
+-- where no record has a variable there is none that has it
+pub none-left : (piece : List Record) (from to v : ℕ) → All (λ r. length r.codes ≤ v) piece → All (λ r. v < length r.codes) (between from to piece) → (i : ℕ) → i < length (between from to piece) → ⊥
+none-left piece from to v none there i below =
+    let few : Record → Type 0 = λ r. length r.codes ≤ v in
+    omega (arith, there i no_record below, All-drop few from (take to piece) (All-take few to piece none) i no_record below)
+
 -- what a code leads on by
 abbrev pub led_on : List ℕ → ℕ → ℕ → ℕ → ℕ
 led_on codes stride i n = (n + get_or codes i 0 * stride) % 2 ^ 32
 
--- no record
-abbrev pub no_record : Record
-no_record = record { person = 0; key = 0; codes = [] }
+-- a column's part is that of the part's records
+pub axis-added : (piece : List Record) (from to v stride : ℕ) (codes old new : List ℕ) → codes ≡ code_column piece v
+    → ((i : ℕ) → i < length (between from to codes) → get_or new i 0 ≡ led_on (between from to codes) stride i (get_or old i 0))
+    → (i : ℕ) → i < length (between from to piece) → get_or new i 0 ≡ led_on (code_column (between from to piece) v) stride i (get_or old i 0)
+axis-added piece from to v stride codes old new are added i below =
+    let same : between from to codes ≡ code_column (between from to piece) v = ap (λ (cs : List ℕ). between from to cs) are ∙ between-map (λ r. category_at r v) from to piece in
+    let low : i < length (between from to codes) = omega (arith, below, ap (λ (cs : List ℕ). length cs) same, length-map (between from to piece) (λ r. category_at r v)) in
+    added i low ∙ ap (λ (cs : List ℕ). led_on cs stride i (get_or old i 0)) same
 
 -- how far a record leads by an axis
 abbrev pub leads_on : List Record → ℕ → Axis → ℕ

@@ -64,14 +64,7 @@ fn offset_at(axis: Axis, codes: &[u8], i: usize) -> usize
 
 // Puts the records of a piece between two places in by one variable, where these are their codes of
 // it.
-fn add_by_one(
-    cells: &mut [Cell],
-    axes: &[Axis],
-    piece: &Piece,
-    from: usize,
-    to: usize,
-    of_v: &[u8],
-)
+fn add_by_one(cells: &mut [Cell], axes: &[Axis], piece: &Piece, from: usize, to: usize, of_v: &[u8])
     requires axes { length axes.now ≡ 1 }
     requires few { length cells.old ≤ MOST_CELLS }
     requires lead { All (LeadsBelow (length cells.old) axes.now) (between from to piece.now) }
@@ -140,13 +133,7 @@ fn add_codes(codes: &[u16], stride: u32, numbers: &mut [u32; PAGE_ROOM])
 }
 
 // The same of a column, from one place up to another.
-fn add_offsets(
-    column: &Column,
-    from: usize,
-    to: usize,
-    stride: u32,
-    numbers: &mut [u32; PAGE_ROOM],
-)
+fn add_offsets(column: &Column, from: usize, to: usize, stride: u32, numbers: &mut [u32; PAGE_ROOM])
     requires { length (between from to (numbers_in column.now)) ≤ PAGE_ROOM }
     ensures { (i : ℕ) → i < length (between from to (numbers_in column.now))
         → slice_index numbers.new i ≡ (slice_index numbers.old i
@@ -158,8 +145,29 @@ fn add_offsets(
     }
 }
 
-// Writes the numbers of the records' cells, from one place of a piece up to another. A variable
-// without a column leads nowhere.
+// Adds how far the code of each record between two places of a piece leads by an axis, of which each
+// has the variable.
+fn add_axis(
+    axis: Axis,
+    piece: &Piece,
+    from: usize,
+    to: usize,
+    numbers: &mut [u32; PAGE_ROOM],
+)
+    requires few { length (between from to piece.now) ≤ PAGE_ROOM }
+    requires there { All (λ r. axis.variable < length r.codes) (between from to piece.now) }
+    ensures { (i : ℕ) → i < length (between from to piece.now)
+        → slice_index numbers.new i ≡ (slice_index numbers.old i
+        + slice_index (code_column (between from to piece.now) axis.variable) i * axis.stride)
+        % 2 ^ 32 }
+{
+    match piece.column(axis.variable as usize) {
+        Some(column) => add_offsets(column, from, to, axis.stride, numbers),
+        None => (),
+    }
+}
+
+// Writes the numbers of the records' cells, from one place of a piece up to another.
 fn write_numbers(
     axes: &[Axis],
     piece: &Piece,
@@ -174,9 +182,7 @@ fn write_numbers(
         ≡ numbers_by axes.now (between from to piece.now) }
 {
     for axis in axes {
-        if let Some(column) = piece.column(axis.variable as usize) {
-            add_offsets(column, from, to, axis.stride, numbers);
-        }
+        add_axis(*axis, piece, from, to, numbers);
     }
 }
 

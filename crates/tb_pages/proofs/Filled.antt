@@ -6,7 +6,8 @@ use Rattle.std.specs.FinMap as finmap
 use Rattle.std.specs.FinMap.{find, from_entries_push, get-from_entries, nat_cmp-IsAntisymmetric}
 use Rattle.std.specs.Ordering.{nat_cmp}
 use Rattle.std.specs.Cmp.{nat_cmp_total}
-use Rattle.std.proofs.lemmas.List.{map-append, take_more, take-append-drop, length-take-le, drop_more}
+use Rattle.tb_base.specs.Pieces.{key_column, person_column}
+use Rattle.std.proofs.lemmas.List.{get_or-map, map-append, take_more, take-append-drop, length-take-le, drop_more}
 use Rattle.std.proofs.lemmas.List.Concat.{flat_map-append}
 use Rattle.std.proofs.lemmas.List.Sums.{fold_push}
 use Rattle.tb_base.specs.declared.records.Record.{Record}
@@ -27,13 +28,23 @@ find-none q [] none = refl
 find-none q (x ∷ xs) none =
     let h = none_first (eqb q x.person) (has_person xs q) none in rw (is_eq-nat_cmp q x.person, h.0) (find-none q xs h.1)
 
--- the entry of the record at a place, by its person and its key
-pub entry-at : (page person key i : ℕ) (rs : List Record) (ps ks : List ℕ) → ps ≡ person_column rs → ks ≡ key_column rs → i < length rs → person ≡ get_or ps i 0 → key ≡ get_or ks i 0
-    → (one : Record) → one ≡ get_or rs i one → (person ≡ one.person) × (key ≡ one.key)
-entry-at page person key i rs ps ks persons keys low is_p is_k one at = (
-  is_p ∙ ap (λ xs. get_or xs i 0) persons ∙ get_or-map (λ r. r.person) rs i one 0 low ∙ ap (λ r. r.person) (sym at),
-  is_k ∙ ap (λ xs. get_or xs i 0) keys ∙ get_or-map (λ r. r.key) rs i one 0 low ∙ ap (λ r. r.key) (sym at),
-)
+-- no record
+abbrev pub nobody : Record
+nobody = record { person = 0; key = 0; codes = [] }
+
+-- the person and the key of the record at a place
+pub person-at : (rs : List Record) (ps : List ℕ) (i : ℕ) → ps ≡ person_column rs → i < length rs → get_or ps i 0 ≡ (get_or rs i nobody).person
+person-at rs ps i are low = ap (λ xs. get_or xs i 0) are ∙ get_or-map (λ r. r.person) rs i nobody 0 low
+
+pub key-at : (rs : List Record) (ks : List ℕ) (i : ℕ) → ks ≡ key_column rs → i < length rs → get_or ks i 0 ≡ (get_or rs i nobody).key
+key-at rs ks i are low = ap (λ xs. get_or xs i 0) are ∙ get_or-map (λ r. r.key) rs i nobody 0 low
+
+-- what stands for the entry of the record at a place
+pub entry-made : (rs : List Record) (page : ℕ) (book book' : Book) (i person key : ℕ) → person ≡ (get_or rs i nobody).person → key ≡ (get_or rs i nobody).key
+    → book' ≡ finmap.insert book person (record { person = person; key = key; page = Some page }) → book' ≡ finmap.insert book (get_or rs i nobody).person (entry_of page (get_or rs i nobody))
+entry-made rs page book book' i person key is_p is_k set =
+    let made : ℕ → ℕ → Entry = λ p k. record { person = p; key = k; page = Some page } in
+    set ∙ ap (λ p. finmap.insert book p (made p key)) is_p ∙ ap (λ k. finmap.insert book (get_or rs i nobody).person (made (get_or rs i nobody).person k)) is_k
 
 -- ---- the entries of a page's records
 pub one_noted : (page : ℕ) (rs : List Record) (i : ℕ) (one : Record) (start book book' : Book) → i < length rs → one ≡ get_or rs i one → book ≡ with_entries page (take i rs) start

@@ -48,7 +48,8 @@ pub fn filled_places(alloc: Global, pages: &Pages) -> Result<Vec<u32>, Memory>
     let count = pages.len();
     let mut places = Vec::with_capacity(alloc, count)?;
     for i in 0..count {
-        note_if(&mut places, i as u32, pages.page(i).len() > 0)?;
+        let piece = pages.page(i);
+        note_if(&mut places, i as u32, piece.len() > 0)?;
     }
     Ok(places)
 }

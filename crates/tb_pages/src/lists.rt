@@ -53,7 +53,8 @@ fn counts_of(alloc: Global, pages: &Pages) -> Result<Vec<u32>, Memory>
     let mut counts = Vec::new(alloc);
     counts.resize(SHARDS, 0)?;
     for i in 0..pages.len() {
-        count(&mut counts, pages.page(i).persons());
+        let piece = pages.page(i);
+        count(&mut counts, piece.persons());
     }
     Ok(counts)
 }

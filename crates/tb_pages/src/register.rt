@@ -74,7 +74,8 @@ impl Register {
         ensures { IfOk result (λ one. record_of (records_in self.now.pages) person ≡ Some one) }
     {
         let _ = person;
-        self.pages.page(spot.page).record(spot.place)
+        let piece = self.pages.page(spot.page);
+        piece.record(spot.place)
     }
 
     /// Puts a new person's record into the last page, or into a new one where that is full.

@@ -1,28 +1,30 @@
-// Records put into the cells of their places without Total. Most tables use one to three variables:
-// for these the loops are written out, and the steps of a variable looked up before the loop.
+// Records put into the cells of their places without Total, a chunk at a time: their numbers are
+// worked out by column, and then their keys are put in.
 
-ghost use Rattle.std.specs.Prelude.{◌≡◌, ℕ, List, ◌+◌, ◌++◌, ◌%◌, ◌<◌, cond, length, slice_index};
-ghost use Rattle.std.specs.Prelude.{◌==◌, ◌^◌};
+ghost use Rattle.std.specs.Prelude.{◌≡◌, ℕ, List, ◌+◌, ◌-◌, ◌++◌, ◌%◌, ◌<◌, ◌≤◌, cond, length};
+ghost use Rattle.std.specs.Prelude.{◌==◌, ◌^◌, min, slice_index, slice_index_or};
 ghost use Rattle.tb_base.specs.declared.records.Record.{Record as AnyRecord};
-ghost use Rattle.tb_base.specs.Records.{category_at, AllFit, Fits};
+ghost use Rattle.tb_base.specs.declared.tallies.TheConstants.{CHUNK};
+ghost use Rattle.tb_base.specs.Pieces.{between};
+ghost use Rattle.tb_base.specs.Records.{category_at, AllFit};
 ghost use Rattle.tb_base.specs.Parts.{modulus, part_at, weight, Part};
 ghost use Rattle.tb_plan.specs.Plans.{vars_of};
-ghost use Rattle.tb_plan.specs.Steps.{number_at, step_at, steps_of};
+ghost use Rattle.tb_plan.specs.Steps.{number_at as number_by, steps_of};
 ghost use Rattle.tb_scan.specs.Scanning.{ArePut, Hold};
 
-use crate::tallied::put_by_tallies;
-use tb_base::{Cell, MOST_TALLIED, Record};
+use crate::tallied::{numbers_of, put_by_tallies};
+use tb_base::{CHUNK, Cell, MOST_TALLIED, Piece};
 use tb_plan::Plan;
 
-// Puts a record into the cell of a number; past the cells it does nothing.
+// Puts a record's key into the cell of a number; past the cells it does nothing.
 #[inline]
-fn put_at(cells: &mut [Cell], number: usize, one: &Record)
+fn put_at(cells: &mut [Cell], number: usize, key: u16)
     ensures { (p : Part) (i : ℕ) → i < length cells.old
         → part_at p cells.new i % modulus p
-        ≡ (part_at p cells.old i + cond (number == i) (weight p one.now.key) 0) % modulus p }
+        ≡ (part_at p cells.old i + cond (number == i) (weight p key) 0) % modulus p }
 {
     if number < cells.len() {
-        cells[number].put(one.key);
+        cells[number].put(key);
     }
 }
 
@@ -37,109 +39,83 @@ pub fn used(plan: &Plan, j: usize) -> (u16, &[u32])
     (v, plan.steps(v))
 }
 
-/// The step of a record's category of a variable, where these are the variable's steps in the plan.
-#[inline]
-pub fn step_of(plan: &Plan, v: u16, steps: &[u32], one: &Record) -> usize
-    requires there { v < length plan.now.shape }
-    requires steps { steps.now ≡ steps_of plan.now v }
-    requires fits { Fits plan.now.shape one.now }
-    ensures step { result ≡ step_at plan.now v (category_at one.now v) }
-    ensures few { result < 2 ^ 32 }
-{
-    let _ = plan;
-    steps[one.codes.at(v as usize) as usize] as usize
-}
-
-// The number to which a record leads: that of its place without Total, or one past all places
-// where it fails a filter.
-#[inline]
-fn number_of(plan: &Plan, one: &Record) -> usize
-    requires { Fits plan.now.shape one.now }
-    ensures { result ≡ number_at plan.now (category_at one.now) }
+// The number to which the record at a place leads: that of its place without Total, or one past all
+// places where it fails a filter.
+fn number_at(plan: &Plan, piece: &Piece, place: usize) -> usize
+    requires there { place < length piece.now }
+    requires fit { AllFit plan.now.shape piece.now }
+    ensures { (d : AnyRecord)
+        → result ≡ number_by plan.now (category_at (slice_index_or piece.now place d)) }
 {
     let mut number = 0;
     for j in 0..plan.vars().len() {
         let (v, steps) = used(plan, j);
-        let step = step_of(plan, v, steps, one);
-        number += step;
+        let code = piece.category(place, v as usize);
+        number += steps[code as usize] as usize;
     }
     number
 }
 
-// Puts the records of a piece in, whatever the number of variables.
-fn put_by_any(plan: &Plan, piece: &[Record], cells: &mut [Cell])
+// The number to which the record at a place leads, where it is known as far as a `u32` goes.
+#[inline]
+fn whole_number(plan: &Plan, piece: &Piece, place: usize, known: u32) -> usize
+    requires there { place < length piece.now }
     requires fit { AllFit plan.now.shape piece.now }
-    ensures { ArePut plan.now cells.old piece.now cells.new }
+    requires known { (d : AnyRecord)
+        → known ≡ min (number_by plan.now (category_at (slice_index_or piece.now place d)))
+        (2 ^ 32 - 1) }
+    ensures { (d : AnyRecord)
+        → result ≡ number_by plan.now (category_at (slice_index_or piece.now place d)) }
 {
-    for one in piece {
-        put_at(cells, number_of(plan, one), one);
+    if known < u32::MAX {
+        known as usize
+    } else {
+        number_at(plan, piece, place)
     }
 }
 
-// The same by one variable.
-fn put_by_one(plan: &Plan, piece: &[Record], cells: &mut [Cell])
-    requires vars { length (vars_of plan.now) ≡ 1 }
+// Puts the records of a piece in, a chunk at a time.
+fn put_by_numbers(plan: &Plan, piece: &Piece, cells: &mut [Cell])
     requires fit { AllFit plan.now.shape piece.now }
     ensures { ArePut plan.now cells.old piece.now cells.new }
 {
-    let (v, of_v) = used(plan, 0);
-    for one in piece {
-        let by_v = step_of(plan, v, of_v, one);
-        put_at(cells, by_v, one);
+    let count = piece.len();
+    let mut from = 0;
+    'chunks: while from < count {
+        let to = count.min(from + CHUNK);
+        put_chunk(plan, piece, from, to, cells);
+        from = to;
     }
 }
 
-// The same by two variables.
-fn put_by_two(plan: &Plan, piece: &[Record], cells: &mut [Cell])
-    requires vars { length (vars_of plan.now) ≡ 2 }
+// Puts the records from one place of a piece up to another in.
+fn put_chunk(plan: &Plan, piece: &Piece, from: usize, to: usize, cells: &mut [Cell])
     requires fit { AllFit plan.now.shape piece.now }
-    ensures { ArePut plan.now cells.old piece.now cells.new }
+    requires some { from ≤ to }
+    requires there { to ≤ length piece.now }
+    requires few { to ≤ from + CHUNK }
+    ensures { ArePut plan.now cells.old (between from to piece.now) cells.new }
 {
-    let (v, of_v) = used(plan, 0);
-    let (w, of_w) = used(plan, 1);
-    for one in piece {
-        let by_v = step_of(plan, v, of_v, one);
-        let by_w = step_of(plan, w, of_w, one);
-        put_at(cells, by_v + by_w, one);
-    }
-}
-
-// The same by three variables.
-fn put_by_three(plan: &Plan, piece: &[Record], cells: &mut [Cell])
-    requires vars { length (vars_of plan.now) ≡ 3 }
-    requires fit { AllFit plan.now.shape piece.now }
-    ensures { ArePut plan.now cells.old piece.now cells.new }
-{
-    let (v, of_v) = used(plan, 0);
-    let (w, of_w) = used(plan, 1);
-    let (x, of_x) = used(plan, 2);
-    for one in piece {
-        let by_v = step_of(plan, v, of_v, one);
-        let by_w = step_of(plan, w, of_w, one);
-        let by_x = step_of(plan, x, of_x, one);
-        put_at(cells, by_v + by_w + by_x, one);
+    let numbers = numbers_of(plan, piece, from, to);
+    let keys = piece.keys();
+    for place in from..to {
+        let number = whole_number(plan, piece, place, numbers[place - from]);
+        put_at(cells, number, keys[place]);
     }
 }
 
 /// Puts each record of a piece into the cell of its place without Total: where there are totals,
 /// the cells of the other places are not right before `put_totals`. It takes no memory.
-pub fn put_all(plan: &Plan, piece: &[Record], cells: &mut [Cell])
+pub fn put_all(plan: &Plan, piece: &Piece, cells: &mut [Cell])
     requires { AllFit plan.now.shape piece.now }
     ensures put { ArePut plan.now cells.old piece.now cells.new }
     // Cells that held some records hold the piece's records too.
     ensures held { (before : List AnyRecord) → Hold plan.now cells.old before
         → Hold plan.now cells.new (before ++ piece.now) }
 {
-    let used = plan.vars().len();
     if cells.len() <= MOST_TALLIED {
         put_by_tallies(plan, piece, cells);
-    } else if used == 1 {
-        put_by_one(plan, piece, cells);
-    } else if used == 2 {
-        put_by_two(plan, piece, cells);
-    } else if used == 3 {
-        put_by_three(plan, piece, cells);
     } else {
-        put_by_any(plan, piece, cells);
+        put_by_numbers(plan, piece, cells);
     }
 }

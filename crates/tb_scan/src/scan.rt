@@ -13,7 +13,7 @@ ghost use Rattle.tb_scan.specs.Scanning.{Hold};
 
 use crate::put::put_all;
 use std::alloc::Global;
-use tb_base::{Cell, Memory, Record, reduce_keys};
+use tb_base::{Cell, Memory, Piece, reduce_keys};
 use tb_plan::Plan;
 
 /// The cells of no record, one for each place of the table. It takes memory for them alone.
@@ -44,7 +44,7 @@ pub fn put_totals(plan: &Plan, cells: &mut [Cell])
 }
 
 /// Merges the cell of each place with that of the piece's own records there. It takes no memory.
-pub fn scan_into(plan: &Plan, piece: &[Record], cells: &mut [Cell])
+pub fn scan_into(plan: &Plan, piece: &Piece, cells: &mut [Cell])
     requires long { length cells.old ≡ place_count plan.now }
     requires fit { AllFit plan.now.shape piece.now }
     requires room { All (λ c. c.count + length piece.now ≤ MOST_PERSONS) cells.old }

@@ -1,59 +1,112 @@
-// Records put into the cells of a small table: the numbers of a chunk of records are worked out a
-// variable at a time, and then the records of each cell are tallied.
+// The numbers to which records lead, worked out a variable at a time for a chunk of them, and the
+// records of a small table tallied by these.
 
-ghost use Rattle.std.specs.Prelude.{◌≡◌, ℕ, ◌+◌, ◌-◌, ◌<◌, ◌≤◌, ◌^◌, length, min, take};
+ghost use Rattle.std.specs.Prelude.{◌≡◌, ℕ, All, ◌+◌, ◌-◌, ◌<◌, ◌≤◌, ◌^◌, length, min, take};
 ghost use Rattle.std.specs.Prelude.{slice_index, slice_index_or};
 ghost use Rattle.tb_base.specs.declared.records.Record.{Record as AnyRecord};
+ghost use Rattle.tb_base.specs.Pieces.{between};
 ghost use Rattle.tb_base.specs.Records.{category_at, AllFit};
 ghost use Rattle.tb_base.specs.declared.tallies.TheConstants.{CHUNK, MOST_TALLIED};
 ghost use Rattle.tb_plan.specs.Steps.{step_at, steps_of};
 ghost use Rattle.tb_scan.specs.Scanning.{numbers_of as numbers_by, ArePut};
 
-use crate::put::{step_of, used};
-use tb_base::{CHUNK, Cell, MOST_TALLIED, Record, add_tallies, write_keys};
+use crate::put::used;
+use tb_base::{CHUNK, Cell, Column, MOST_TALLIED, Piece, add_tallies};
 use tb_plan::Plan;
 
-// Adds the steps of the records' categories of a variable to their numbers, as far as a `u32` goes.
-fn add_steps(plan: &Plan, v: u16, steps: &[u32], chunk: &[Record], numbers: &mut [u32; CHUNK])
-    requires there { v < length plan.now.shape }
-    requires steps { steps.now ≡ steps_of plan.now v }
-    requires fit { AllFit plan.now.shape chunk.now }
-    requires few { length chunk.now ≤ CHUNK }
-    ensures { (one : AnyRecord) (i : ℕ) → i < length chunk.now → slice_index numbers.new i
-        ≡ min (slice_index numbers.old i
-        + step_at plan.now v (category_at (slice_index_or chunk.now i one) v)) (2 ^ 32 - 1) }
+// The elements from one place up to another, as far as they go.
+fn part<T>(items: &[T], from: usize, to: usize) -> &[T]
+    ensures { result.now ≡ between from to items.now }
 {
-    for k in 0..chunk.len() {
-        let step = step_of(plan, v, steps, &chunk[k]);
-        numbers[k] = numbers[k].saturating_add(step as u32);
+    let (front, _) = items.split_at(to.min(items.len()));
+    let (_, rest) = front.split_at(from.min(front.len()));
+    rest
+}
+
+// Adds the steps of codes to their numbers, as far as a `u32` goes.
+fn add_of_bytes(steps: &[u32], codes: &[u8], numbers: &mut [u32; CHUNK])
+    requires there { All (λ c. c < length steps.now) codes.now }
+    requires few { length codes.now ≤ CHUNK }
+    ensures { (i : ℕ) → i < length codes.now → slice_index numbers.new i
+        ≡ min (slice_index numbers.old i + slice_index steps.now (slice_index codes.now i))
+        (2 ^ 32 - 1) }
+{
+    for k in 0..codes.len() {
+        let step = steps[codes[k] as usize];
+        numbers[k] = numbers[k].saturating_add(step);
     }
 }
 
-/// The numbers to which the records of a chunk lead, as far as a `u32` goes: that of a record's
-/// place without Total, or one past all places where the record fails a filter. It takes no memory.
-pub fn numbers_of(plan: &Plan, chunk: &[Record]) -> [u32; CHUNK]
-    requires fit { AllFit plan.now.shape chunk.now }
-    requires few { length chunk.now ≤ CHUNK }
-    ensures { take (length chunk.now) result ≡ numbers_by plan.now chunk.now }
+// The same where a code takes two bytes.
+fn add_of_codes(steps: &[u32], codes: &[u16], numbers: &mut [u32; CHUNK])
+    requires there { All (λ c. c < length steps.now) codes.now }
+    requires few { length codes.now ≤ CHUNK }
+    ensures { (i : ℕ) → i < length codes.now → slice_index numbers.new i
+        ≡ min (slice_index numbers.old i + slice_index steps.now (slice_index codes.now i))
+        (2 ^ 32 - 1) }
+{
+    for k in 0..codes.len() {
+        let step = steps[codes[k] as usize];
+        numbers[k] = numbers[k].saturating_add(step);
+    }
+}
+
+// Adds the steps of the categories of a variable, of the records from one place of a piece up to
+// another. Where there is no column there is no record, since each has all variables of the plan.
+fn add_steps(
+    plan: &Plan,
+    v: u16,
+    steps: &[u32],
+    piece: &Piece,
+    from: usize,
+    to: usize,
+    numbers: &mut [u32; CHUNK],
+)
+    requires there { v < length plan.now.shape }
+    requires steps { steps.now ≡ steps_of plan.now v }
+    requires fit { AllFit plan.now.shape (between from to piece.now) }
+    requires few { length (between from to piece.now) ≤ CHUNK }
+    ensures { (one : AnyRecord) (i : ℕ) → i < length (between from to piece.now)
+        → slice_index numbers.new i ≡ min (slice_index numbers.old i + step_at plan.now v
+        (category_at (slice_index_or (between from to piece.now) i one) v)) (2 ^ 32 - 1) }
+{
+    let _ = plan;
+    match piece.column(v as usize) {
+        Some(Column::Narrow(bytes)) => add_of_bytes(steps, part(bytes, from, to), numbers),
+        Some(Column::Wide(codes)) => add_of_codes(steps, part(codes, from, to), numbers),
+        None => (),
+    }
+}
+
+/// The numbers to which the records from one place of a piece up to another lead, as far as a `u32`
+/// goes: that of a record's place without Total, or one past all places where the record fails a
+/// filter. It takes no memory.
+pub fn numbers_of(plan: &Plan, piece: &Piece, from: usize, to: usize) -> [u32; CHUNK]
+    requires fit { AllFit plan.now.shape (between from to piece.now) }
+    requires few { length (between from to piece.now) ≤ CHUNK }
+    ensures { take (length (between from to piece.now)) result
+        ≡ numbers_by plan.now (between from to piece.now) }
 {
     let mut numbers = [0; CHUNK];
     for j in 0..plan.vars().len() {
         let (v, steps) = used(plan, j);
-        add_steps(plan, v, steps, chunk, &mut numbers);
+        add_steps(plan, v, steps, piece, from, to, &mut numbers);
     }
     numbers
 }
 
 /// Puts the records of a piece in, where there are few cells.
-pub fn put_by_tallies(plan: &Plan, piece: &[Record], cells: &mut [Cell])
+pub fn put_by_tallies(plan: &Plan, piece: &Piece, cells: &mut [Cell])
     requires few { length cells.old ≤ MOST_TALLIED }
     requires fit { AllFit plan.now.shape piece.now }
     ensures { ArePut plan.now cells.old piece.now cells.new }
 {
-    let mut keys = [0; CHUNK];
-    for chunk in piece.chunks(CHUNK) {
-        let numbers = numbers_of(plan, chunk);
-        write_keys(chunk, &mut keys);
-        add_tallies(cells, &numbers[..chunk.len()], &keys[..chunk.len()]);
+    let keys = piece.keys();
+    let mut from = 0;
+    'chunks: while from < keys.len() {
+        let to = keys.len().min(from + CHUNK);
+        let numbers = numbers_of(plan, piece, from, to);
+        add_tallies(cells, &numbers[..to - from], part(keys, from, to));
+        from = to;
     }
 }

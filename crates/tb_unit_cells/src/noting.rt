@@ -1,34 +1,40 @@
 // The number to which each link leads, noted at the link's place.
 
-ghost use Rattle.std.specs.Prelude.{◌≡◌, ◌≤◌, flat_map, length};
+ghost use Rattle.std.specs.Prelude.{◌≡◌, ◌+◌, ◌≤◌, flat_map, length};
+ghost use Rattle.tb_base.specs.Pieces.{between};
 ghost use Rattle.tb_base.specs.Records.{AllFit};
 ghost use Rattle.tb_base.specs.declared.tallies.TheConstants.{CHUNK};
 ghost use Rattle.tb_unit_cells.specs.Noting.{number_in, AreNoted};
 
-use crate::link_numbers::note_record;
-use tb_base::{CHUNK, Record};
+use crate::link_numbers::note;
+use tb_base::{CHUNK, Piece};
 use tb_plan::Plan;
 use tb_release::Lent;
 use tb_scan::numbers_of;
 use tb_units::Units;
 
-// Notes the numbers of a chunk of records.
+// Notes the numbers of the records from one place of a piece up to another.
 fn note_chunk(
     units: &Units,
     plan: &Plan,
-    chunk: &[Record],
+    piece: &Piece,
+    from: usize,
+    to: usize,
     start: usize,
     numbers: &mut [u32],
 ) -> usize
     requires long { length numbers.old ≡ length units.now.links }
-    requires fit { AllFit plan.now.shape chunk.now }
-    requires few { length chunk.now ≤ CHUNK }
-    ensures { AreNoted (number_in plan.now) units.now.links chunk.now numbers.old numbers.new }
+    requires fit { AllFit plan.now.shape (between from to piece.now) }
+    requires there { to ≤ length piece.now }
+    requires few { to ≤ from + CHUNK }
+    ensures { AreNoted (number_in plan.now) units.now.links (between from to piece.now)
+        numbers.old numbers.new }
 {
-    let found = numbers_of(plan, chunk);
+    let found = numbers_of(plan, piece, from, to);
+    let persons = piece.persons();
     let mut guess = start;
-    for j in 0..chunk.len() {
-        guess = note_record(units, &chunk[j], found[j], guess, numbers);
+    for place in from..to {
+        guess = note(units, persons[place], found[place - from], guess, numbers);
     }
     guess
 }
@@ -37,7 +43,7 @@ fn note_chunk(
 fn note_piece(
     units: &Units,
     plan: &Plan,
-    piece: &[Record],
+    piece: &Piece,
     start: usize,
     numbers: &mut [u32],
 ) -> usize
@@ -45,9 +51,13 @@ fn note_piece(
     requires fit { AllFit plan.now.shape piece.now }
     ensures { AreNoted (number_in plan.now) units.now.links piece.now numbers.old numbers.new }
 {
+    let count = piece.len();
     let mut guess = start;
-    for chunk in piece.chunks(CHUNK) {
-        guess = note_chunk(units, plan, chunk, guess, numbers);
+    let mut from = 0;
+    'chunks: while from < count {
+        let to = count.min(from + CHUNK);
+        guess = note_chunk(units, plan, piece, from, to, guess, numbers);
+        from = to;
     }
     guess
 }

@@ -1,24 +1,25 @@
 use Rattle.std.proofs.Common.{◌+◌, arith}
+use Rattle.tb_base.specs.Pieces.{between}
 use Rattle.tb_cube.proofs.ByColumn.{by-two, code-there, turn-at}
 use Rattle.tb_cube.proofs.columns.add_by_two.Goals as goal
 
 pub offset_at-by_v-requires : goal.offset_at-by_v-requires
-offset_at-by_v-requires c = code-there c.args.records.now c.loop-i.i c.args.keys.now c.requires.keys c.loop-i-test.true c.args.axes.now 0 c.args.of_v.now c.requires.v
+offset_at-by_v-requires c = code-there (between c.args.from c.args.to c.args.piece.now) c.loop-i.i c.keys_in-keys.result.now c.keys_in-keys.ensures c.loop-i-test.true c.args.axes.now 0 c.args.of_v.now c.requires.v
 
 pub offset_at-by_w-requires : goal.offset_at-by_w-requires
-offset_at-by_w-requires c = code-there c.args.records.now c.loop-i.i c.args.keys.now c.requires.keys c.loop-i-test.true c.args.axes.now 1 c.args.of_w.now c.requires.w
+offset_at-by_w-requires c = code-there (between c.args.from c.args.to c.args.piece.now) c.loop-i.i c.keys_in-keys.result.now c.keys_in-keys.ensures c.loop-i-test.true c.args.axes.now 1 c.args.of_w.now c.requires.w
 
 pub overflow_add-by_v : goal.overflow_add-by_v
-overflow_add-by_v c = omega (arith, (by-two c.args.records.now c.loop-i.i c.args.keys.now c.requires.keys c.loop-i-test.true c.args.axes.now c.args.cells.now c.loop-i.cells c.requires.lead c.loop-i.auto.cells c.args.of_v.now c.args.of_w.now c.offset_at-by_v.result c.offset_at-by_w.result c.requires.axes c.requires.v c.requires.w c.offset_at-by_v.ensures c.offset_at-by_w.ensures).there, c.requires.few, c.loop-i.auto.cells)
+overflow_add-by_v c = omega (arith, (by-two (between c.args.from c.args.to c.args.piece.now) c.loop-i.i c.keys_in-keys.result.now c.keys_in-keys.ensures c.loop-i-test.true c.args.axes.now c.args.cells.now c.loop-i.cells c.requires.lead c.loop-i.auto.cells c.args.of_v.now c.args.of_w.now c.offset_at-by_v.result c.offset_at-by_w.result c.requires.axes c.requires.v c.requires.w c.offset_at-by_v.ensures c.offset_at-by_w.ensures).there, c.requires.few, c.loop-i.auto.cells)
 
 pub offset_bounds-cells-by_v : goal.offset_bounds-cells-by_v
-offset_bounds-cells-by_v c = omega (arith, (by-two c.args.records.now c.loop-i.i c.args.keys.now c.requires.keys c.loop-i-test.true c.args.axes.now c.args.cells.now c.loop-i.cells c.requires.lead c.loop-i.auto.cells c.args.of_v.now c.args.of_w.now c.offset_at-by_v.result c.offset_at-by_w.result c.requires.axes c.requires.v c.requires.w c.offset_at-by_v.ensures c.offset_at-by_w.ensures).there, c.requires.few, c.loop-i.auto.cells)
+offset_bounds-cells-by_v c = omega (arith, (by-two (between c.args.from c.args.to c.args.piece.now) c.loop-i.i c.keys_in-keys.result.now c.keys_in-keys.ensures c.loop-i-test.true c.args.axes.now c.args.cells.now c.loop-i.cells c.requires.lead c.loop-i.auto.cells c.args.of_v.now c.args.of_w.now c.offset_at-by_v.result c.offset_at-by_w.result c.requires.axes c.requires.v c.requires.w c.offset_at-by_v.ensures c.offset_at-by_w.ensures).there, c.requires.few, c.loop-i.auto.cells)
 
 pub bounds-cells-by_v : goal.bounds-cells-by_v
-bounds-cells-by_v c = omega (arith, (by-two c.args.records.now c.loop-i.i c.args.keys.now c.requires.keys c.loop-i-test.true c.args.axes.now c.args.cells.now c.loop-i.cells c.requires.lead c.loop-i.auto.cells c.args.of_v.now c.args.of_w.now c.offset_at-by_v.result c.offset_at-by_w.result c.requires.axes c.requires.v c.requires.w c.offset_at-by_v.ensures c.offset_at-by_w.ensures).there)
+bounds-cells-by_v c = omega (arith, (by-two (between c.args.from c.args.to c.args.piece.now) c.loop-i.i c.keys_in-keys.result.now c.keys_in-keys.ensures c.loop-i-test.true c.args.axes.now c.args.cells.now c.loop-i.cells c.requires.lead c.loop-i.auto.cells c.args.of_v.now c.args.of_w.now c.offset_at-by_v.result c.offset_at-by_w.result c.requires.axes c.requires.v c.requires.w c.offset_at-by_v.ensures c.offset_at-by_w.ensures).there)
 
 pub loop-i-preserved : goal.loop-i-preserved
 loop-i-preserved c =
-    let next = turn-at c.args.records.now c.loop-i.i c.args.keys.now c.requires.keys c.loop-i-test.true c.args.axes.now c.args.cells.now c.loop-i.cells (c.offset_at-by_v.result + c.offset_at-by_w.result) c.put.new.self
-    (by-two c.args.records.now c.loop-i.i c.args.keys.now c.requires.keys c.loop-i-test.true c.args.axes.now c.args.cells.now c.loop-i.cells c.requires.lead c.loop-i.auto.cells c.args.of_v.now c.args.of_w.now c.offset_at-by_v.result c.offset_at-by_w.result c.requires.axes c.requires.v c.requires.w c.offset_at-by_v.ensures c.offset_at-by_w.ensures) c.loop-i.invariant.with_them c.loop-i.invariant.room c.put.ensures.exact in
+    let next = turn-at (between c.args.from c.args.to c.args.piece.now) c.loop-i.i c.keys_in-keys.result.now c.keys_in-keys.ensures c.loop-i-test.true c.args.axes.now c.args.cells.now c.loop-i.cells (c.offset_at-by_v.result + c.offset_at-by_w.result) c.put.new.self
+    (by-two (between c.args.from c.args.to c.args.piece.now) c.loop-i.i c.keys_in-keys.result.now c.keys_in-keys.ensures c.loop-i-test.true c.args.axes.now c.args.cells.now c.loop-i.cells c.requires.lead c.loop-i.auto.cells c.args.of_v.now c.args.of_w.now c.offset_at-by_v.result c.offset_at-by_w.result c.requires.axes c.requires.v c.requires.w c.offset_at-by_v.ensures c.offset_at-by_w.ensures) c.loop-i.invariant.with_them c.loop-i.invariant.room c.put.ensures.exact in
     record { with_them = next.with_them; room = next.room }

@@ -2,7 +2,7 @@ use Rattle.std.proofs.Common.{◌*◌, ◌^◌, length, get_or, arith}
 use Rattle.std.proofs.Math.Nat.{add-mod-mod}
 use Rattle.tb_cube.proofs.ByColumn.{led_on}
 use Rattle.tb_grid.proofs.Changing.{all-changed, none-changed, one-changed}
-use Rattle.tb_cube.proofs.columns.add_offsets.Goals as goal
+use Rattle.tb_cube.proofs.columns.add_codes.Goals as goal
 
 pub loop-k-init : goal.loop-k-init
 loop-k-init c = none-changed (led_on c.args.codes.now c.args.stride) (length c.args.codes.now) c.args.numbers.now

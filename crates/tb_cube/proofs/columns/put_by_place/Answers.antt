@@ -1,0 +1,36 @@
+use Rattle.std.proofs.Common.{rules, ◌≡◌, ℕ, List, ◌*◌, ◌+◌, ◌%◌, ◌<◌, ◌≤◌, ◌^◌, All, true, length, replicate, slice_index, take, ◌-◌, ◌/◌, Bool, false, nat_eq, nat_lt, [], ◌∷◌, ◌++◌, slice_index_or, slice_set, bit_and, bit_or, Fits, w8, w32, w64, Bor, MutBor}
+use Rattle.std.specs.Option.{ForSome}
+use Rattle.tb_base.specs.declared.records.Record.{Record as AnyRecord}
+use Rattle.tb_base.specs.declared.tallies.TheConstants.{MOST_TALLIED}
+use Rattle.tb_grid.specs.declared.products.TheConstants.{MOST_CELLS}
+use Rattle.tb_base.specs.Cells.{IsReduced}
+use Rattle.tb_base.specs.Columns.{numbers_in}
+use Rattle.tb_base.specs.Pieces.{between, code_column, key_column}
+use Rattle.tb_cube.specs.declared.axes.Axis.{Axis as AnyAxis}
+use Rattle.tb_cube.specs.Axes.{codes_by, numbers_by, with_all, AreNumbered, LeadsBelow}
+use Rattle.tb_model.specs.declared.rooms.TheConstants.{PAGE_ROOM}
+use Rattle.tb_cube.proofs.columns.put_by_place.Goals as goal
+
+-- src/columns.rt:227:5
+pub loop-i-init : goal.loop-i-init
+loop-i-init c = ?
+
+-- src/columns.rt:228:13
+pub number_at-number-requires-clause-lead : goal.number_at-number-requires-clause-lead
+number_at-number-requires-clause-lead c = ?
+
+-- src/columns.rt:229:9
+pub offset_bounds-cells-number : goal.offset_bounds-cells-number
+offset_bounds-cells-number c = ?
+
+-- src/columns.rt:229:9
+pub bounds-cells-number : goal.bounds-cells-number
+bounds-cells-number c = ?
+
+-- src/columns.rt:227:5
+pub loop-i-preserved : goal.loop-i-preserved
+loop-i-preserved c = ?
+
+-- src/columns.rt:220:1
+pub returns : goal.returns
+returns c = ?
