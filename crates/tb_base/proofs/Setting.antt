@@ -1,10 +1,9 @@
 -- Pvalues that were set: what is found, and what a further one leaves.
 use Rattle.std.proofs.Common.{◌≡◌, ◌≢◌, ℕ, ℤ, Bool, true, false, cond, ◌&&◌, List, [], ◌∷◌, eqb, refl, sym, ap, ◌∙◌, subst, inl, inr, arith, T}
-use Rattle.std.specs.Prelude.{Option, Some, None, IfSome}
-use Rattle.std.specs.List.{AllByRecursion}
+use Rattle.std.specs.Prelude.{Option, Some, IfSome}
 use Rattle.std.specs.Map.{lookup}
 use Rattle.std.specs.BTreeMap.{insert_entry, is_at}
-use Rattle.std.specs.Ordering.{nat_cmp, ordering_then, match_ordering, is_eq}
+use Rattle.std.specs.Ordering.{nat_cmp, match_ordering, is_eq}
 use Rattle.std.specs.declared.cmp.Ordering.{Ordering}
 use Rattle.std.specs.declared.cmp.Ordering.TheVariants.{Less, Equal, Greater}
 use Rattle.std.specs.Cmp.{nat_cmp_is, tied_then}
@@ -12,7 +11,7 @@ use Rattle.std.proofs.lemmas.Bool.{cases_order, eq-eqb, ne_eqb, and_parts, and_f
 use Rattle.std.specs.Prelude.{int_le, nat_le, nat_lt, pos, ◌+ℤ◌}
 use Rattle.tb_base.specs.declared.keys.TheConstants.{MOST_KEYS}
 use Rattle.tb_base.specs.declared.limits.TheConstants.{LEAST_PVALUE, MOST_PVALUE, LAST_ROW}
-use Rattle.tb_base.specs.Rules.{can_be_set, AreSet, MayBeSet, RulesValue, SetPvalue, place_order, pvalue_set, with_pvalue}
+use Rattle.tb_base.specs.Rules.{can_be_set, AreSet, MayBeSet, SetPvalue, place_order, pvalue_set}
 use Rattle.tb_base.specs.Laws.{SetIsFound}
 
 -- ---- places

@@ -24,7 +24,8 @@ pub enum EditFaultKind {
     TooMany,
     #[error("there must be at least one edit")]
     Nothing,
-    #[error("the oldest release must be none before that of now, and none after the next one")]
+    #[error("the oldest release must be neither before the oldest so far nor after the next \
+        release")]
     BadRelease,
 }
 

@@ -1,5 +1,5 @@
 -- The records of a classification that state the key range and the limit of persons.
-use Rattle.std.proofs.Common.{◌≡◌, ◌↔◌, ◌⊎◌, ◌∙◌, ◌≤◌, ap, sym, subst, refl, ℕ, Bool, true, false, List, [], ◌∷◌, length, arith, Option, Some, None, Result, Ok, Err, IfErr, get_or, inl, inr}
+use Rattle.std.proofs.Common.{◌≡◌, ◌↔◌, ◌∙◌, ◌≤◌, sym, refl, ℕ, Bool, true, false, List, [], ◌∷◌, length, arith, Option, Some, None, Result, Ok, Err, IfErr, get_or, inl, inr}
 use Rattle.std.specs.Prelude.{◌==◌, ◌&&◌, ◌||◌, not, bytes_eq, codes, is_some, nat_le, option_and_then, if◌then◌else◌}
 use Rattle.std.specs.Bool.{Decides}
 use Rattle.std.proofs.lemmas.Bool.{cases_Bool, le-leb, leb-true}
@@ -10,8 +10,8 @@ use Rattle.tb_base.specs.declared.keys.Keys.TheVariants.{K256, K4096}
 use Rattle.tb_model.specs.Schemas.{VariableValue}
 use Rattle.tb_rows.specs.Formats.{and_then, at_record, step_of}
 use Rattle.tb_rows.specs.declared.fault.Fault.{Fault}
-use Rattle.tb_schema.specs.Classes.{ClassLine, ClassesValue, and_limit, and_line, and_record, at_number, class_line, classes_file, is_code_of, key_record, limit_record}
-use Rattle.tb_schema.specs.Classes.ClassRecord.{bounds, lists, states}
+use Rattle.tb_schema.specs.Classes.{ClassLine, ClassesValue, and_line, and_record, at_number, class_line, classes_file, is_code_of, key_record, limit_record}
+use Rattle.tb_schema.specs.Classes.ClassRecord.{lists}
 use Rattle.tb_schema.specs.KeyLaws.{BadKeysComesExactly, BadPersonsComesExactly}
 use Rattle.tb_schema.specs.PersonLimits.{IsLimit, limit_of, limit_within}
 use Rattle.tb_base.specs.Numbers.{number_of}

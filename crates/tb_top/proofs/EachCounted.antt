@@ -3,9 +3,8 @@ use Rattle.std.proofs.Common.{◌≡◌, ℕ, List}
 use Rattle.std.specs.Prelude.{Option, None, Some, Ok, IfSome}
 use Rattle.tb_base.specs.declared.status.Status.{Status}
 use Rattle.tb_command.specs.declared.command.Owner.{Owner}
-use Rattle.tb_model.proofs.CellKeys.{homes_show_the_same, worlds_show_the_same}
+use Rattle.tb_model.proofs.CellKeys.{worlds_show_the_same}
 use Rattle.tb_session.specs.Laws.{NumbersNeverFall}
-use Rattle.tb_tables.specs.HomesWorlds.{HomesTableShowsWorlds}
 use Rattle.tb_text.specs.PrintedWorlds.{TableShowsWorlds}
 use Rattle.tb_top.specs.Asking.{CensusValue, asked_of, asked_with}
 use Rattle.tb_top.specs.Calls.{Call}
@@ -31,15 +30,12 @@ both_told : {A : Type 0} (P Q R : A → Type 0) (o : Option A) → ((x : A) → 
 both_told P Q R None f p q = tt
 both_told P Q R (Some x) f p q = f x p q
 
-pub headline_holds : NumbersNeverFall → TableShowsWorlds → HomesTableShowsWorlds → (call : Call) (s : Status) → Keeps call s
-    → EachTableIsCounted call s
-headline_holds never_fall shows shows_homes call s keeps = (
+pub headline_holds : NumbersNeverFall → TableShowsWorlds → (call : Call) (s : Status) → Keeps call s → EachTableIsCounted call s
+headline_holds never_fall shows call s keeps = (
   both_told (λ at. Tells call at s) (λ at. IsHostKept call at s)
       (λ at. (census : CensusValue) (who : Owner) (asked : AskedLines) → asked_of at call.words ≡ Ok (asked_with census who asked)
       → AreCounted call s who census asked)
       call.content (λ at tells kept. are_counted never_fall call s at tells kept) keeps.text keeps.hosted,
   shows,
   worlds_show_the_same,
-  shows_homes,
-  homes_show_the_same,
 )

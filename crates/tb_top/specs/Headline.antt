@@ -1,11 +1,9 @@
--- The headline: what is true of each table that a command prints.
+-- The headline: what is true of each table of persons that a command prints.
 use Rattle.std.specs.Prelude.{◌≡◌, ◌≢◌, Ok, IfSome}
 use Rattle.tb_base.specs.declared.status.Status.{Status}
 use Rattle.tb_command.specs.declared.command.Owner.{Owner}
 use Rattle.tb_command.specs.declared.command.Owner.TheVariants as owner
-use Rattle.tb_model.specs.UnitWorlds.{SameHomesShown}
 use Rattle.tb_model.specs.Worlds.{SameShown}
-use Rattle.tb_tables.specs.HomesWorlds.{HomesTableShowsWorlds}
 use Rattle.tb_text.specs.PrintedWorlds.{TableShowsWorlds}
 use Rattle.tb_top.specs.Asking.{CensusValue, asked_of, asked_with}
 use Rattle.tb_top.specs.Calls.{Call}
@@ -25,12 +23,11 @@ AreCounted call s who census (lines.Ports service) =
     (ports_of service call.ports_after)
 AreCounted call s who census (lines.Sums population script) = Unit {0}
 
--- Each table of persons that a run prints is counted so. Each of its lines ends with the text of
--- its own world: of the number and the cell key of its own records, the threshold and their
--- perturbation. So does each line of a table of dwellings, by the dwellings of these records.
+-- Each table that a run prints is counted so. Each of its lines ends with the text of its own
+-- world: of the number and the cell key of its own records, the threshold and their perturbation.
 abbrev pub EachTableIsCounted : Call → Status → Type 0
 EachTableIsCounted call s =
     IfSome call.content (λ at. (census : CensusValue) (who : Owner) (asked : AskedLines)
     → asked_of at call.words ≡ Ok (asked_with census who asked)
     → AreCounted call s who census asked)
-    × TableShowsWorlds × SameShown × HomesTableShowsWorlds × SameHomesShown
+    × TableShowsWorlds × SameShown

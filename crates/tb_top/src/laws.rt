@@ -28,7 +28,6 @@ use tb_disk::Disk;
 use tb_io::{Files, Listen, MemFiles, MemSink, Sink, SureFiles, SureSink};
 use tb_serve::Port;
 use tb_session::laws::numbers_never_fall;
-use tb_tables::laws::each_line_of_dwellings_ends_with_its_world;
 use tb_text::laws::each_line_ends_with_its_world;
 
 /// Runs one command over files and a sink whose counts of faults are the constant 0: no fault of
@@ -107,8 +106,7 @@ pub fn run_in_memory<N: Listen + Send, D: Disk + Send, L: Ledger>(
 /// query over one release of the one chain, which isn't older than any that its caller, the script,
 /// the lane or the port, had seen; and a query is refused only for a stated fault of its text, or
 /// answered `memory`. Nothing is said here of `follow` and of a mirror's first port. `gen` prints
-/// no table. Each line of a table, of dwellings too, ends with the text that the world of its place
-/// shows.
+/// no table.
 pub fn print_counted_tables<F: Files, O: Sink, N: Listen + Send, D: Disk + Send, L: Ledger>(
     rt: &(impl Threads + Wait + Sync),
     alloc: Global,
@@ -132,6 +130,5 @@ pub fn print_counted_tables<F: Files, O: Sink, N: Listen + Send, D: Disk + Send,
 {
     numbers_never_fall();
     each_line_ends_with_its_world();
-    each_line_of_dwellings_ends_with_its_world();
     tablebuilder(rt, alloc, arguments, files, out, net, disk, steps)
 }

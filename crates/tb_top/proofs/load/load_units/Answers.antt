@@ -44,7 +44,7 @@ returns-in_err-read g c =
           (λ contents bytes. census_bytes_in schema input.Links (contents input.Links) >>= (λ links. or_end units_end (units_of schema.persons schema.keys bytes links))) c.in_ok-dwellings.dwellings (Err _)
           (skips-bytes (census_bytes schema) input.Dwellings 5 (omega arith)) (omega arith) refl refl refl (rw c.census_bytes_of-most.ensures at c.in_ok-dwellings.ensures.loads)
           (Loads-refused-units (λ bytes. bytes.items) schema dwellings c.in_ok-links.links _
-          (rw (← c.persons-persons.ensures.limit, ← c.keys-keys.ensures, ← c.deref.ensures.value, ← c.deref-2.ensures.value) c.in_err-read.ensures.refused) (rw c.census_bytes_of-most.ensures at c.in_ok-links.ensures.loads) refl));
+          (rw (← c.persons.ensures.limit, ← c.keys.ensures, ← c.deref.ensures.value, ← c.deref-2.ensures.value) c.in_err-read.ensures.refused) (rw c.census_bytes_of-most.ensures at c.in_ok-links.ensures.loads) refl));
     }
 
 pub returns : goal.returns
@@ -52,7 +52,7 @@ returns g c =
     let schema = c.args.schema.now in
     let dwellings = c.in_ok-dwellings.dwellings.items in
     let read : units_of schema.persons schema.keys dwellings c.in_ok-links.links.items ≡ Ok c.in_ok-read.field-0 = rw
-    (← c.persons-persons.ensures.limit, ← c.keys-keys.ensures, ← c.deref.ensures.value, ← c.deref-2.ensures.value) c.in_ok-read.ensures.ok in
+    (← c.persons.ensures.limit, ← c.keys.ensures, ← c.deref.ensures.value, ← c.deref-2.ensures.value) c.in_ok-read.ensures.ok in
     record {
       loads = Loads-then (λ bytes. bytes.items) (λ units. units) (λ contents. census_bytes_in schema input.Dwellings (contents input.Dwellings))
           (λ contents bytes. census_bytes_in schema input.Links (contents input.Links) >>= (λ links. or_end units_end (units_of schema.persons schema.keys bytes links))) c.in_ok-dwellings.dwellings

@@ -1,4 +1,4 @@
-use Rattle.std.proofs.Common.{◌≡◌, ◌∙◌, sym, ap, subst, ℤ}
+use Rattle.std.proofs.Common.{◌∙◌, sym, ap, subst, ℤ}
 use Rattle.std.specs.Prelude.{Option, IfSome}
 use Rattle.tb_base.specs.Rules.{AreSet, MayBeSet, RulesValue, pvalue_set}
 use Rattle.tb_base.proofs.Setting.{found, found_within}

@@ -1,4 +1,4 @@
-use Rattle.std.proofs.Common.{sym, subst, ap, ◌∙◌, w16, ℤ, ◌≡◌}
+use Rattle.std.proofs.Common.{sym, subst, ap, ◌∙◌, w16, ℤ}
 use Rattle.std.specs.BTreeMap.{insert_entry}
 use Rattle.std.proofs.lemmas.Int.{to_z-of_z}
 use Rattle.tb_base.specs.Rules.{AreSet, place_order}

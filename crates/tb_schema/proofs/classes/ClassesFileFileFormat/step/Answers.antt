@@ -23,7 +23,7 @@ returns-in-Ok-clause-few c = on_ok_then c.take.result (returns-in-Ok-clause-know
 
 pub returns-in-Ok-clause-refused : goal.returns-in-Ok-clause-refused
 returns-in-Ok-clause-refused c =
-    let other = sym c.states_keys.ensures ∙ c.if-states_keys.false in
+    let other = sym c.has_star.ensures ∙ c.if-has_star.false in
     on_err_then c.take.result c.take.ensures.refused
     (λ e fault memory. subst (λ v. at_record c.args.at (step_of classes_file c.args.at v c.args.fields.now) ≡ Err e) c.so_far-2.view_is
     (line_refused c.args.at (record { keys = c.so_far-2.inside.keys; persons = c.so_far-2.inside.persons; variables = variables_view c.so_far-2.inside.variables }) c.args.fields.now (class_line_of c.in-Ok.line) e other c.in-Ok.ensures (fault memory)))
