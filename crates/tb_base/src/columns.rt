@@ -6,13 +6,23 @@ ghost use Rattle.tb_base.specs.Columns.{numbers_in};
 ghost use Rattle.tb_base.specs.Records.{category_at};
 ghost use Rattle.tb_base.specs.Pieces.{code_column, key_column, person_column, width_column};
 ghost use Rattle.tb_base.specs.Pieces.{AreAllColumns, AreChanged, AreColumns, CanHoldAll};
-ghost use Rattle.tb_base.specs.Pieces.{with_last, with_other, without, CanTakeAll, IsRow};
+ghost use Rattle.tb_base.specs.Pieces.{between, with_last, with_other, without};
+ghost use Rattle.tb_base.specs.Pieces.{CanTakeAll, IsRow};
 
 use crate::codes::Codes;
 use crate::column::Column;
 use crate::memory::Memory;
 use crate::records::Record;
 use std::alloc::Global;
+
+/// The elements from one place up to another, as far as they go.
+pub fn part_between<T>(items: &[T], from: usize, to: usize) -> &[T]
+    ensures { result.now ≡ between from to items.now }
+{
+    let (front, _) = items.split_at(to.min(items.len()));
+    let (_, rest) = front.split_at(from.min(front.len()));
+    rest
+}
 
 // A record's category of a variable, and 0 where it has none.
 #[inline]

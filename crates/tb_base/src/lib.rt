@@ -37,6 +37,7 @@ pub use bytes::{are_blanks, blank_at, is_blank, is_text, is_text_byte, skip_blan
 pub use cells::{Cell, know_cells, reduce_keys};
 pub use codes::Codes;
 pub use column::Column;
+pub use columns::part_between;
 pub use keys::{Keys, MOST_KEYS};
 pub use limits::{LAST_ROW, LEAST_PVALUE, MOST_PVALUE, MOST_THRESHOLD};
 pub use memory::Memory;

@@ -5,13 +5,14 @@ use Rattle.std.specs.List.{sum_by}
 use Rattle.std.proofs.Math.Nat.{mod-add-mod, mod-eq_of_lt}
 use Rattle.std.proofs.lemmas.Bool.{lt-ltb, le-ltb, cases_lt}
 use Rattle.std.proofs.lemmas.Bool.Decides.{eqb_tells}
-use Rattle.std.proofs.lemmas.List.{ext_get_or, get_or-map, get_or-replicate, get_or-set_same, get_or-set_other, get_or-take, get_or_default, length-map, length-take-le, take-map, take_all}
+use Rattle.std.proofs.lemmas.List.{drop_all, drop_more, ext_get_or, get_or-map, get_or-replicate, get_or-set_same, get_or-set_other, get_or-take, get_or_default, length-map, length-take-le, take_all}
 use Rattle.std.proofs.lemmas.List.Elements.{All-drop, All-take}
-use Rattle.std.proofs.lemmas.List.Sums.{sum_by_more}
+use Rattle.std.proofs.lemmas.List.Sums.{sum_by-cons, sum_by_more}
 use Rattle.tb_base.specs.declared.cells.Cell.{Cell}
 use Rattle.tb_base.specs.declared.records.Record.{Record}
 use Rattle.tb_base.specs.Cells.{empty_cell, with_key}
 use Rattle.tb_base.specs.Records.{category_at}
+use Rattle.tb_base.proofs.Betweens.{between-map}
 use Rattle.tb_grid.specs.declared.products.TheConstants.{MOST_CELLS}
 use Rattle.tb_base.specs.Pieces.{between, code_column, key_column}
 use Rattle.tb_cube.specs.declared.axes.Axis.{Axis}
@@ -23,14 +24,16 @@ use Rattle.tb_cube.proofs.Adding.{made-with, number-any, rest-put, room-left, Nu
 abbrev pub no_record : Record
 no_record = record { person = 0; key = 0; codes = [] }
 
--- a part of a column
-drop-map : {X Y : Type 0} (f : X → Y) (n : ℕ) (xs : List X) → drop n (map f xs) ≡ map f (drop n xs)
-drop-map f zero xs = refl
-drop-map f (suc n) [] = refl
-drop-map f (suc n) (x ∷ xs) = drop-map f n xs
+-- the axes from one on lead on by that one, and by those behind it
+pub leads-more : (axes : List Axis) (j : ℕ) (axis : Axis) (at : ℕ → ℕ) → j < length axes → axis ≡ get_or axes j axis
+    → number_by (drop j axes) at ≡ at axis.variable * axis.stride + number_by (drop (j + 1) axes) at
+leads-more axes j axis at below is =
+    ap (λ (xs : List Axis). number_by xs at) (drop_more axes j axis below ∙ ap (λ (a : Axis). a ∷ drop (j + 1) axes) (sym is))
+    ∙ sum_by-cons (λ (a : Axis). at a.variable * a.stride) axis (drop (j + 1) axes)
 
-pub between-map : {X Y : Type 0} (f : X → Y) (from to : ℕ) (xs : List X) → between from to (map f xs) ≡ map f (between from to xs)
-between-map f from to xs = ap (λ ys. drop from ys) (take-map f to xs) ∙ drop-map f from (take to xs)
+-- and behind the last one there is none
+pub leads-none : (axes : List Axis) (j : ℕ) (at : ℕ → ℕ) → length axes ≤ j → number_by (drop j axes) at ≡ 0
+leads-none axes j at done = ap (λ (xs : List Axis). number_by xs at) (drop_all j axes done)
 
 -- where no record has a variable there is none that has it
 pub none-left : (piece : List Record) (from to v : ℕ) → All (λ r. length r.codes ≤ v) piece → All (λ r. v < length r.codes) (between from to piece) → (i : ℕ) → i < length (between from to piece) → ⊥
@@ -123,7 +126,7 @@ pub record Turn (axes : List Axis) (start next : List Cell) (records : List Reco
 
 -- of the record at a place: its key and its codes are those of the columns
 module _ (records : List Record) (i : ℕ) (keys : List ℕ) (are : keys ≡ key_column records) (below : i < length keys) where
-  inside : i < length records
+  pub inside : i < length records
   inside = omega (arith, below, ap (λ (ks : List ℕ). length ks) are, length-map records (λ r. r.key))
 
   key-at : get_or keys i 0 ≡ (get_or records i no_record).key
@@ -140,7 +143,7 @@ module _ (records : List Record) (i : ℕ) (keys : List ℕ) (are : keys ≡ key
 
   -- the number of its cell, by one variable and by two
   module _ (axes : List Axis) (start cells : List Cell) (lead : All (LeadsBelow (length start) axes) records) (long : length cells ≡ length start) where
-    at-cell : (n : ℕ) → n ≡ number_by axes (category_at (get_or records i no_record)) → Number axes (length cells) (get_or records i no_record) n
+    pub at-cell : (n : ℕ) → n ≡ number_by axes (category_at (get_or records i no_record)) → Number axes (length cells) (get_or records i no_record) n
     at-cell = number-any axes start cells records i (get_or records i no_record) lead inside (get_or_default records i no_record (get_or records i no_record) inside) long
 
     pub by-one : (of_v : List ℕ) (u : ℕ) → length axes ≡ 1 → of_v ≡ codes_by axes 0 records → u ≡ get_or of_v i 0 * (get_or axes 0 no_axis).stride

@@ -55,6 +55,17 @@ pub fn number_of(axes: &[Axis], one: &Record) -> usize
     number
 }
 
+// How far the category of the record at a place of a piece leads by an axis.
+#[inline]
+fn offset_in(axis: Axis, piece: &Piece, place: usize) -> usize
+    requires { place < length piece.now }
+    ensures { (d : AnyRecord)
+        → result ≡ category_at (slice_index_or piece.now place d) axis.variable * axis.stride }
+{
+    let code = piece.category(place, axis.variable as usize);
+    code as usize * axis.stride as usize
+}
+
 /// The number of the cell of the record at a place of a piece.
 pub fn number_at(axes: &[Axis], piece: &Piece, place: usize) -> usize
     requires there { place < length piece.now }
@@ -64,8 +75,7 @@ pub fn number_at(axes: &[Axis], piece: &Piece, place: usize) -> usize
 {
     let mut number = 0;
     for axis in axes {
-        let code = piece.category(place, axis.variable as usize);
-        number += code as usize * axis.stride as usize;
+        number += offset_in(*axis, piece, place);
     }
     number
 }

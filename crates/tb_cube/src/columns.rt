@@ -22,23 +22,14 @@ ghost use Rattle.tb_cube.specs.Axes.{codes_by, numbers_by, with_all, AreNumbered
 ghost use Rattle.tb_model.specs.declared.rooms.TheConstants.{PAGE_ROOM};
 
 use crate::axes::{Axis, number_at};
-use tb_base::{Cell, Column, MOST_TALLIED, Piece, add_tallies, know_cells};
+use tb_base::{Cell, Column, MOST_TALLIED, Piece, add_tallies, know_cells, part_between};
 use tb_model::PAGE_ROOM;
-
-// The elements from one place up to another, as far as they go.
-fn part<T>(items: &[T], from: usize, to: usize) -> &[T]
-    ensures { result.now ≡ between from to items.now }
-{
-    let (front, _) = items.split_at(to.min(items.len()));
-    let (_, rest) = front.split_at(from.min(front.len()));
-    rest
-}
 
 // The keys from one place of a piece up to another.
 fn keys_in(piece: &Piece, from: usize, to: usize) -> &[u16]
     ensures { result.now ≡ key_column (between from to piece.now) }
 {
-    part(piece.keys(), from, to)
+    part_between(piece.keys(), from, to)
 }
 
 // The codes of an axis' variable, from one place of a piece up to another, where a byte holds each.
@@ -48,7 +39,7 @@ fn bytes_in(piece: &Piece, axis: Axis, from: usize, to: usize) -> Option<&[u8]>
 {
     let column = piece.column(axis.variable as usize)?;
     match column {
-        Column::Narrow(bytes) => Some(part(bytes, from, to)),
+        Column::Narrow(bytes) => Some(part_between(bytes, from, to)),
         Column::Wide(_) => None,
     }
 }
@@ -140,8 +131,8 @@ fn add_offsets(column: &Column, from: usize, to: usize, stride: u32, numbers: &m
         + slice_index (between from to (numbers_in column.now)) i * stride) % 2 ^ 32 }
 {
     match column {
-        Column::Narrow(bytes) => add_bytes(part(bytes, from, to), stride, numbers),
-        Column::Wide(codes) => add_codes(part(codes, from, to), stride, numbers),
+        Column::Narrow(bytes) => add_bytes(part_between(bytes, from, to), stride, numbers),
+        Column::Wide(codes) => add_codes(part_between(codes, from, to), stride, numbers),
     }
 }
 

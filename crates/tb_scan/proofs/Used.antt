@@ -1,12 +1,13 @@
 -- The steps of the variables that a plan uses.
-use Rattle.std.proofs.Common.{◌≡◌, ℕ, ◌+◌, ◌<◌, true, List, length, get_or, ap, ◌∙◌, arith}
+use Rattle.std.proofs.Common.{◌≡◌, ℕ, ◌<◌, true, List, length, get_or, ap, ◌∙◌, arith}
 use Rattle.std.specs.Prelude.{slice_index}
+use Rattle.std.proofs.lemmas.List.{get_or-map}
 use Rattle.std.proofs.lemmas.List.FromFn.{length-map-range_with_len, get_or-map-range_with_len}
 use Rattle.tb_base.specs.declared.records.Record.{Record}
+use Rattle.tb_base.specs.Pieces.{code_column}
 use Rattle.tb_base.specs.Records.{category_at, Fits}
-use Rattle.tb_grid.proofs.Sums.{sum-one, sum-three, sum-two}
 use Rattle.tb_plan.specs.Plans.{PlanValue, uses, vars_of}
-use Rattle.tb_plan.specs.Steps.{step_at, steps_of, number_at}
+use Rattle.tb_plan.specs.Steps.{step_at, steps_of}
 use Rattle.tb_plan.proofs.Sets.{filter-below, filter-passes}
 
 -- the variable at a place among those that are used
@@ -41,24 +42,6 @@ has-step plan steps v r made below fits =
           ∙ get_or-map-range_with_len (step_at plan v) 0 (slice_index plan.shape v) (category_at r v) (category_at r v) 0 (fits.below v below) (omega arith);
     }
 
--- the number of a record by the steps of one variable, of two and of three
-pub number-one : (plan : PlanValue) (at : ℕ → ℕ) (v step : ℕ) → length (vars_of plan) ≡ 1 → v ≡ get_or (vars_of plan) 0 0 → step ≡ step_at plan v (at v) → step ≡ number_at plan at
-number-one plan at v step long is made =
-    let f : ℕ → ℕ = λ w. step_at plan w (at w) in
-    made ∙ ap f is ∙ sum-one f (vars_of plan) 0 long
-
-pub number-two : (plan : PlanValue) (at : ℕ → ℕ) (v w step more : ℕ) → length (vars_of plan) ≡ 2 → v ≡ get_or (vars_of plan) 0 0 → w ≡ get_or (vars_of plan) 1 0
-    → step ≡ step_at plan v (at v) → more ≡ step_at plan w (at w) → step + more ≡ number_at plan at
-number-two plan at v w step more long is is' made made' =
-    let f : ℕ → ℕ = λ x. step_at plan x (at x) in
-    ap (λ x. x + more) (made ∙ ap f is) ∙ ap (λ x. f (get_or (vars_of plan) 0 0) + x) (made' ∙ ap f is') ∙ sum-two f (vars_of plan) 0 long
-
-pub number-three : (plan : PlanValue) (at : ℕ → ℕ) (v w x step more last : ℕ) → length (vars_of plan) ≡ 3
-    → v ≡ get_or (vars_of plan) 0 0 → w ≡ get_or (vars_of plan) 1 0 → x ≡ get_or (vars_of plan) 2 0
-    → step ≡ step_at plan v (at v) → more ≡ step_at plan w (at w) → last ≡ step_at plan x (at x) → step + more + last ≡ number_at plan at
-number-three plan at v w x step more last long is is' is'' made made' made'' =
-    let f : ℕ → ℕ = λ y. step_at plan y (at y) in
-    let a : ℕ = f (get_or (vars_of plan) 0 0) in
-    let b : ℕ = f (get_or (vars_of plan) 1 0) in
-    ap (λ y. y + more + last) (made ∙ ap f is) ∙ ap (λ y. a + y + last) (made' ∙ ap f is') ∙ ap (λ y. a + b + y) (made'' ∙ ap f is'')
-    ∙ sum-three f (vars_of plan) 0 long
+-- the code at a place of a column is the category of the record there
+pub code-at : (piece : List Record) (v place code : ℕ) (d : Record) → place < length piece → code ≡ get_or (code_column piece v) place 0 → code ≡ category_at (get_or piece place d) v
+code-at piece v place code d below is = is ∙ get_or-map (λ (r : Record). category_at r v) piece place d 0 below

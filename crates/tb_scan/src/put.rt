@@ -1,19 +1,17 @@
 // Records put into the cells of their places without Total, a chunk at a time: their numbers are
-// worked out by column, and then their keys are put in.
+// worked out by column, and then their keys are put in, or tallied where there are few cells.
 
-ghost use Rattle.std.specs.Prelude.{◌≡◌, ℕ, List, ◌+◌, ◌-◌, ◌++◌, ◌%◌, ◌<◌, ◌≤◌, cond, length};
-ghost use Rattle.std.specs.Prelude.{◌==◌, ◌^◌, min, slice_index, slice_index_or};
+ghost use Rattle.std.specs.Prelude.{◌≡◌, ℕ, List, ◌+◌, ◌++◌, ◌%◌, ◌<◌, ◌≤◌, ◌==◌, cond, length};
 ghost use Rattle.tb_base.specs.declared.records.Record.{Record as AnyRecord};
-ghost use Rattle.tb_base.specs.declared.tallies.TheConstants.{CHUNK};
-ghost use Rattle.tb_base.specs.Pieces.{between};
-ghost use Rattle.tb_base.specs.Records.{category_at, AllFit};
+ghost use Rattle.tb_base.specs.declared.tallies.TheConstants.{CHUNK, MOST_TALLIED};
+ghost use Rattle.tb_base.specs.Pieces.{between, key_column};
+ghost use Rattle.tb_base.specs.Records.{AllFit};
 ghost use Rattle.tb_base.specs.Parts.{modulus, part_at, weight, Part};
-ghost use Rattle.tb_plan.specs.Plans.{vars_of};
-ghost use Rattle.tb_plan.specs.Steps.{number_at as number_by, steps_of};
-ghost use Rattle.tb_scan.specs.Scanning.{ArePut, Hold};
+ghost use Rattle.tb_scan.specs.Scanning.{numbers_of as numbers_by, ArePut, Hold};
 
-use crate::tallied::{numbers_of, put_by_tallies};
-use tb_base::{CHUNK, Cell, MOST_TALLIED, Piece};
+use crate::numbers::numbers_of;
+use crate::steps::whole_number;
+use tb_base::{CHUNK, Cell, MOST_TALLIED, Piece, add_tallies, part_between};
 use tb_plan::Plan;
 
 // Puts a record's key into the cell of a number; past the cells it does nothing.
@@ -28,64 +26,50 @@ fn put_at(cells: &mut [Cell], number: usize, key: u16)
     }
 }
 
-/// The variable at a place among those that a plan uses, and its steps.
-pub fn used(plan: &Plan, j: usize) -> (u16, &[u32])
-    requires { j < length (vars_of plan.now) }
-    ensures variable { result.0 ≡ slice_index (vars_of plan.now) j }
-    ensures there { result.0 < length plan.now.shape }
-    ensures steps { result.1.now ≡ steps_of plan.now result.0 }
+// The keys from one place of a piece up to another.
+fn keys_in(piece: &Piece, from: usize, to: usize) -> &[u16]
+    ensures { result.now ≡ key_column (between from to piece.now) }
 {
-    let v = plan.vars().at(j);
-    (v, plan.steps(v))
+    part_between(piece.keys(), from, to)
 }
 
-// The number to which the record at a place leads: that of its place without Total, or one past all
-// places where it fails a filter.
-fn number_at(plan: &Plan, piece: &Piece, place: usize) -> usize
-    requires there { place < length piece.now }
+// Puts the records from one place of a piece up to another in, whose numbers these are.
+fn put_each(
+    plan: &Plan,
+    piece: &Piece,
+    from: usize,
+    to: usize,
+    numbers: &[u32],
+    cells: &mut [Cell],
+)
     requires fit { AllFit plan.now.shape piece.now }
-    ensures { (d : AnyRecord)
-        → result ≡ number_by plan.now (category_at (slice_index_or piece.now place d)) }
+    requires numbers { numbers.now ≡ numbers_by plan.now (between from to piece.now) }
+    ensures { ArePut plan.now cells.old (between from to piece.now) cells.new }
 {
-    let mut number = 0;
-    for j in 0..plan.vars().len() {
-        let (v, steps) = used(plan, j);
-        let code = piece.category(place, v as usize);
-        number += steps[code as usize] as usize;
-    }
-    number
-}
-
-// The number to which the record at a place leads, where it is known as far as a `u32` goes.
-#[inline]
-fn whole_number(plan: &Plan, piece: &Piece, place: usize, known: u32) -> usize
-    requires there { place < length piece.now }
-    requires fit { AllFit plan.now.shape piece.now }
-    requires known { (d : AnyRecord)
-        → known ≡ min (number_by plan.now (category_at (slice_index_or piece.now place d)))
-        (2 ^ 32 - 1) }
-    ensures { (d : AnyRecord)
-        → result ≡ number_by plan.now (category_at (slice_index_or piece.now place d)) }
-{
-    if known < u32::MAX {
-        known as usize
-    } else {
-        number_at(plan, piece, place)
+    let keys = keys_in(piece, from, to);
+    for i in 0..keys.len() {
+        let number = whole_number(plan, piece, from + i, numbers[i]);
+        put_at(cells, number, keys[i]);
     }
 }
 
-// Puts the records of a piece in, a chunk at a time.
-fn put_by_numbers(plan: &Plan, piece: &Piece, cells: &mut [Cell])
-    requires fit { AllFit plan.now.shape piece.now }
-    ensures { ArePut plan.now cells.old piece.now cells.new }
+// The same where there are few cells.
+fn tally_each(
+    plan: &Plan,
+    piece: &Piece,
+    from: usize,
+    to: usize,
+    numbers: &[u32],
+    cells: &mut [Cell],
+)
+    requires few { length cells.old ≤ MOST_TALLIED }
+    requires short { length (between from to piece.now) ≤ CHUNK }
+    requires numbers { numbers.now ≡ numbers_by plan.now (between from to piece.now) }
+    ensures { ArePut plan.now cells.old (between from to piece.now) cells.new }
 {
-    let count = piece.len();
-    let mut from = 0;
-    'chunks: while from < count {
-        let to = count.min(from + CHUNK);
-        put_chunk(plan, piece, from, to, cells);
-        from = to;
-    }
+    let _ = plan;
+    let keys = keys_in(piece, from, to);
+    add_tallies(cells, numbers, keys);
 }
 
 // Puts the records from one place of a piece up to another in.
@@ -97,10 +81,24 @@ fn put_chunk(plan: &Plan, piece: &Piece, from: usize, to: usize, cells: &mut [Ce
     ensures { ArePut plan.now cells.old (between from to piece.now) cells.new }
 {
     let numbers = numbers_of(plan, piece, from, to);
-    let keys = piece.keys();
-    for place in from..to {
-        let number = whole_number(plan, piece, place, numbers[place - from]);
-        put_at(cells, number, keys[place]);
+    if cells.len() <= MOST_TALLIED {
+        tally_each(plan, piece, from, to, &numbers[..to - from], cells);
+    } else {
+        put_each(plan, piece, from, to, &numbers[..to - from], cells);
+    }
+}
+
+// Puts the records of a piece in, a chunk at a time.
+fn put_chunks(plan: &Plan, piece: &Piece, cells: &mut [Cell])
+    requires { AllFit plan.now.shape piece.now }
+    ensures { ArePut plan.now cells.old piece.now cells.new }
+{
+    let count = piece.len();
+    let mut from = 0;
+    'chunks: while from < count {
+        let to = from + CHUNK.min(count - from);
+        put_chunk(plan, piece, from, to, cells);
+        from = to;
     }
 }
 
@@ -113,9 +111,5 @@ pub fn put_all(plan: &Plan, piece: &Piece, cells: &mut [Cell])
     ensures held { (before : List AnyRecord) → Hold plan.now cells.old before
         → Hold plan.now cells.new (before ++ piece.now) }
 {
-    if cells.len() <= MOST_TALLIED {
-        put_by_tallies(plan, piece, cells);
-    } else {
-        put_by_numbers(plan, piece, cells);
-    }
+    put_chunks(plan, piece, cells);
 }

@@ -1,7 +1,7 @@
 use Rattle.std.proofs.Common.{List, ℕ, ap, ◌∙◌}
 use Rattle.tb_base.specs.declared.records.Record.{Record}
 use Rattle.tb_base.specs.Pieces.{between}
-use Rattle.tb_cube.proofs.ByColumn.{between-map}
+use Rattle.tb_base.proofs.Betweens.{between-map}
 use Rattle.tb_cube.proofs.columns.keys_in.Goals as goal
 
 pub returns : goal.returns
