@@ -1,7 +1,6 @@
 // Two layouts behind one view: the enum stands in a struct with a model whose view goes by cases,
-// and a private `as_slice` with the view as its clause serves every other method. A table reads
-// every record, and takes as long as memory takes to give their bytes: hence 24 bytes a record, and
-// no `SmallVec` in place.
+// and a private `as_slice` with the view as its clause serves every other method. While microdata
+// is read all of its records stand beside it: hence 24 bytes a record, and no `SmallVec` in place.
 
 ghost use Rattle.std.specs.Prelude.{◌≡◌, ◌<◌, length, slice_index, IfOk};
 
@@ -10,8 +9,8 @@ use smallvec::SmallVec;
 use std::alloc::Global;
 use std::marker::Model;
 
-/// How many category numbers are kept in place, without an allocation of their own. Counting reads
-/// every record, so a record is to be small: with these it has 24 bytes.
+/// How many category numbers are kept in place, without an allocation of their own: with these a
+/// record has 24 bytes.
 const IN_PLACE: usize = 7;
 
 /// How many are kept in one allocation, where they are more.

@@ -7,6 +7,7 @@ use Rattle.std.proofs.lemmas.Bool.Decides.{eqb_tells}
 use Rattle.std.proofs.lemmas.List.{take_more, get_or-map, get_or-take}
 use Rattle.tb_base.specs.declared.records.Record.{Record}
 use Rattle.tb_base.specs.Persons.{has_person, AreDistinct}
+use Rattle.tb_base.specs.Pieces.{person_column}
 use Rattle.tb_model.specs.Units.{PairValue}
 use Rattle.tb_grid.proofs.Sums.{eq-swap}
 use Rattle.tb_units.specs.Pairs.{pair_at}
@@ -37,6 +38,14 @@ pub noted-more : (f : Record → ℕ) (links : List PairValue) (chunk : List Rec
 noted-more f links chunk j one person number old mid new below at is is' a before =
     subst (λ rs. AreNoted f links rs old new) (sym (take_more chunk j one below ∙ ap (λ r. take j chunk ++ r ∷ []) (sym at)))
     (noted-then f links (take j chunk) (one ∷ []) old mid new before (noted-one f links one person number mid new is is' a))
+
+-- no record
+abbrev pub no_record : Record
+no_record = record { person = 0; key = 0; codes = [] }
+
+-- the person of a record of a chunk
+pub person-at : (chunk : List Record) (persons : List ℕ) (j : ℕ) → persons ≡ person_column chunk → j < length chunk → get_or persons j 0 ≡ (get_or chunk j no_record).person
+person-at chunk persons j are below = ap (λ (ps : List ℕ). get_or ps j 0) are ∙ get_or-map (λ (r : Record). r.person) chunk j no_record 0 below
 
 -- the number of a record of a chunk
 pub found-at : (f : Record → ℕ) (chunk : List Record) (found : List ℕ) (j : ℕ) (r : Record) → j < length chunk → r ≡ get_or chunk j r → take (length chunk) found ≡ map f chunk → get_or found j 0 ≡ f r

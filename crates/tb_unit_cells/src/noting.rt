@@ -1,13 +1,13 @@
 // The number to which each link leads, noted at the link's place.
 
-ghost use Rattle.std.specs.Prelude.{◌≡◌, ◌+◌, ◌≤◌, flat_map, length};
+ghost use Rattle.std.specs.Prelude.{◌≡◌, ◌≤◌, flat_map, length};
 ghost use Rattle.tb_base.specs.Pieces.{between};
 ghost use Rattle.tb_base.specs.Records.{AllFit};
 ghost use Rattle.tb_base.specs.declared.tallies.TheConstants.{CHUNK};
 ghost use Rattle.tb_unit_cells.specs.Noting.{number_in, AreNoted};
 
 use crate::link_numbers::note;
-use tb_base::{CHUNK, Piece};
+use tb_base::{CHUNK, Piece, part_between};
 use tb_plan::Plan;
 use tb_release::Lent;
 use tb_scan::numbers_of;
@@ -25,21 +25,20 @@ fn note_chunk(
 ) -> usize
     requires long { length numbers.old ≡ length units.now.links }
     requires fit { AllFit plan.now.shape (between from to piece.now) }
-    requires there { to ≤ length piece.now }
-    requires few { to ≤ from + CHUNK }
+    requires few { length (between from to piece.now) ≤ CHUNK }
     ensures { AreNoted (number_in plan.now) units.now.links (between from to piece.now)
         numbers.old numbers.new }
 {
     let found = numbers_of(plan, piece, from, to);
-    let persons = piece.persons();
+    let persons = part_between(piece.persons(), from, to);
     let mut guess = start;
-    for place in from..to {
-        guess = note(units, persons[place], found[place - from], guess, numbers);
+    for j in 0..persons.len() {
+        guess = note(units, persons[j], found[j], guess, numbers);
     }
     guess
 }
 
-// Notes the numbers of a piece's records.
+// Notes the numbers of a piece's records, a chunk at a time.
 fn note_piece(
     units: &Units,
     plan: &Plan,
@@ -55,7 +54,7 @@ fn note_piece(
     let mut guess = start;
     let mut from = 0;
     'chunks: while from < count {
-        let to = count.min(from + CHUNK);
+        let to = from + CHUNK.min(count - from);
         guess = note_chunk(units, plan, piece, from, to, guess, numbers);
         from = to;
     }
