@@ -57,10 +57,11 @@ pub fn number_of(axes: &[Axis], one: &Record) -> usize
 
 // How far the category of the record at a place of a piece leads by an axis.
 #[inline]
-fn offset_in(axis: Axis, piece: &Piece, place: usize) -> usize
+fn offset_in(axis: &Axis, piece: &Piece, place: usize) -> usize
     requires { place < length piece.now }
     ensures { (d : AnyRecord)
-        → result ≡ category_at (slice_index_or piece.now place d) axis.variable * axis.stride }
+        → result ≡ category_at (slice_index_or piece.now place d) axis.now.variable
+        * axis.now.stride }
 {
     let code = piece.category(place, axis.variable as usize);
     code as usize * axis.stride as usize
@@ -75,7 +76,7 @@ pub fn number_at(axes: &[Axis], piece: &Piece, place: usize) -> usize
 {
     let mut number = 0;
     for axis in axes {
-        number += offset_in(*axis, piece, place);
+        number += offset_in(axis, piece, place);
     }
     number
 }

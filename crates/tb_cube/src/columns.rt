@@ -139,17 +139,18 @@ fn add_offsets(column: &Column, from: usize, to: usize, stride: u32, numbers: &m
 // Adds how far the code of each record between two places of a piece leads by an axis, of which each
 // has the variable.
 fn add_axis(
-    axis: Axis,
+    axis: &Axis,
     piece: &Piece,
     from: usize,
     to: usize,
     numbers: &mut [u32; PAGE_ROOM],
 )
     requires few { length (between from to piece.now) ≤ PAGE_ROOM }
-    requires there { All (λ r. axis.variable < length r.codes) (between from to piece.now) }
+    requires there { All (λ r. axis.now.variable < length r.codes) (between from to piece.now) }
     ensures { (i : ℕ) → i < length (between from to piece.now)
         → slice_index numbers.new i ≡ (slice_index numbers.old i
-        + slice_index (code_column (between from to piece.now) axis.variable) i * axis.stride)
+        + slice_index (code_column (between from to piece.now) axis.now.variable) i
+        * axis.now.stride)
         % 2 ^ 32 }
 {
     match piece.column(axis.variable as usize) {
@@ -173,7 +174,7 @@ fn write_numbers(
         ≡ numbers_by axes.now (between from to piece.now) }
 {
     for axis in axes {
-        add_axis(*axis, piece, from, to, numbers);
+        add_axis(axis, piece, from, to, numbers);
     }
 }
 

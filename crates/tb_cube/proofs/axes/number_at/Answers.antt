@@ -13,7 +13,7 @@ overflow_add-number c =
       arith,
       c.loop-axis.invariant,
       leads-more c.args.axes.now c.loop-axis.axis-index c.axis-item.result at c.loop-axis-test.true c.axis-item.is,
-      c.offset_in.ensures no_record,
+      c.offset_in-number.ensures no_record,
       (c.requires.lead no_record).low,
     )
 
@@ -24,7 +24,7 @@ loop-axis-preserved c =
       arith,
       c.loop-axis.invariant,
       leads-more c.args.axes.now c.loop-axis.axis-index c.axis-item.result at c.loop-axis-test.true c.axis-item.is,
-      c.offset_in.ensures no_record,
+      c.offset_in-number.ensures no_record,
     )
 
 pub returns : goal.returns

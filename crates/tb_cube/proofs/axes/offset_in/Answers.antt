@@ -6,5 +6,5 @@ use Rattle.tb_cube.proofs.axes.offset_in.Goals as goal
 
 pub returns : goal.returns
 returns c = λ d.
-    ap (λ n. n * c.args.axis.stride)
-    (c.category-code.ensures ∙ get_or-map (λ (r : Record). category_at r c.args.axis.variable) c.args.piece.now c.args.place d 0 c.requires)
+    ap (λ n. n * c.args.axis.now.stride)
+    (c.category-code.ensures ∙ get_or-map (λ (r : Record). category_at r c.args.axis.now.variable) c.args.piece.now c.args.place d 0 c.requires)

@@ -6,5 +6,5 @@ use Rattle.tb_cube.proofs.columns.keys_in.Goals as goal
 
 pub returns : goal.returns
 returns c =
-    c.part.ensures ∙ ap (λ (keys : List ℕ). between c.args.from c.args.to keys) c.keys.ensures
+    c.part_between.ensures ∙ ap (λ (keys : List ℕ). between c.args.from c.args.to keys) c.keys.ensures
     ∙ between-map (λ (r : Record). r.key) c.args.from c.args.to c.args.piece.now
