@@ -4,6 +4,7 @@ ghost use Rattle.std.specs.Prelude.{◌≡◌, ℕ, All, ◌+◌, ◌-◌, ◌<�
 ghost use Rattle.std.specs.Prelude.{slice_index, slice_index_or};
 ghost use Rattle.tb_base.specs.declared.records.Record.{Record as AnyRecord};
 ghost use Rattle.tb_base.specs.declared.tallies.TheConstants.{CHUNK};
+ghost use Rattle.tb_base.specs.Columns.{numbers_in};
 ghost use Rattle.tb_base.specs.Pieces.{between};
 ghost use Rattle.tb_base.specs.Records.{category_at, AllFit};
 ghost use Rattle.tb_plan.specs.Steps.{step_at, steps_of};
@@ -41,6 +42,26 @@ fn add_of_codes(steps: &[u32], codes: &[u16], numbers: &mut [u32; CHUNK])
     }
 }
 
+// The same of a column, from one place up to another.
+fn add_of_column(
+    steps: &[u32],
+    column: &Column,
+    from: usize,
+    to: usize,
+    numbers: &mut [u32; CHUNK],
+)
+    requires there { All (λ c. c < length steps.now) (between from to (numbers_in column.now)) }
+    requires few { length (between from to (numbers_in column.now)) ≤ CHUNK }
+    ensures { (i : ℕ) → i < length (between from to (numbers_in column.now))
+        → slice_index numbers.new i ≡ min (slice_index numbers.old i + slice_index steps.now
+        (slice_index (between from to (numbers_in column.now)) i)) (2 ^ 32 - 1) }
+{
+    match column {
+        Column::Narrow(bytes) => add_of_bytes(steps, part_between(bytes, from, to), numbers),
+        Column::Wide(codes) => add_of_codes(steps, part_between(codes, from, to), numbers),
+    }
+}
+
 // Adds the steps of the categories of a variable, of the records from one place of a piece up to
 // another. Where there is no column there is no record, since each has all variables of the plan.
 fn add_steps(
@@ -62,12 +83,7 @@ fn add_steps(
 {
     let _ = plan;
     match piece.column(v as usize) {
-        Some(Column::Narrow(bytes)) => {
-            add_of_bytes(steps, part_between(bytes, from, to), numbers);
-        }
-        Some(Column::Wide(codes)) => {
-            add_of_codes(steps, part_between(codes, from, to), numbers);
-        }
+        Some(column) => add_of_column(steps, column, from, to, numbers),
         None => (),
     }
 }
