@@ -75,8 +75,8 @@ pub fn number_at(axes: &[Axis], piece: &Piece, place: usize) -> usize
         → result ≡ number_by axes.now (category_at (slice_index_or piece.now place d)) }
 {
     let mut number = 0;
-    for axis in axes {
-        number += offset_in(axis, piece, place);
+    for j in 0..axes.len() {
+        number += offset_in(&axes[j], piece, place);
     }
     number
 }

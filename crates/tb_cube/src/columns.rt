@@ -173,8 +173,8 @@ fn write_numbers(
     ensures { take (length (between from to piece.now)) numbers.new
         ≡ numbers_by axes.now (between from to piece.now) }
 {
-    for axis in axes {
-        add_axis(axis, piece, from, to, numbers);
+    for j in 0..axes.len() {
+        add_axis(&axes[j], piece, from, to, numbers);
     }
 }
 

@@ -3,8 +3,8 @@ use Rattle.tb_base.specs.Pieces.{between}
 use Rattle.tb_cube.proofs.ByColumn.{NumberedBy}
 use Rattle.tb_cube.proofs.columns.write_numbers.Given as goal
 
-abbrev pub invariant-loop-axis : goal.invariant-loop-axis
-invariant-loop-axis l = record {
+abbrev pub invariant-loop-j : goal.invariant-loop-j
+invariant-loop-j l = record {
   long : length l.numbers ≡ 1024;
-  so_far : NumberedBy (take l.axis-index l.axes) (between l.from l.to l.piece) l.numbers;
+  so_far : NumberedBy (take l.j l.axes) (between l.from l.to l.piece) l.numbers;
 }
