@@ -12,3 +12,4 @@ pub mod RoomLemmas
 pub mod StampLemmas
 pub mod LentLemmas
 pub mod NumberLemmas
+pub mod GroupLemmas

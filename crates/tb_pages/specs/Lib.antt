@@ -1,4 +1,5 @@
 pub mod Pages
+pub mod Groups
 pub mod PageNumbers
 pub mod Books
 pub mod Fillings

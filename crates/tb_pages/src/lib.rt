@@ -15,6 +15,7 @@
 mod book;
 mod cutting;
 mod filling;
+mod group;
 pub mod laws;
 mod lent;
 mod lists;

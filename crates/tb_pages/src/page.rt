@@ -1,4 +1,5 @@
-ghost use Rattle.std.specs.Prelude.{◌≡◌, ◌==◌, ◌<◌, ◌≤◌, ◌++◌, ◌∷◌, [], true, IfOk, OnOk, List};
+ghost use Rattle.std.specs.Prelude.{◌≡◌, ◌==◌, ◌<◌, ◌≤◌, ◌++◌, ◌∷◌, [], true, List};
+ghost use Rattle.std.specs.Prelude.{IfOk, OnErr, OnOk};
 ghost use Rattle.std.specs.Prelude.{length, position, remove, slice_get, slice_set, Some};
 ghost use Rattle.std.specs.List.{list_any};
 ghost use Rattle.tb_base.specs.declared.records.Record.{Record as AnyRecord};
@@ -91,40 +92,47 @@ impl Page {
         place_in(self.piece.persons(), person)
     }
 
-    /// Gives it another stamp.
-    pub(crate) fn restamp(&mut self, stamp: u32)
-        ensures { self.new ≡ page_of self.old.records stamp }
-    {
-        self.stamp = stamp;
-    }
-
-    /// Puts a record last.
-    pub(crate) fn push(&mut self, one: Record) -> Result<(), Memory>
+    /// Puts a record last, under this stamp. Where the call is out of memory, nothing has changed.
+    pub(crate) fn add(&mut self, stamp: u32, one: &Record) -> Result<(), Memory>
         requires { length self.old.records < PAGE_ROOM }
-        ensures { OnOk result (self.new ≡ page_of (self.old.records ++ one ∷ []) self.old.stamp) }
+        ensures ok { OnOk result (self.new ≡ page_of (self.old.records ++ one.now ∷ []) stamp) }
+        ensures err { OnErr result (self.new ≡ self.old) }
     {
-        self.piece.push(&one)?;
+        self.piece.push(one)?;
+        self.stamp = stamp;
         Ok(())
     }
 
-    /// Takes a record out, and closes up. It takes memory for the record.
-    pub(crate) fn take_out(&mut self, place: usize) -> Result<Record, Memory>
+    /// Takes a record out, closes up, and has this stamp. It takes memory for the record; where
+    /// that is refused, nothing has changed.
+    pub(crate) fn take_out(&mut self, stamp: u32, place: usize) -> Result<Record, Memory>
         requires { place < length self.old.records }
         ensures taken { IfOk result (λ one. slice_get self.old.records place ≡ Some one) }
-        ensures new { OnOk result
-            (self.new ≡ page_of (remove self.old.records place) self.old.stamp) }
+        ensures ok { OnOk result (self.new ≡ page_of (remove self.old.records place) stamp) }
+        ensures err { OnErr result (self.new ≡ self.old) }
     {
-        self.piece.take_out(place)
+        let one = self.piece.take_out(place)?;
+        self.stamp = stamp;
+        Ok(one)
     }
 
-    /// Puts another record in the place of one, which is returned. It takes memory for that one.
-    pub(crate) fn replace(&mut self, place: usize, new: Record) -> Result<Record, Memory>
+    /// Puts another record in the place of one, which is returned, under this stamp. It takes
+    /// memory for that one; where it is refused, nothing has changed.
+    pub(crate) fn replace(
+        &mut self,
+        stamp: u32,
+        place: usize,
+        new: &Record,
+    ) -> Result<Record, Memory>
         requires { place < length self.old.records }
         ensures taken { IfOk result (λ one. slice_get self.old.records place ≡ Some one) }
-        ensures new { OnOk result
-            (self.new ≡ page_of (slice_set self.old.records place new) self.old.stamp) }
+        ensures ok { OnOk result
+            (self.new ≡ page_of (slice_set self.old.records place new.now) stamp) }
+        ensures err { OnErr result (self.new ≡ self.old) }
     {
-        self.piece.replace(place, &new)
+        let one = self.piece.replace(place, new)?;
+        self.stamp = stamp;
+        Ok(one)
     }
 }
 
