@@ -118,7 +118,35 @@ changed_group v items pages i old new f stamp are seen within was is =
       long = length-set pages i y;
     }
 
+-- what is kept of them
+pub kept-changed : {Y : Type 0} (v : Y → List PageValue) (items new : List Y) (pages after : List PageValue) (count : ℕ) (filled filled' : Bool) → AreKept (map v items) count filled
+    → pages_in (map v items) ≡ pages → Changed v new pages after → (filled' ≡ true → AreFilled after) → AreKept (map v new) count filled'
+kept-changed v items new pages after count filled filled' kept seen changed none = record {
+  grouped = changed.grouped;
+  counted = kept.counted ∙ ap length seen ∙ sym changed.long ∙ sym (ap length changed.seen);
+  none_empty = λ is. subst AreFilled (sym changed.seen) (none is);
+}
+
+pub kept-same : {Y : Type 0} (v : Y → List PageValue) (items new : List Y) (count : ℕ) (filled filled' : Bool) → AreKept (map v items) count filled → map v new ≡ map v items
+    → (filled' ≡ true → filled ≡ true) → AreKept (map v new) count filled'
+kept-same v items new count filled filled' kept same none = record {
+  grouped = subst AreGroups (sym same) kept.grouped;
+  counted = kept.counted ∙ ap (λ gs. length (pages_in gs)) (sym same);
+  none_empty = λ is. subst (λ gs. AreFilled (pages_in gs)) (sym same) (kept.none_empty (none is));
+}
+
 -- ---- no page is empty
+-- of all pages, as they are seen
+pub filled-seen : (groups : List (List PageValue)) (pages : List PageValue) (count : ℕ) (filled : Bool) → AreKept groups count filled → pages_in groups ≡ pages → filled ≡ true → AreFilled pages
+filled-seen groups pages count filled kept seen is = subst AreFilled seen (kept.none_empty is)
+
+-- where a page has two records one may go
+pub some-left : (filled filled' : Bool) (rs : List Record) (count at : ℕ) → filled' ≡ (filled && ltb 1 count) → count ≡ length rs → at < length rs → filled' ≡ true → (filled ≡ true) × (0 < length (remove rs at))
+some-left filled filled' rs count at both is below all =
+    let parts = and_parts filled (ltb 1 count) (sym both ∙ all) in
+    let more : 1 < count = ltb-true 1 count parts.1 in
+    (parts.0, omega (arith, more, is, length-remove {xs = rs} {i = at} below))
+
 pub filled-set : (pages : List PageValue) (i : ℕ) (rs : List Record) (stamp : ℕ) → AreFilled pages → 0 < length rs → AreFilled (with_page pages i rs stamp)
 filled-set pages i rs stamp all some = All-set (λ (p : PageValue). 0 < length p.records) pages i (page_of rs stamp) some all
 

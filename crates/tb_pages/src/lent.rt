@@ -1,7 +1,8 @@
 ghost use Rattle.std.specs.Prelude.{◌≡◌, ◌<◌, ◌≤◌, ◌++◌, ◌∷◌, [], if◌then◌else◌, IfOk, OnOk};
 ghost use Rattle.std.specs.Prelude.{flat_map, length, slice_index_or};
 ghost use Rattle.tb_pages.specs.declared.pages.TheConstants.{PAGES};
-ghost use Rattle.tb_pages.specs.Lents.{filled_from, pieces_of};
+ghost use Rattle.std.specs.Option.{option_map};
+ghost use Rattle.tb_pages.specs.Lents.{filled_from, numbers_in, pieces_of, ArePlaces};
 ghost use Rattle.tb_model.specs.Pages.{records_in};
 
 use crate::pages::Pages;
@@ -10,23 +11,24 @@ use std::marker::Model;
 use tb_base::{Memory, Piece};
 
 /// Records in pages, in pieces: the pages that aren't empty. They are all the pieces' records in
-/// order.
+/// order. Where no page is empty there is no list of places.
 #[derive(Drop)]
 pub struct Lent<'a> {
     pages: &'a Pages,
-    places: &'a [u32],
+    places: &'a Option<Vec<u32>>,
 }
 
 impl<'a> Model for Lent<'a> {
     ghost use Rattle.std.specs.Prelude.{List};
+    ghost use Rattle.std.specs.Option.{option_map};
     ghost use Rattle.tb_base.specs.declared.records.Record.{Record};
-    ghost use Rattle.tb_pages.specs.Lents.{HavePages, pieces_at};
+    ghost use Rattle.tb_pages.specs.Lents.{numbers_in, pieces_by, HavePlaces};
 
     ghost Value = { List (List Record) };
 
-    ghost view = { λ l. pieces_at l.pages.now l.places.now };
+    ghost view = { λ l. pieces_by l.pages.now (option_map numbers_in l.places.now) };
 
-    ghost invariant = { λ l. HavePages l.pages.now l.places.now };
+    ghost invariant = { λ l. HavePlaces l.pages.now (option_map numbers_in l.places.now) };
 }
 
 // Notes a number last, where the page has some records.
@@ -40,8 +42,8 @@ fn note_if(places: &mut Vec<u32>, number: u32, has_some: bool) -> Result<(), Mem
     Ok(())
 }
 
-/// The numbers of the pages that aren't empty.
-pub fn filled_places(alloc: Global, pages: &Pages) -> Result<Vec<u32>, Memory>
+// The numbers of the pages that aren't empty.
+fn all_places(alloc: Global, pages: &Pages) -> Result<Vec<u32>, Memory>
     requires { length pages.now ≤ PAGES }
     ensures { IfOk result (λ places. places.items ≡ filled_from 0 pages.now) }
 {
@@ -54,10 +56,22 @@ pub fn filled_places(alloc: Global, pages: &Pages) -> Result<Vec<u32>, Memory>
     Ok(places)
 }
 
+/// The numbers of the pages that aren't empty, or none where no page is empty.
+pub fn filled_places(alloc: Global, pages: &Pages) -> Result<Option<Vec<u32>>, Memory>
+    requires { length pages.now ≤ PAGES }
+    ensures { IfOk result (λ places. ArePlaces pages.now (option_map numbers_in places)) }
+{
+    if pages.are_filled() {
+        return Ok(None);
+    }
+    let places = all_places(alloc, pages)?;
+    Ok(Some(places))
+}
+
 impl<'a> Lent<'a> {
     /// The pages with the numbers of those that aren't empty. It takes no memory.
-    pub fn of(pages: &'a Pages, places: &'a [u32]) -> Lent<'a>
-        requires { places.now ≡ filled_from 0 pages.now }
+    pub fn of(pages: &'a Pages, places: &'a Option<Vec<u32>>) -> Lent<'a>
+        requires { ArePlaces pages.now (option_map numbers_in places.now) }
         ensures pieces { result ≡ pieces_of pages.now }
         ensures records { flat_map (λ piece. piece) result ≡ records_in pages.now }
     {
@@ -68,7 +82,10 @@ impl<'a> Lent<'a> {
     pub fn pieces(&self) -> usize
         ensures { result ≡ length self.now }
     {
-        self.places.len()
+        match self.places {
+            Some(places) => places.len(),
+            None => self.pages.len(),
+        }
     }
 
     /// The piece at place `i`, from 0.
@@ -76,6 +93,9 @@ impl<'a> Lent<'a> {
         requires { i < length self.now }
         ensures { result.now ≡ slice_index_or self.now i [] }
     {
-        self.pages.page(self.places[i] as usize)
+        match self.places {
+            Some(places) => self.pages.page(places[i] as usize),
+            None => self.pages.page(i),
+        }
     }
 }

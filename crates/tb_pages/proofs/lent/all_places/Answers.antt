@@ -3,7 +3,7 @@ use Rattle.std.specs.Prelude.{if◌then◌else◌}
 use Rattle.tb_pages.specs.Lents.{filled_from}
 use Rattle.tb_pages.specs.Pages.{no_page}
 use Rattle.tb_pages.proofs.LentLemmas.{filled_more}
-use Rattle.tb_pages.proofs.lent.filled_places.Goals as goal
+use Rattle.tb_pages.proofs.lent.all_places.Goals as goal
 
 pub loop-i-preserved : goal.loop-i-preserved
 loop-i-preserved c =
