@@ -233,3 +233,38 @@ pub added_new : (stamp : ℕ) (r : Record) (pages : List PageValue) → last_has
 added_new stamp r [] is = refl
 added_new stamp r (p ∷ []) is = rw is refl
 added_new stamp r (p ∷ (q ∷ ps)) is = ap (λ qs. p ∷ qs) (added_new stamp r (q ∷ ps) is)
+
+-- the last group of some that are seen so
+pub last_pushed : {Y : Type 0} (v : Y → List PageValue) (items : List Y) (n : ℕ) (old new : Y) (p : PageValue) → AreGroups (map v items) → last_is_open (map v items) ≡ true → n ≡ length items - 1 → n < length items
+    → old ≡ get_or items n old → v new ≡ v old ++ p ∷ [] → Grown (map v items) (map v (set items n new)) p
+last_pushed v items n old new p are open last within was is =
+    let gs : List (List PageValue) = map v items in
+    let place : length gs - 1 ≡ n = omega (arith, last, length-map items v) in
+    let group : get_or gs n [] ≡ v old = get_or-map v items n old [] within ∙ ap v (sym was) in
+    let all : set gs (length gs - 1) (get_or gs (length gs - 1) [] ++ p ∷ []) ≡ map v (set items n new) =
+    ap (λ k. set gs k (get_or gs k [] ++ p ∷ [])) place ∙ ap (λ g. set gs n (g ++ p ∷ [])) group ∙ ap (λ g. set gs n g) (sym is) ∙ sym (map-set v items n new) in
+    subst (λ (ns : List (List PageValue)). Grown gs ns p) all (pushed_last gs p are open)
+
+-- a new group behind them
+pub group_pushed : {Y : Type 0} (v : Y → List PageValue) (items after : List Y) (new : Y) (p : PageValue) → AreGroups (map v items) → last_is_open (map v items) ≡ false → v new ≡ p ∷ [] → after ≡ items ++ new ∷ []
+    → Grown (map v items) (map v after) p
+group_pushed v items after new p are full is made =
+    let all : map v items ++ (p ∷ []) ∷ [] ≡ map v after = ap (λ g. map v items ++ g ∷ []) (sym is) ∙ sym (ap (map v) made ∙ map-append v items (new ∷ [])) in
+    subst (λ (ns : List (List PageValue)). Grown (map v items) ns p) all (pushed_group (map v items) p are full)
+
+-- and no page of all is empty, where none was and the new one isn't
+pub filled-push : (pages : List PageValue) (p : PageValue) (filled filled' : Bool) → (filled ≡ true → AreFilled pages) → filled' ≡ (filled && ltb 0 (length p.records)) → filled' ≡ true → AreFilled (pages ++ p ∷ [])
+filled-push pages p filled filled' before both all =
+    let parts = and_parts filled (ltb 0 (length p.records)) (sym both ∙ all) in
+    All-push (λ (q : PageValue). 0 < length q.records) pages p (before parts.0) (ltb-true 0 (length p.records) parts.1)
+
+pub kept-pushed : (gs new : List (List PageValue)) (p : PageValue) (count count' : ℕ) (filled filled' : Bool) → AreKept gs count filled → AreGroups new → pages_in new ≡ pages_in gs ++ p ∷ [] → count' ≡ count + 1
+    → filled' ≡ (filled && ltb 0 (length p.records)) → AreKept new count' filled'
+kept-pushed gs new p count count' filled filled' kept are seen more both = record {
+  grouped = are;
+  counted = omega (arith, more, kept.counted, ap length seen, length-append (pages_in gs) (p ∷ []));
+  none_empty = λ all. subst AreFilled (sym seen) (filled-push (pages_in gs) p filled filled' kept.none_empty both all);
+}
+
+pub none-kept : AreKept [] 0 true
+none-kept = record { grouped = tt; counted = refl; none_empty = λ _. λ k d below. absurd (omega (arith, below)) }
