@@ -73,7 +73,7 @@ all_behind ps zs (y ∷ ys) room =
     ∙ all_behind ps (zs ++ y ∷ []) ys (let n = length-append zs (y ∷ []) in omega arith)
     ∙ ap (λ rs. ps ++ page_of rs 0 ∷ []) (append_assoc zs (y ∷ []) ys)
 
-are_full : (xs : List Record) (k : ℕ) → length xs ≡ PAGE_ROOM * k → (length (cut xs) ≡ 0) ⊎ (PAGE_ROOM ≤ last_length (cut xs))
+pub are_full : (xs : List Record) (k : ℕ) → length xs ≡ PAGE_ROOM * k → (length (cut xs) ≡ 0) ⊎ (PAGE_ROOM ≤ last_length (cut xs))
 are_full [] k is = inl refl
 are_full (x ∷ xs) k is =
     let packed = packed_cut (x ∷ xs) (omega arith) in
@@ -81,7 +81,7 @@ are_full (x ∷ xs) k is =
     let low = packed.low in
     let high = packed.high in inr (omega arith)
 
-cut_behind : (xs ys : List Record) (k : ℕ) → length xs ≡ PAGE_ROOM * k → 0 < length ys → length ys ≤ PAGE_ROOM → cut (xs ++ ys) ≡ cut xs ++ page_of ys 0 ∷ []
+pub cut_behind : (xs ys : List Record) (k : ℕ) → length xs ≡ PAGE_ROOM * k → 0 < length ys → length ys ≤ PAGE_ROOM → cut (xs ++ ys) ≡ cut xs ++ page_of ys 0 ∷ []
 cut_behind xs [] k is some room = absurd (omega arith)
 cut_behind xs (y ∷ ys) k is some room =
     fold-append (λ ps r. with_added 0 r ps) [] xs (y ∷ ys)

@@ -13,3 +13,4 @@ pub mod StampLemmas
 pub mod LentLemmas
 pub mod NumberLemmas
 pub mod GroupLemmas
+pub mod SoFarLemmas

@@ -8,3 +8,4 @@ pub mod Stocks
 pub mod Rooms
 pub mod Stamps
 pub mod Lents
+pub mod SoFar

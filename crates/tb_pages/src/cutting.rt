@@ -93,9 +93,9 @@ fn cut_from(lists: &mut Vec<Vec<Record>>, most: usize) -> Result<Vec<Record>, Me
     }
 }
 
-// The last so many records of several lists, cut off. Where they all stand in the last list, each
-// is moved once.
-fn take_last(lists: &mut Vec<Vec<Record>>, count: usize) -> Result<Vec<Record>, Memory>
+/// The last so many records of several lists, cut off. Where they all stand in the last list, each
+/// is moved once.
+pub(crate) fn take_last(lists: &mut Vec<Vec<Record>>, count: usize) -> Result<Vec<Record>, Memory>
     requires some { 0 < count }
     requires there { count ≤ length (flat_map (λ list. list.items) lists.old.items) }
     ensures count { IfOk result (λ last. length last.items ≡ count) }

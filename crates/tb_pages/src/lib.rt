@@ -24,6 +24,7 @@ mod page;
 mod pages;
 mod register;
 mod shard;
+mod so_far;
 mod stock;
 
 pub use book::{Book, SHARDS};
@@ -32,4 +33,5 @@ pub use number::PageNumber;
 pub use pages::{PAGES, Pages};
 pub use register::{Register, Spot};
 pub use shard::Entry;
+pub use so_far::PagesSoFar;
 pub use stock::Stock;

@@ -235,7 +235,7 @@ impl Pages {
     }
 
     // These pages, shared.
-    fn grouped(alloc: Global, list: &[Arc<Page>]) -> Result<Pages, Memory>
+    pub(crate) fn grouped(alloc: Global, list: &[Arc<Page>]) -> Result<Pages, Memory>
         ensures { IfOk result (λ pages. pages ≡ map arc_value list.now) }
     {
         let mut pages = Pages::none(alloc);
