@@ -25,7 +25,7 @@ use tb_pages::{Lent, Register, Stock, filled_places};
 #[derive(Drop)]
 pub struct Release {
     stock: Stock,
-    filled: Vec<u32>,
+    filled: Option<Vec<u32>>,
     most: usize,
     number: u32,
     changes: u32,
@@ -37,7 +37,8 @@ impl Model for Release {
     ghost use Rattle.std.specs.Prelude.{◌≡◌};
     ghost use Rattle.std.specs.Arc.{arc_value};
     ghost use Rattle.tb_model.specs.Releases.{ReleaseValue, release_code};
-    ghost use Rattle.tb_pages.specs.Lents.{filled_from};
+    ghost use Rattle.std.specs.Option.{option_map};
+    ghost use Rattle.tb_pages.specs.Lents.{numbers_in, ArePlaces};
     ghost use Rattle.tb_release.specs.Releases.{IsKept, stocked};
 
     ghost Value = { ReleaseValue };
@@ -47,7 +48,7 @@ impl Model for Release {
     ghost view = { λ r. stocked r.stock r.most r.number r.changes r.edits (arc_value r.rules) };
 
     ghost invariant = { λ r. IsKept r.stock r.most r.number r.changes r.edits (arc_value r.rules)
-        × (r.filled.items ≡ filled_from 0 r.stock.pages) };
+        × ArePlaces r.stock.pages (option_map numbers_in r.filled) };
 }
 
 impl Release {
