@@ -1,10 +1,12 @@
 #!/usr/bin/env python3
-"""Prints the batches of a journal as the custodian's lines, copies a journal, and makes the files of
-its last release.
+"""Prints the batches of a journal as the custodian's lines, copies a journal, makes the files of
+its last release and the edits to the next microdata, and notes which files a journal belongs to.
 
     journal.py print CLASSES JOURNAL
     journal.py copy JOURNAL TO
     journal.py last CLASSES PTABLE PEOPLE JOURNAL FOLDER
+    journal.py diff CLASSES OLD NEW LEFT
+    journal.py setup JOURNAL CLASSES RECODES PTABLE PEOPLE THRESHOLD DWELLINGS LINKS
 
 `print` writes for each batch the line `# batch N`, N from 1, a line for each edit, and `publish`.
 With `custodian ` in front of each line that is a script, and as it is a session at the custodian's
@@ -21,17 +23,35 @@ stood in the microdata and aren't in it any more. It prints the threshold that w
 was. With these files, the same CLASSES and RECODES, and a new journal the chain of releases begins
 anew, with the same tables, and no earlier release is there, whether it was taken back or not.
 
+`diff` prints the edits that lead from OLD to NEW, two files of microdata, in batches of at most
+10,000 edits with `publish` behind each. OLD is what the server has now, as `people.csv` of `last`,
+and LEFT is `left.csv` beside it, or `-` where nobody left so far. First come the edits of persons
+who leave, then of those whose codes differ, then of those who come; the releases between are asked
+like others. What the server would refuse (above all another record key of a person, also of one who
+left) is told by kinds, how many and the first, and then no line is printed.
+
+`setup` notes in the file JOURNAL.setup what a journal is begun with: the SHA-256 of each file, and
+the threshold. The words and their order are those of `host`, whose start tells the same sum. Where
+JOURNAL.setup is there it is compared, what differs is told, and nothing is changed: a journal has no
+word of its files, and over others `host` would show other tables for the same releases. It is
+written where it isn't there, and where JOURNAL isn't there or is begun anew, since it has at most
+nine bytes. To accept other files for a journal all the same, remove JOURNAL.setup; a new journal, as
+after `last`, gets its own by itself.
+
 A file that isn't a journal, a record that is bad and a batch that doesn't fit CLASSES, or can't be
 made, are told on the standard error, the last two with their number, and the status is 1: `print`
 has then printed the batches before that one, `copy` has left TO as it was, and `last` has made
 nothing. Other scripts may import this file.
-It needs Python 3.9 or later and the standard library alone.
+It needs Python 3.9 or later and the standard library alone, `diff` also the Python client, which
+stands beside it or is installed.
 """
 
 from __future__ import annotations
 
+import contextlib
 import csv
 import functools
+import hashlib
 import io
 import os
 import shutil
@@ -64,6 +84,7 @@ __all__ = [
     "Last",
     "NotJournal",
     "Oldest",
+    "OtherSetup",
     "Pvalue",
     "Reader",
     "Threshold",
@@ -72,8 +93,11 @@ __all__ = [
     "edits_of",
     "last",
     "lines",
+    "note_setup",
     "read_classes",
     "records",
+    "setup_of",
+    "setup_sum",
 ]
 
 HEADER = b"TBJOURN1"
@@ -81,6 +105,11 @@ OPEN, SHUT = b"\x01", b"\x00"
 MOST_PAYLOAD_BYTES, MOST_EDITS = 4_000_000, 10_000
 LARGEST_ROW, LARGEST_PVALUE, LARGEST_THRESHOLD = 750, 1_000, 1_000_000
 SMALL_KEYS, LARGE_KEYS = 256, 4096
+MOST_PERSONS = 1_000_000
+# A file of at most so many bytes is begun anew as a journal.
+FEW_BYTES = len(HEADER) + 1
+# Where no file is named.
+NO_FILE = "-"
 
 
 class Error(Exception):
@@ -321,10 +350,12 @@ def batches(path: str) -> Iterator[list[Edit]]:
 
 
 class Classes(NamedTuple):
-    """The variables of a classification with their codes, in order, and the key range."""
+    """The variables of a classification with their codes, in order, the key range, and how many
+    persons there may be."""
 
     variables: list[tuple[str, list[str]]]
     keys: int
+    persons: int
 
     def setting(self, variable: int, category: int) -> str:
         """`VAR=CODE`. ValueError where there is no such variable or category."""
@@ -346,16 +377,18 @@ def read_classes(path: str) -> Classes:
         one that should doesn't state the key range. What else the program refuses isn't looked for.
     """
     codes: dict[str, list[str]] = {}
-    keys = SMALL_KEYS
+    keys, persons = SMALL_KEYS, MOST_PERSONS
     rows = _rows(path, ("variable", "code", "label"), BadClasses)
     for number, (variable, code, label) in enumerate(rows, 1):
         if variable != "*":
             codes.setdefault(variable, []).append(code)
         elif (number, code) == (1, "keys") and label in (str(SMALL_KEYS), str(LARGE_KEYS)):
             keys = int(label)
-        elif code != "persons":  # which says how many persons there may be
+        elif code != "persons":
             raise BadClasses(f"record {number} doesn't state the key range")
-    return Classes(list(codes.items()), keys)
+        elif label.isascii() and label.isdigit():
+            persons = int(label)
+    return Classes(list(codes.items()), keys, persons)
 
 
 def _rows(path: str, columns: Sequence[str], fault: Callable[[str], Error]) -> Iterator[list[str]]:
@@ -444,15 +477,24 @@ def copy(path: str, to: str) -> int:
     """
     if os.path.exists(to) and os.path.samefile(path, to):
         raise Error("a journal isn't copied to itself")
-    part, count = f"{to}.part", 0
+    count = 0
+    with open(path, "rb") as file, _new_file(to) as out:
+        shutil.copymode(path, out.name)
+        out.write(HEADER)
+        for payload, _ in _batches(file):
+            out.write(OPEN + len(payload).to_bytes(4, "big") + payload)
+            count += 1
+        out.write(SHUT)
+    return count
+
+
+@contextlib.contextmanager
+def _new_file(to: str) -> Iterator[BinaryIO]:
+    """A file that is put in the place of `to` when it is whole and on the disk, if nothing raises."""
+    part = f"{to}.part"
     try:
-        with open(path, "rb") as file, open(part, "wb", opener=_private_file) as out:
-            shutil.copymode(path, part)
-            out.write(HEADER)
-            for payload, _ in _batches(file):
-                out.write(OPEN + len(payload).to_bytes(4, "big") + payload)
-                count += 1
-            out.write(SHUT)
+        with open(part, "wb", opener=_private_file) as out:
+            yield out
             out.flush()
             os.fsync(out.fileno())
         os.replace(part, to)
@@ -461,7 +503,6 @@ def copy(path: str, to: str) -> int:
             os.remove(part)
         raise
     _sync_folder(os.path.dirname(os.path.abspath(to)))
-    return count
 
 
 def _private_file(path: str, flags: int) -> int:
@@ -571,6 +612,99 @@ def _write_rows(path: str, header: Sequence[str], rows: Iterable[Sequence[object
         writer.writerows(rows)
 
 
+# ---- what a journal was begun with
+
+
+# What is noted, in order, and what to do in place of another one.
+_ANEW = "begin a new journal for it (docs/SERVER.md, 'To begin anew')"
+_OTHERS = {
+    "classes": _ANEW,
+    "recodes": _ANEW,
+    "ptable": "change pvalues by a publication, `pvalue PCV CKEY P`",
+    "people": "change persons by publications, as `journal.py diff` prints them",
+    "threshold": "change it by a publication, `threshold T`",
+    "dwellings": _ANEW,
+    "links": _ANEW,
+}
+
+
+class OtherSetup(Error):
+    """A journal was begun with other files, or another threshold.
+
+    Attributes: `others`, the words of `host` that differ, in lower case: `ptable`, `threshold`."""
+
+    def __init__(self, others: Sequence[str]) -> None:
+        super().__init__(f"the journal was begun with another {', another '.join(others)}")
+        self.others = list(others)
+
+
+def setup_of(
+    classes: str,
+    recodes: str,
+    ptable: str,
+    people: str,
+    threshold: str,
+    dwellings: str,
+    links: str,
+) -> str:
+    """What is noted of the words of `host` by these names: a line for each, with the SHA-256 of the
+    file or `-`, or the threshold.
+
+    Raises
+    ------
+    Error
+        Where the threshold isn't one, or one of `dwellings` and `links` alone is `-`.
+    """
+    if not (threshold.isascii() and threshold.isdigit() and len(threshold) <= 10):
+        raise Error(f"{threshold!r} is no threshold")
+    if int(threshold) > LARGEST_THRESHOLD:
+        raise Error(f"a threshold is at most {LARGEST_THRESHOLD:,}")
+    if (dwellings == NO_FILE) != (links == NO_FILE):
+        raise Error("DWELLINGS and LINKS are both `-` or neither")
+    files = {"recodes": recodes, "dwellings": dwellings, "links": links}
+    sums = {name: NO_FILE if it == NO_FILE else _sum_of(it) for name, it in files.items()}
+    sums.update(classes=_sum_of(classes), ptable=_sum_of(ptable), people=_sum_of(people))
+    sums["threshold"] = str(int(threshold))
+    return "".join(f"{name} {sums[name]}\n" for name in _OTHERS)
+
+
+def setup_sum(setup: str) -> str:
+    """The sum that the start of `host` tells on the standard error."""
+    return hashlib.sha256(setup.encode()).hexdigest()
+
+
+def note_setup(journal: str, setup: str) -> bool:
+    """Notes beside a journal what it is begun with, or compares that with what was noted. Whether
+    the journal has batches of which it wasn't noted before.
+
+    Raises
+    ------
+    OtherSetup
+        Where it differs, of a journal that was begun. Nothing has changed.
+    """
+    path = f"{journal}.setup"
+    is_begun = os.path.exists(journal) and os.path.getsize(journal) > FEW_BYTES
+    if not (is_begun and os.path.exists(path)):
+        with _new_file(path) as out:
+            out.write(setup.encode())
+        return is_begun
+    with open(path, encoding="latin-1", newline="") as file:
+        noted = file.read()
+    if noted != setup:
+        there = noted.split("\n")
+        others = [line.split()[0] for line in setup.splitlines() if line not in there]
+        raise OtherSetup(others or list(_OTHERS))
+    return False
+
+
+def _sum_of(path: str) -> str:
+    whole = hashlib.sha256()
+    with open(path, "rb") as file:
+        while data := file.read(1 << 20):
+            whole.update(data)
+    return whole.hexdigest()
+
+
 # ---- the command
 
 
@@ -588,6 +722,42 @@ def _last(classes: str, ptable: str, people: str, journal: str, folder: str) -> 
         print(f"threshold {release.threshold}")
 
 
+def _diff(classes: str, old: str, new: str, left: str) -> None:
+    here = os.path.dirname(os.path.abspath(__file__))
+    sys.path[:0] = [path for path in [f"{here}/python"] if path not in sys.path]
+    from tablebuilder import WouldBeRefused, edits
+
+    variables, keys, persons = read_classes(classes)
+    gone = None if left == NO_FILE else left
+    codes = {name: frozenset(of) for name, of in variables}
+    try:
+        batches = edits(old, new, variables=codes, keys=keys, persons=persons, left=gone)
+    except WouldBeRefused as fault:
+        _stop(fault)
+    for batch in batches:
+        print("\n".join([*batch, "publish"]))
+    sys.stdout.flush()
+
+
+def _setup(journal: str, *words: str) -> None:
+    setup = setup_of(*words)
+    try:
+        if note_setup(journal, setup):
+            told = "it has batches, and these files are noted as those that it was begun with"
+            print(f"{journal}: {told}", file=sys.stderr)
+    except OtherSetup as fault:
+        given = dict(zip(_OTHERS, words))
+        for name in fault.others:
+            what = f"{given[name]} isn't the file"
+            if name == "threshold":
+                what = f"{given[name]} isn't the threshold"
+            told = f"{what} that this journal was begun with; {_OTHERS[name]}"
+            print(f"{journal}: {told}", file=sys.stderr)
+        _stop(journal, f"to accept what is new all the same, remove {journal}.setup")
+    print(f"setup {setup_sum(setup)}")
+    sys.stdout.flush()
+
+
 def _print(classes: str, journal: str) -> None:
     classification = read_classes(classes)
     for number, edits in enumerate(batches(journal), 1):
@@ -601,18 +771,25 @@ def _stop(*words: object) -> NoReturn:
     sys.exit(1)
 
 
-# How many words each command takes after its name, and which of them is the journal.
-COMMANDS = {"print": (2, 1), "copy": (2, 0), "last": (5, 3)}
+# What each command calls, how many words it takes after its name, and of which of them a fault is.
+COMMANDS = {
+    "print": (_print, 2, 1),
+    "copy": (copy, 2, 0),
+    "last": (_last, 5, 3),
+    "diff": (_diff, 4, 2),
+    "setup": (_setup, 8, 0),
+}
 
 
 def main(*words: str) -> None:
     command, *rest = words or [""]
-    if command not in COMMANDS or len(rest) != COMMANDS[command][0]:
+    if command not in COMMANDS or len(rest) != COMMANDS[command][1]:
         print(__doc__.split("\n\n")[1], file=sys.stderr)
         sys.exit(2)
-    journal = rest[COMMANDS[command][1]]
+    call, _, place = COMMANDS[command]
+    journal = rest[place]
     try:
-        {"print": _print, "copy": copy, "last": _last}[command](*rest)
+        call(*rest)
     except BrokenPipeError:
         # (who read the lines has gone, and the system would tell of it once more at the end)
         os.dup2(os.open(os.devnull, os.O_WRONLY), sys.stdout.fileno())

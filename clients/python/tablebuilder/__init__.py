@@ -25,6 +25,7 @@ The package needs the standard library alone; `Table.frame` needs pandas. The co
 
 from tablebuilder.faults import Busy, CannotDescribe, Ended, Error, OlderRelease, OutOfMemory
 from tablebuilder.faults import Refused, Unexpected, Unkept
+from tablebuilder.revision import WouldBeRefused, edits
 from tablebuilder.session import Session, Stats, connect, forget_releases
 from tablebuilder.table import Category, Table, Variable, table_of
 
@@ -43,7 +44,9 @@ __all__ = [
     "Unexpected",
     "Unkept",
     "Variable",
+    "WouldBeRefused",
     "connect",
+    "edits",
     "forget_releases",
     "table_of",
 ]
