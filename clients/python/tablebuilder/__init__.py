@@ -16,6 +16,10 @@ The custodian, at the first port of the server:
     with tablebuilder.connect(4000) as session:
         session.amend(104, AREA="E1")
         print(session.publish())
+        # from the persons of one file to those of another
+        for batch in tablebuilder.edits("people.csv", "next.csv"):
+            session.hold(batch)
+            session.publish()
 
 Every count is perturbed: it is what the server shows, and no true count. A session holds a worker
 of the server until it is closed, and the custodian's port has one alone, so use `with`. A session is for one thread.
@@ -23,8 +27,8 @@ The package needs the standard library alone; `Table.frame` needs pandas. The co
 `tablebuilder-ask HOST:PORT` (or `python3 -m tablebuilder HOST:PORT`) asks from a prompt.
 """
 
-from tablebuilder.faults import Busy, CannotDescribe, Ended, Error, OlderRelease, OutOfMemory
-from tablebuilder.faults import Refused, Unexpected, Unkept
+from tablebuilder.faults import Busy, CannotDescribe, Ended, Error, NotHeld, OlderRelease
+from tablebuilder.faults import OutOfMemory, Refused, RepeatedLabel, Unexpected, Unkept
 from tablebuilder.revision import WouldBeRefused, edits
 from tablebuilder.session import Session, Stats, connect, forget_releases
 from tablebuilder.table import Category, Table, Variable, table_of
@@ -35,9 +39,11 @@ __all__ = [
     "Category",
     "Ended",
     "Error",
+    "NotHeld",
     "OlderRelease",
     "OutOfMemory",
     "Refused",
+    "RepeatedLabel",
     "Session",
     "Stats",
     "Table",

@@ -33,17 +33,21 @@ __all__ = ["main"]
 PROMPT = "tables> "
 HISTORY = "~/.tablebuilder_history"
 MOST_HISTORY = 1_000
-# How many places of a table a prompt prints.
-MOST_PLACES = 40
+# How many places, or rows, of a table a prompt prints.
+MOST_LINES = 40
 HELP = """\
 table AREA by SEX where AGE in (16-64, 65+) with totals with labels
                  a table; `at N table ..` asks for that of release N
 .names           the variables and recodes, as far as the server tells them
 .codes NAME      the categories of a variable, or the groups of a recode
-.all             the last table, with all its places
+.all             the last table, with all its places, a line for each
+.wide            the last table as a cross table, with all its rows
 .save FILE.csv   writes the last table to a file
 .plot [FILE.png] draws the last table, of one or two dimensions, where matplotlib is there
-.quit            ends, as the end of the input does"""
+.help            these lines; help and ? are the same
+.quit            ends, as quit, exit and the end of the input do"""
+ENDS = (".quit", ".exit", "quit", "exit")
+ASKS_FOR_HELP = (".help", "help", "?")
 
 
 class Names:
@@ -95,7 +99,7 @@ class Prompt:
     def run(self, lines: Iterable[str]) -> None:
         for line in lines:
             try:
-                if line.strip() == ".quit":
+                if line.strip() in ENDS:
                     return
                 self._answer(line)
             except Ended:
@@ -106,7 +110,7 @@ class Prompt:
                 return
 
     def _answer(self, line: str) -> None:
-        if line.startswith("."):
+        if line.startswith(".") or line.strip() in ASKS_FOR_HELP:
             self._command(line)
             return
         try:
@@ -116,21 +120,21 @@ class Prompt:
             reply = fault.reply
         if reply and reply[0].startswith("release "):
             self._last = table_of(reply)
-            print(self._last.text(MOST_PLACES))
+            print(self._last.short(MOST_LINES))
         else:
             print(*reply, sep="\n", end="\n" if reply else "")
 
     def _command(self, line: str) -> None:
         word, _, rest = line.partition(" ")
         rest = rest.strip()
-        if word == ".help":
+        if word in ASKS_FOR_HELP:
             print(HELP)
         elif word == ".names":
             self._print_names()
         elif word == ".codes" and rest:
             for code in self._names.codes(rest):
                 print(code.code, code.label if code.label is not None else " ".join(code.members))
-        elif word in (".all", ".save", ".plot"):
+        elif word in (".all", ".wide", ".save", ".plot"):
             self._with_table(word, rest)
         else:
             print("no such command; .help lists them")
@@ -147,6 +151,8 @@ class Prompt:
             print("no table came yet")
         elif word == ".all":
             print(self._last.text())
+        elif word == ".wide":
+            print(self._last.wide())
         elif word == ".plot":
             plot(self._last, path or None)
         elif not path:

@@ -2,7 +2,7 @@
 
 from __future__ import annotations
 
-from typing import Optional
+from typing import Optional, Sequence
 
 from tablebuilder.query import expected_after, query_start, tokens_of
 
@@ -11,9 +11,11 @@ __all__ = [
     "CannotDescribe",
     "Ended",
     "Error",
+    "NotHeld",
     "OlderRelease",
     "OutOfMemory",
     "Refused",
+    "RepeatedLabel",
     "Unexpected",
     "Unkept",
 ]
@@ -38,10 +40,10 @@ _EDIT = {
     "TooMany": "10,000 edits are held already: publish them first",
 }
 _BATCH = {
-    "PersonThere": "it adds a person who has a record",
-    "NoSuchPerson": "it drops or amends a person who has no record",
-    "KeyChanged": "it adds a person who once had another key",
-    "TooMany": "there would be too many records, releases or edits",
+    "PersonThere": "it adds a person who has a record: amend the person, or drop it first",
+    "NoSuchPerson": "it drops or amends a person who has no record: add the person first",
+    "KeyChanged": "it adds a person who once had another key: give the person's own one",
+    "TooMany": "there would be too many records, releases or edits: drop others, or begin anew",
     "Nothing": "no edit is held",
     "BadRelease": "releases are taken back up to the next one at most, and none comes back",
 }
@@ -62,8 +64,8 @@ _RELEASE = {
     "NoSuchRelease": "the last release is {}",
     "Withdrawn": "the release was taken back: the oldest one that is shown is {}",
 }
-# How much of a long line is shown.
-_WIDTH = 76
+# How much of a long line is shown, and of how many faults.
+_WIDTH, _MOST_TOLD = 76, 10
 
 
 class Error(Exception):
@@ -96,6 +98,8 @@ class Refused(Error):
         together. None for queries and for an edit's own line.
     edit_line : str or None
         Of `Session.publish`: the line of that edit, where this session held it.
+    hint : str or None
+        Which name or code is wrong, where the server has told what there is.
     """
 
     def __init__(
@@ -106,10 +110,12 @@ class Refused(Error):
         position: Optional[int] = None,
         edit: Optional[int] = None,
         edit_line: Optional[str] = None,
+        hint: Optional[str] = None,
     ) -> None:
-        super().__init__(line, number, word, position, edit, edit_line)
+        super().__init__(line, number, word, position, edit, edit_line, hint)
         self.line, self.number, self.word = line, number, word
         self.position, self.edit, self.edit_line = position, edit, edit_line
+        self.hint = hint
 
     @property
     def reply(self) -> str:
@@ -132,6 +138,8 @@ class Refused(Error):
         return self.edit is None and self.position is None and self.word in _EDIT
 
     def _why(self) -> Optional[str]:
+        if self.hint is not None:
+            return self.hint
         if self.edit is not None:
             return _BATCH.get(self.word)
         if self._is_of_edit():
@@ -204,15 +212,67 @@ class Unkept(Error):
     """
 
 
+class NotHeld(Error):
+    """Some edits of `Session.hold` aren't held. All others are, and the session goes on.
+
+    `Session.publish` would make a release of these; `Session.close` gives them up.
+
+    Attributes
+    ----------
+    faults : list of (int, Error)
+        For each edit that isn't held the number of its line, from 1, and what is wrong with it: a
+        `Refused`, or an `OutOfMemory`. Whether an edit can be made only `Session.publish` tells.
+    lines : int
+        How many lines there were.
+    held : int
+        How many edits are held now, earlier ones too.
+    """
+
+    def __init__(self, faults: Sequence[tuple[int, Error]], lines: int, held: int) -> None:
+        super().__init__(faults, lines, held)
+        self.faults, self.lines, self.held = list(faults), lines, held
+
+    def __str__(self) -> str:
+        told = [
+            f"{len(self.faults):,} of {self.lines:,} edits aren't held; {self.held:,} are held now:"
+            " `publish` would make a release of these, `close` gives them up"
+        ]
+        told += [f"line {number}: {fault}" for number, fault in self.faults[:_MOST_TOLD]]
+        others = len(self.faults) - _MOST_TOLD
+        return "\n".join([*told, *[f".. {others:,} more"] * (others > 0)])
+
+
 class Ended(Error):
     """The session has ended: it was closed, or the server went away."""
 
 
 class Busy(Ended, TimeoutError):
-    """Nothing came in time, not even a first reply: all workers of the port may have a client.
+    """Nothing came in time, or the session ended, before a first reply: all workers of the port may
+    have a client.
 
     The session is closed. Try again later. The custodian's port has one worker alone.
     """
+
+
+class RepeatedLabel(Error):
+    """Categories of one dimension share a label, or one has that of the totals, so that places of
+    the table can't be told apart: ask for it without labels.
+
+    Attributes
+    ----------
+    reply : list of str
+        The lines of the table.
+    labels : tuple of str
+        The labels of the first place that are those of an earlier one, too.
+    """
+
+    def __init__(self, reply: list[str], labels: tuple[str, ...]) -> None:
+        super().__init__(reply, labels)
+        self.reply, self.labels = reply, labels
+
+    def __str__(self) -> str:
+        told = ", ".join(map(repr, self.labels))
+        return f"labels repeat: two places of the table are {told}; ask without labels"
 
 
 class OlderRelease(Error):

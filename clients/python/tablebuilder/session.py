@@ -4,10 +4,11 @@ from __future__ import annotations
 
 import socket
 import ssl
-from typing import Callable, NamedTuple, NoReturn, Optional, TypeVar
+from typing import Callable, Iterable, NamedTuple, NoReturn, Optional, Sequence, TypeVar
 
-from tablebuilder.faults import Busy, CannotDescribe, Ended, OlderRelease, OutOfMemory
-from tablebuilder.faults import Refused, Unexpected, Unkept
+from tablebuilder.faults import Busy, CannotDescribe, Ended, Error, NotHeld, OlderRelease
+from tablebuilder.faults import OutOfMemory, Refused, Unexpected, Unkept
+from tablebuilder.hints import Known, hint_of
 from tablebuilder.table import Category, Table, Variable
 from tablebuilder.table import categories_of, is_number, table_of, variables_of
 
@@ -15,6 +16,12 @@ __all__ = ["Session", "Stats", "connect", "forget_releases"]
 
 T = TypeVar("T")
 
+_EDITS = ("add", "amend", "drop", "pvalue", "threshold", "oldest")
+_MOST_BYTES = 4_096
+# How many edits are sent ahead of their replies, which have room on their way then.
+_AHEAD = 500
+# The faults of a line of which a hint says more.
+_HINTED = ("UnknownName", "UnknownCode", "Missing", "Repeated")
 # The greatest release that was printed from each address.
 _printed: dict[tuple[str, int], int] = {}
 
@@ -79,7 +86,7 @@ class Session:
     Each method writes one line and waits for the reply to it. It raises `Refused`, `OutOfMemory` or
     `Unkept` where the reply says so, and then the session goes on; `Ended` where the server has
     gone, and `Unexpected` where the reply is none to such a line. `Busy`, which is an `Ended`, says
-    that not even a first reply came in time: all workers may have clients. `OlderRelease` says that
+    that the wait or the session ended before a first reply: all workers may have clients. `OlderRelease` says that
     a table, unless a release was asked for, is of an earlier release than one that came from the
     same address before, in this session or in another one; the session goes on. Where anything else
     interrupts the wait the session is closed, so that no later call takes a reply that isn't its
@@ -94,6 +101,8 @@ class Session:
         self._replies = connection.makefile("rb")
         self._is_served = False
         self._held_lines: list[str] = []
+        self._variables: Optional[list[Variable]] = None
+        self._codes: dict[str, list[Category]] = {}
 
     def __enter__(self) -> Session:
         return self
@@ -133,7 +142,8 @@ class Session:
         CannotDescribe
             Where the server is of an earlier version, which tells nothing of what may be asked.
         """
-        return self._describe("describe", variables_of)
+        self._variables = self._describe("describe", variables_of)
+        return list(self._variables)
 
     def codes(self, name: str) -> list[Category]:
         """The categories of a variable in the table's order, or the groups of a recode.
@@ -148,7 +158,9 @@ class Session:
         """
         if len(name.split()) != 1:
             raise ValueError(f"no name of a variable or a recode: {name!r}")
-        return self._describe(f"describe {name}", lambda reply: categories_of(name, reply))
+        told = self._describe(f"describe {name}", lambda reply: categories_of(name, reply))
+        self._codes[name] = told
+        return list(told)
 
     # ---- tables
 
@@ -232,6 +244,37 @@ class Session:
         """
         return self._held(f"oldest {release}")
 
+    def hold(self, lines: Iterable[str]) -> int:
+        """Holds many edits, each by its line, as `edits` makes them: faster than one by one, since
+        no reply is waited for before the next lines are sent.
+
+        Returns how many edits are held now; ValueError where a line is none of an edit, and then
+        none was sent.
+
+        Raises
+        ------
+        NotHeld
+            With the fault of each edit that isn't held. All others are.
+        """
+        lines = list(lines)
+        for number, line in enumerate(lines, 1):
+            words = line.split(None, 1)
+            if not words or words[0] not in _EDITS or "\n" in line:
+                raise ValueError(f"line {number} is no edit: {line!r}")
+            if len(line.encode()) > _MOST_BYTES:
+                raise ValueError(f"line {number} has more than {_MOST_BYTES:,} bytes")
+        faults: list[tuple[int, Error]] = []
+        for begin in range(0, len(lines), _AHEAD):
+            sent = lines[begin : begin + _AHEAD]
+            for number, (line, reply) in enumerate(zip(sent, self._exchange(sent)), begin + 1):
+                try:
+                    self._answer(line, reply)
+                except (Refused, OutOfMemory) as fault:
+                    faults.append((number, fault))
+        if faults:
+            raise NotHeld(faults, len(lines), len(self._held_lines))
+        return len(self._held_lines)
+
     def publish(self) -> int:
         """Makes the held edits the next release, all or none, and returns its number.
 
@@ -276,7 +319,11 @@ class Session:
             self.close()
         if not line.strip(" \t\r") or line.startswith("#") or line.split() == ["quit"]:
             return []
-        reply = self._exchange(line)
+        (reply,) = self._exchange([line])
+        return self._answer(line, reply)
+
+    def _answer(self, line: str, reply: list[str]) -> list[str]:
+        """The reply to a line, where it isn't one that raises."""
         parts = reply[0].split(" ")
         if reply == ["memory"]:
             raise OutOfMemory(line)
@@ -351,25 +398,40 @@ class Session:
         if parts == ["9", "TooLong"]:
             # The server ends a session after a line that is too long.
             self.close()
-        raise Refused(line, int(parts[0]), parts[1], position, edit, edit_line)
+        hint = None
+        if edit is None and self.is_open and parts[1] in _HINTED:
+            hint = self._hint(line, parts[1], position)
+        raise Refused(line, int(parts[0]), parts[1], position, edit, edit_line, hint)
 
-    def _exchange(self, line: str) -> list[str]:
+    def _hint(self, line: str, word: str, position: Optional[int]) -> Optional[str]:
+        """Which name or code of a refused line is wrong, as far as the server tells what there is,
+        which it is asked once."""
+        try:
+            if self._variables is None:
+                # (nothing more is asked of a server that doesn't tell)
+                self._variables = []
+                self.variables()
+            return hint_of(line, word, position, Known(self._variables, self._codes_of))
+        except Error:
+            return None
+
+    def _codes_of(self, name: str) -> list[Category]:
+        return self._codes[name] if name in self._codes else self.codes(name)
+
+    def _exchange(self, lines: Sequence[str]) -> list[list[str]]:
+        """The replies to lines that each have one."""
         if self._connection is None:
             raise Ended("the session is closed")
         timeout = self.timeout
         try:
-            self._connection.sendall(line.encode() + b"\n")
-            reply = [self._next_line()]
-            self._is_served = True
-            while _has_more(reply):
-                reply.append(self._next_line())
-            return reply
+            self._connection.sendall(b"".join(line.encode() + b"\n" for line in lines))
+            return [self._next_reply() for _ in lines]
         except socket.timeout as fault:
             self.close()
             raise self._late(timeout) from fault
         except OSError as fault:
             self.close()
-            raise Ended("the server went away") from fault
+            raise self._early("the server went away") from fault
         except UnicodeDecodeError as fault:
             self.close()
             raise Unexpected("a reply that is no UTF-8") from fault
@@ -385,10 +447,22 @@ class Session:
             " custodian's has one worker"
         )
 
+    def _early(self, why: str) -> Ended:
+        if self._is_served:
+            return Ended(why)
+        return Busy(f"{why} before any reply: all workers of this port may have a client")
+
+    def _next_reply(self) -> list[str]:
+        reply = [self._next_line()]
+        self._is_served = True
+        while _has_more(reply):
+            reply.append(self._next_line())
+        return reply
+
     def _next_line(self) -> str:
         line = self._replies.readline()
         if not line.endswith(b"\n"):
-            raise Ended("the server ended the session")
+            raise self._early("the server ended the session")
         return line[:-1].decode()
 
     def _unexpected(self, reply: list[str]) -> NoReturn:

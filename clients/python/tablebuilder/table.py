@@ -3,16 +3,19 @@
 from __future__ import annotations
 
 import csv
+import math
 from dataclasses import dataclass
-from typing import TYPE_CHECKING, Iterator, NamedTuple, Optional
+from typing import TYPE_CHECKING, Iterator, NamedTuple, Optional, Sequence
+
+from tablebuilder.faults import RepeatedLabel
 
 if TYPE_CHECKING:
     import pandas
 
 __all__ = ["Category", "Table", "Variable", "categories_of", "table_of", "variables_of"]
 
-# How many places a table prints from its start.
-_SHOWN = 10
+# How many places, or rows, a table prints from its start, and in how many columns of a screen.
+_SHOWN, _WIDTH = 10, 100
 
 
 class Variable(NamedTuple):
@@ -51,8 +54,9 @@ class Category(NamedTuple):
 class Table:
     """A table: for each place the codes (or labels) of its dimensions, and its perturbed count.
 
-    Iterating gives a tuple for each place: the codes, and then the count. Printed it shows its
-    first places, and the last where there are more.
+    Iterating gives a tuple for each place: the codes, and then the count. Printed it is a cross
+    table where it has two dimensions or more and isn't too wide, else a line for each place; it
+    shows its first lines, and the last where there are more.
 
     Attributes
     ----------
@@ -79,7 +83,16 @@ class Table:
         return zip(*self.codes, self.counts)
 
     def __repr__(self) -> str:
-        return self.text(_SHOWN)
+        return self.short(_SHOWN)
+
+    def short(self, most: Optional[int] = None) -> str:
+        """The table as text, as it prints: `wide` where it has two dimensions or more and no line is
+        longer than 100 characters, else `text`. `most` is for either."""
+        if len(self.dimensions) > 1:
+            wide = self.wide(most)
+            if max(map(len, wide.split("\n"))) <= _WIDTH:
+                return wide
+        return self.text(most)
 
     def text(self, most: Optional[int] = None) -> str:
         """The table as text in columns.
@@ -90,21 +103,38 @@ class Table:
             How many places to show from the first on; the last is shown behind them. None shows
             all.
         """
-        places = range(len(self))
-        cut = most is not None and len(self) > most + 1
-        shown = [*places[:most], places[-1]] if cut else list(places)
+        shown = _shown(len(self), most)
         columns = [[name, *(codes[it] for it in shown)] for name, codes in self._columns()]
-        counts = [_count_text(self.counts[it]) for it in shown]
-        columns.append([self.count_name, *counts])
-        widths = [max(map(len, column)) for column in columns]
-        lines = [
-            "  ".join([*map(str.ljust, fields[:-1], widths), fields[-1].rjust(widths[-1])])
-            for fields in zip(*columns)
+        columns.append([self.count_name, *(_count_text(self.counts[it]) for it in shown)])
+        lines = _aligned(columns, len(self.dimensions), len(self) - len(shown))
+        return "\n".join([self._title(), *lines])
+
+    def wide(self, most: Optional[int] = None) -> str:
+        """The table as a cross table in text: the last dimension goes across, the others down.
+
+        Parameters
+        ----------
+        most : int, optional
+            How many rows to show from the first on; the last is shown behind them. None shows all.
+        """
+        *down, across = self.codes
+        names = _in_order(across)
+        size = len(names)
+        rows = len(self) // size
+        shown = _shown(rows, most)
+        columns = [
+            [name, *(codes[it * size] for it in shown)]
+            for name, codes in zip(self.dimensions, down)
         ]
-        if cut:
-            lines.insert(len(lines) - 1, f".. {len(self) - len(shown):,} more")
-        title = f"release {self.release}, {len(self):,} place{'s' * (len(self) != 1)}"
-        return "\n".join([title, *lines])
+        front = sum(max(map(len, column)) + 2 for column in columns)
+        for place, name in enumerate(names):
+            counts = (self.counts[it * size + place] for it in shown)
+            columns.append([name, *map(_count_text, counts)])
+        lines = _aligned(columns, len(down), rows - len(shown))
+        return "\n".join([self._title(), " " * front + self.dimensions[-1], *lines])
+
+    def _title(self) -> str:
+        return f"release {self.release}, {len(self):,} place{'s' * (len(self) != 1)}"
 
     @property
     def count_name(self) -> str:
@@ -128,7 +158,7 @@ class Table:
         """The table as a pandas frame.
 
         The dimensions are columns of ordered categories, in the table's order, with ``Total`` last
-        where there are totals; categories that share a label are one there. The column ``count`` is
+        where there are totals. The column ``count`` is
         one of nullable integers (``Int64``), missing where the server hides a count. Where a
         dimension is named ``count`` that column is ``count_``, so that no two have one name.
         ``attrs["release"]`` is the release's number. It needs pandas.
@@ -148,6 +178,28 @@ class Table:
         return zip(self.dimensions, self.codes)
 
 
+def _shown(count: int, most: Optional[int]) -> list[int]:
+    """Which of so many lines are shown: all, or the first ones and the last."""
+    is_cut = most is not None and count > most + 1
+    return [*range(count)[:most], count - 1] if is_cut else list(range(count))
+
+
+def _aligned(columns: Sequence[list[str]], texts: int, hidden: int) -> list[str]:
+    """The lines of columns whose first entries are names; the first `texts` columns are text, the
+    others numbers. Where some are left out, how many stands before the last."""
+    widths = [max(map(len, column)) for column in columns]
+    lines = [
+        "  ".join(
+            field.ljust(width) if place < texts else field.rjust(width)
+            for place, (field, width) in enumerate(zip(fields, widths))
+        )
+        for fields in zip(*columns)
+    ]
+    if hidden:
+        lines.insert(len(lines) - 1, f".. {hidden:,} more")
+    return lines
+
+
 def _count_text(count: Optional[int]) -> str:
     return "c" if count is None else str(count)
 
@@ -163,19 +215,35 @@ def _in_order(column: list[str]) -> list[str]:
 
 
 def table_of(reply: list[str]) -> Table:
-    """A table of the lines `release N`, the names, one for each place, and `.`; or ValueError."""
+    """A table of the lines `release N`, the names, one for each place, and `.`; or ValueError.
+
+    Raises
+    ------
+    RepeatedLabel
+        Where two places have the same labels.
+    """
     release, names, *places, _ = reply
     *dimensions, _ = next(_records([names]))
     *codes, counts = zip(*_records(places))
     word, _, number = release.partition(" ")
     if word != "release":
         raise ValueError(release)
+    if math.prod(len(set(column)) for column in codes) != len(counts):
+        _tell_of_labels(reply, list(zip(*codes)))
     return Table(
         release=number_of(number),
         dimensions=tuple(dimensions),
         codes=tuple(map(list, codes)),
         counts=[None if count == "c" else number_of(count) for count in counts],
     )
+
+
+def _tell_of_labels(reply: list[str], places: list[tuple[str, ...]]) -> None:
+    seen: set[tuple[str, ...]] = set()
+    for labels in places:
+        if labels in seen:
+            raise RepeatedLabel(reply, labels)
+        seen.add(labels)
 
 
 def variables_of(reply: list[str]) -> list[Variable]:
