@@ -6,7 +6,7 @@ from typing import Any, Dict, List, Optional
 
 from tablebuilder.table import Table
 
-__all__ = ["plot"]
+__all__ = ["draw", "plot", "series_of"]
 
 # The counts over the entries of the first dimension, for each entry of the second.
 _Series = Dict[str, List[Optional[int]]]
@@ -26,7 +26,7 @@ def plot(table: Table, path: Optional[str] = None) -> None:
     """
     if len(table.dimensions) > 2:
         raise ValueError("a table of one or two dimensions can be drawn")
-    rows, series = _series(table)
+    rows, series = series_of(table)
     if len(rows) * len(series) > _MOST_BARS:
         raise ValueError(f"a table of at most {_MOST_BARS} places without totals can be drawn")
     try:
@@ -40,7 +40,7 @@ def plot(table: Table, path: Optional[str] = None) -> None:
     if path is None and matplotlib.get_backend().lower() in _WITHOUT_WINDOWS:
         raise ValueError("there is no screen to show it: name a file, as .plot FILE.png")
     figure, axes = pyplot.subplots(figsize=(max(5.0, 0.3 * len(rows) * len(series)), 4.0))
-    _draw(axes, table, rows, series)
+    draw(axes, table, rows, series)
     figure.tight_layout()
     if path is None:
         pyplot.show()
@@ -49,7 +49,7 @@ def plot(table: Table, path: Optional[str] = None) -> None:
     pyplot.close(figure)
 
 
-def _draw(axes: Any, table: Table, rows: list[str], series: _Series) -> None:
+def draw(axes: Any, table: Table, rows: list[str], series: _Series) -> None:
     """The bars of each series over the rows, and what the axes say."""
     width = 0.8 / len(series)
     for number, (name, counts) in enumerate(series.items()):
@@ -70,7 +70,7 @@ def _draw(axes: Any, table: Table, rows: list[str], series: _Series) -> None:
         axes.legend(title=table.dimensions[1])
 
 
-def _series(table: Table) -> tuple[list[str], _Series]:
+def series_of(table: Table) -> tuple[list[str], _Series]:
     """The entries of the first dimension, and for each of the second its counts over these."""
     rows: dict[str, None] = {}
     series: _Series = {}

@@ -411,6 +411,8 @@ class Session:
                 # (nothing more is asked of a server that doesn't tell)
                 self._variables = []
                 self.variables()
+            if not self._variables:
+                return None
             return hint_of(line, word, position, Known(self._variables, self._codes_of))
         except Error:
             return None

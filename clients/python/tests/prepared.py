@@ -6,7 +6,8 @@ import threading
 
 TABLE = b"release 0\nSEX,count\n1,1\n2,2\n.\n"
 # What is said to a line of a session, the first time, the second and so on, and from then on the
-# last; a reply that doesn't end with a line feed ends the session, and none is a wait.
+# last; a reply that doesn't end with a line feed ends the session, so does None, and an empty one is a
+# wait.
 REPLIES = {
     b"table SEX": [b"memory\n", TABLE],
     b"drop 104": [b"memory\n", b"held 1\n"],
@@ -20,6 +21,14 @@ REPLIES = {
     b"table BACK": [b"release 5\nSEX,count\n1,1\n.\n", b"release 4\nSEX,count\n1,2\n.\n"],
     b"at 3 table BACK": [b"release 3\nSEX,count\n1,3\n.\n"],
     b"table CUT": [b"release 0\nSEX,count\n1,1"],
+    # A session that ends without a reply.
+    b"table NOTHING": [None],
+    # Edits of which two aren't held, and what is held then.
+    b"drop 1": [b"held 1\n"],
+    b"drop 2": [b"memory\n"],
+    b"amend 3 AREA=e1": [b"refused edit 4 UnknownCode\n"],
+    b"drop 4": [b"held 2\n"],
+    b"table sex": [b"refused 3 UnknownName 2\n"],
     b"table OTHER": [b"HTTP/1.1 400 Bad Request\n"],
     b"table BYTES": [b"\xff\xfe\n"],
     b"table UNKEPT": [b"unkept\n"],
@@ -67,6 +76,8 @@ def prepared_port(replies):
                 own = replies.get(line, [b"refused 2 Syntax 2\n"])
                 reply = own[min(asked.get(line, 0), len(own) - 1)]
                 asked[line] = asked.get(line, 0) + 1
+                if reply is None:
+                    return
                 self.wfile.write(reply)
                 if reply and not reply.endswith(b"\n"):
                     return

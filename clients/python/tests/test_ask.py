@@ -13,6 +13,7 @@ import unittest
 
 import tablebuilder
 from tablebuilder import ask
+from tablebuilder.plot import draw, series_of
 from tests.prepared import OLDER, REPLIES, TABLE, prepared_port
 
 try:
@@ -136,6 +137,7 @@ class Prompts(WithServer):
         with tempfile.TemporaryDirectory() as home:
             path = os.path.join(home, "it.csv")
             keys = [b".save it.csv\n", b"table count by SEX\n", f".save {path}\n".encode()]
+            keys += [b".all\n", b".wide\n", b"help\n", b"?\n", b"table sex\n"]
             keys += [b".names\n", b".codes AGE2\n", b"table SEX by\n", b".what\n", b"\x04"]
             status, said = self.at_terminal(keys, self.port, home=home)
             with open(path, encoding="utf-8") as file:
@@ -146,6 +148,7 @@ class Prompts(WithServer):
         for told in (
             "no table came yet\n",
             "release 0, 4 places\ncount  SEX  count_\nb      1         5\nb      2         c\n",
+            "no variable and no recode is named sex: SEX differs by case only\n",
             f"{path}: 4 places\n",
             "AGE2  recode of AGE, 2 groups\n",
             "old 16-64 65+\n",
@@ -153,11 +156,20 @@ class Prompts(WithServer):
             "no such command; .help lists them\n",
         ):
             self.assertIn(told, said)
+        cross = "release 0, 4 places\n       SEX\ncount  1  2\nb      5  c\na      7  0\n"
+        self.assertEqual(said.count(cross), 2)
+        self.assertEqual(said.count(ask.HELP), 2)
+
+    def test_words_that_end_it(self):
+        for word in (b"exit\n", b"quit\n", b".quit\n", b".exit\n"):
+            with self.subTest(word):
+                status, said = self.at_terminal([word], self.port)
+                self.assertEqual((status, said.count(ask.PROMPT)), (0, 1))
 
     def test_the_tab_key(self):
         keys = [b"table count by S\t\n", b"\x04"]
         _, said = self.at_terminal(keys, self.port)
-        self.assertIn("count  SEX  count_", said)
+        self.assertIn("count  1  2", said)
 
 
 class Completion(WithServer):
@@ -197,6 +209,7 @@ class OlderServer(Completion):
 @unittest.skipUnless(matplotlib, "matplotlib isn't there")
 class Drawings(WithServer):
     def drawn(self, *words, **more):
+        tablebuilder.forget_releases()
         with tablebuilder.connect(self.port, timeout=60) as session:
             table = session.table(*words, **more)
         with tempfile.TemporaryDirectory() as folder:
@@ -211,8 +224,25 @@ class Drawings(WithServer):
         self.assertEqual(self.drawn("count by SEX"), png)
         self.assertEqual(self.drawn("MANY"), png)
 
+    def test_hidden_places(self):
+        from matplotlib.figure import Figure
+
+        # The last row is hidden whole.
+        codes = (list("aabbcc"), list("xyxyxy"))
+        table = tablebuilder.Table(0, ("A", "B"), codes, [5, None, 3, 0, None, None])
+        axes = Figure().add_subplot()
+        draw(axes, table, *series_of(table))
+        self.assertEqual(axes.get_xlim(), (-0.5, 2.5))
+        self.assertEqual([it.get_text() for it in axes.get_xticklabels()], ["a", "b", "c"])
+        hidden = [(round(it.get_position()[0], 3), it.get_text()) for it in axes.texts]
+        self.assertEqual(sorted(hidden), [(0.2, "c"), (1.8, "c"), (2.2, "c")])
+        heights = [bar.get_height() for bar in axes.patches]
+        self.assertEqual(heights, [5, 3, 0, 0, 0, 0])
+        self.assertEqual(axes.get_ylabel(), "perturbed count, c: hidden")
+
     def test_what_cant_be_drawn(self):
-        self.assertRaises(ValueError, self.drawn, "AGE", totals=True, labels=True)
+        table = tablebuilder.Table(0, ("A",), (["a", "b", "a"],), [1, 2, 3])
+        self.assertRaises(ValueError, ask.plot, table, "it.png")
         # (to draw into a file took a backend without windows)
         self.drawn("MANY")
         table = tablebuilder.Table(0, ("A",), (["a"],), [1])

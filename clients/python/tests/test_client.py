@@ -6,9 +6,10 @@ import tempfile
 import unittest
 
 import tablebuilder
-from tablebuilder import Busy, CannotDescribe, Category, Ended, OlderRelease, OutOfMemory
-from tablebuilder import Refused, Table
+from tablebuilder import Busy, CannotDescribe, Category, Ended, NotHeld, OlderRelease, OutOfMemory
+from tablebuilder import Refused, RepeatedLabel, Table
 from tablebuilder import Unexpected, Unkept, Variable
+from tablebuilder.hints import Known, hint_of
 from tests.prepared import OLDER, REPLIES, prepared_port
 
 try:
@@ -98,6 +99,18 @@ class Replies(WithServer):
             session.table("WAIT")
         self.assertNotIsInstance(caught.exception, Busy)
 
+    def test_a_session_that_ends_before_a_reply(self):
+        session = self.connect()
+        with self.assertRaises(Busy) as caught:
+            session.table("NOTHING")
+        self.assertIn("all workers of this port may have a client", str(caught.exception))
+        self.assertFalse(session.is_open)
+        session = self.connect()
+        session.table("MANY")
+        with self.assertRaises(Ended) as caught:
+            session.table("NOTHING")
+        self.assertNotIsInstance(caught.exception, Busy)
+
     def test_lines_without_a_reply(self):
         session = self.connect(timeout=5)
         for line in ("", " \t", "# a comment"):
@@ -152,11 +165,169 @@ class Older(WithServer):
         self.assertEqual(session.table("SEX").counts, [1, 2])
 
 
+class Holding(WithServer):
+    def test_edits_of_which_some_are_not_held(self):
+        session = self.connect()
+        with self.assertRaises(NotHeld) as caught:
+            session.hold(["drop 1", "drop 2", "amend 3 AREA=e1", "drop 4"])
+        fault = caught.exception
+        self.assertEqual([number for number, _ in fault.faults], [2, 3])
+        self.assertIsInstance(fault.faults[0][1], OutOfMemory)
+        self.assertEqual(fault.faults[1][1].line, "amend 3 AREA=e1")
+        self.assertEqual((fault.lines, fault.held), (4, 2))
+        self.assertEqual(
+            str(fault).splitlines(),
+            [
+                "2 of 4 edits aren't held; 2 are held now: `publish` would make a release of these,"
+                " `close` gives them up",
+                "line 2: memory: drop 2",
+                "line 3: refused edit 4 UnknownCode: AREA has no code e1: E1 differs by case only",
+                "    amend 3 AREA=e1",
+            ],
+        )
+        self.assertTrue(session.is_open)
+
+    def test_what_is_no_edit_is_not_sent(self):
+        session = self.connect()
+        for lines in (["drop 1", "table SEX"], ["drop 1\ndrop 4"], [""], ["publish"]):
+            self.assertRaises(ValueError, session.hold, lines)
+        self.assertRaises(ValueError, session.hold, ["drop 1", "amend 3 AREA=" + "e" * 4_096])
+        self.assertEqual(session.hold([]), 0)
+        self.assertEqual(session.hold(["drop 1"]), 1)
+
+    def test_many_faults(self):
+        faults = [(number, Refused("drop x", 2, "BadNumber")) for number in range(1, 15)]
+        told = str(NotHeld(faults, 20, 6)).splitlines()
+        self.assertEqual((len(told), told[-1]), (22, ".. 4 more"))
+
+
+class Hints(WithServer):
+    VARIABLES = [
+        Variable("SEX", "variable", 2),
+        Variable("AREA", "variable", 12),
+        Variable("AREA2", "recode of AREA", 2),
+    ]
+    CODES = {
+        "SEX": [Category("1", "Male", ()), Category("2", "Female", ())],
+        "AREA": [Category(f"E{it}", "", ()) for it in range(12)],
+        "AREA2": [Category("north", None, ("E1",)), Category("south", None, ("E2",))],
+    }
+
+    def test_which_it_is(self):
+        known = Known(self.VARIABLES, self.CODES.__getitem__)
+        codes = "E0, E1, E2, E3, E4, E5, E6, E7, .."
+        for line, word, position, wanted in [
+            ("table sex", "UnknownName", 2, "no variable and no recode is named sex: SEX differs"
+             " by case only"),
+            ("table FOO", "UnknownName", 2, "no variable and no recode is named FOO"),
+            ("at 3 table SEX by area2", "UnknownName", 4, "no variable and no recode is named area2:"
+             " AREA2 differs by case only"),
+            ("table SEX where AREA in (E1, e2)", "UnknownCode", 9,
+             "AREA has no code e2: E2 differs by case only"),
+            ("table SEX where SEX in (Male)", "UnknownCode", 7,
+             "SEX has no code Male: that is the label of 1"),
+            ("table SEX where AREA in (x)", "UnknownCode", 7, f"AREA has no code x: it has {codes}"),
+            ("table SEX where AREA2 not in (x)", "UnknownCode", 8,
+             "AREA2 has no group x: it has north, south"),
+            ("amend 3 SEX=1 AREA=E12", "UnknownCode", None,
+             f"AREA has no code E12: it has {codes}"),
+            ("amend 3 SEX=1 Area=E1", "UnknownName", None,
+             "no variable is named Area: AREA differs by case only"),
+            ("amend 3 AREA2=E1", "UnknownName", None, "no variable is named AREA2"),
+            ("add 3 7 AREA=E1", "Missing", None, "an add sets every variable, also SEX"),
+            ("amend 3 SEX=1 AREA=E1 SEX=2", "Repeated", None, "SEX is set twice"),
+            ("amend 3 SEX", "Syntax", None, None),
+            ("table SEX by SEX", "RepeatedDimension", 4, None),
+        ]:
+            with self.subTest(line):
+                self.assertEqual(hint_of(line, word, position, known), wanted)
+
+    def test_a_refusal_says_it(self):
+        session = self.connect()
+        with self.assertRaises(Refused) as caught:
+            session.table("sex")
+        told = "no variable and no recode is named sex: SEX differs by case only"
+        self.assertEqual(caught.exception.hint, told)
+        self.assertIn(f"refused 3 UnknownName 2: {told}\n    table sex\n", str(caught.exception))
+
+
+class OlderHints(WithServer):
+    replies = {**OLDER, b"table sex": [b"refused 3 UnknownName 2\n"]}
+
+    def test_a_server_that_does_not_tell(self):
+        session = self.connect()
+        for _ in range(2):
+            with self.assertRaises(Refused) as caught:
+                session.table("sex")
+            self.assertIsNone(caught.exception.hint)
+
+
+class Labels(WithServer):
+    def test_labels_that_repeat(self):
+        session = self.connect()
+        with self.assertRaises(RepeatedLabel) as caught:
+            session.table("AGE", totals=True, labels=True)
+        self.assertEqual(caught.exception.labels, ("same",))
+        self.assertEqual(caught.exception.reply[2], "Total,1")
+        self.assertTrue(session.is_open)
+
+    def test_a_label_as_the_totals(self):
+        reply = ["release 0", "A,B,count"]
+        reply += [f"{a},{b},1" for a in ("x", "y") for b in ("Total", "Total")]
+        with self.assertRaises(RepeatedLabel) as caught:
+            tablebuilder.table_of([*reply, "."])
+        self.assertEqual(caught.exception.labels, ("x", "Total"))
+        reply[2:] = [f"{a},{b},1" for a in ("x", "y") for b in ("y", "Total")]
+        self.assertEqual(len(tablebuilder.table_of([*reply, "."])), 4)
+
+
 class Prints(WithServer):
+    def test_a_cross_table(self):
+        table = self.connect().table("AGE by SEX", totals=True)
+        told = (
+            "release 3, 9 places\n"
+            "       SEX\n"
+            "AGE    2  1  Total\n"
+            "65+    1  2      3\n"
+            "0-15   4  5      9\n"
+            "Total  5  7     12"
+        )
+        self.assertEqual(str(table), told)
+        self.assertEqual(table.wide(), told)
+        self.assertEqual(
+            table.wide(1).splitlines()[3:], ["65+    1  2      3", ".. 1 more", "Total  5  7     12"]
+        )
+
+    def test_three_dimensions_across(self):
+        codes = (["a"] * 4 + ["b"] * 4, ["x", "x", "y", "y"] * 2, ["1", "2"] * 4)
+        table = Table(7, ("A", "B", "C"), codes, [1, 2, 3, None, 5, 6, 7, 1000])
+        self.assertEqual(
+            table.wide(),
+            "release 7, 8 places\n"
+            "      C\n"
+            "A  B  1     2\n"
+            "a  x  1     2\n"
+            "a  y  3     c\n"
+            "b  x  5     6\n"
+            "b  y  7  1000",
+        )
+
+    def test_what_is_too_wide_for_a_screen(self):
+        # (columns of 10 characters behind one of 1: 91, and then 101)
+        names = [f"{it:08}" for it in range(10)]
+        table = Table(0, ("A", "B"), (["a"] * 9, names[:9]), list(range(9)))
+        self.assertIn("\n   B\nA  00000000", str(table))
+        table = Table(0, ("A", "B"), (["a"] * 10, names), list(range(10)))
+        self.assertIn("\nA  B         count\na  00000000      0\n", str(table))
+
+    def test_one_dimension_across(self):
+        table = Table(0, ("A",), (["a", "b"],), [1, None])
+        self.assertEqual(table.wide(), "release 0, 2 places\nA\na  b\n1  c")
+
     def test_a_short_table(self):
         session = self.connect()
         self.assertEqual(
-            str(session.table("AGE by SEX", totals=True)),
+            session.table("AGE by SEX", totals=True).text(),
             "release 3, 9 places\n"
             "AGE    SEX    count\n"
             "65+    2          1\n"
@@ -211,11 +382,6 @@ class Frames(WithServer):
             self.assertEqual(list(frame[name].cat.categories), wanted)
         shuffled = frame.sample(frac=1, random_state=1).sort_values(["AGE", "SEX"])
         self.assertEqual(list(shuffled["count"]), list(frame["count"]))
-
-    def test_labels_that_are_equal(self):
-        ages = self.frame("AGE", totals=True, labels=True)["AGE"]
-        self.assertEqual(list(ages.cat.categories), ["same", "old", "Total"])
-        self.assertEqual(list(ages), ["Total", "same", "same", "old", "Total"])
 
 
 class Explanations(unittest.TestCase):
