@@ -4,6 +4,7 @@
 tests that need these are passed over where they aren't there.
 """
 import contextlib
+import hashlib
 import io
 import os
 import socket
@@ -505,6 +506,215 @@ class TheLastRelease(Files):
             tables.append(rows)
         self.assertEqual(tables[0], tables[1])
         self.assertEqual(tables[0].count("."), 2)
+
+
+class Differences(Files):
+    """Over examples/small: the edits from its microdata to others."""
+
+    OLD = f"{SMALL}/people.csv"
+
+    def diff(self, new, left="-", old=None):
+        path = self.write("new.csv", new)
+        return self.run_it("diff", f"{SMALL}/classes.csv", old or self.OLD, path, left), path
+
+    def test_lines(self):
+        new = b"person,record_key,SEX,AGE,AREA\n101,200,1,0-15,E1\n102,100,2,65+,E1\n"
+        new += b"103,20,1,65+,E2\n105,9,2,65+,E1\n"
+        lines = ["drop 104", "amend 102 SEX=2 AGE=65+", "add 105 9 SEX=2 AGE=65+ AREA=E1", "publish"]
+        self.assertEqual(self.diff(new)[0], (0, "\n".join([*lines, ""]), ""))
+
+    def test_nothing_to_do(self):
+        with open(self.OLD, "rb") as file:
+            self.assertEqual(self.diff(file.read())[0], (0, "", ""))
+
+    def test_a_publish_behind_each_batch(self):
+        rows = b"".join(b"%d,1,1,0-15,E1\n" % person for person in range(1, 10_002))
+        (status, out, told), _ = self.diff(b"person,record_key,SEX,AGE,AREA\n" + rows)
+        self.assertEqual((status, told), (0, ""))
+        lines = out.splitlines()
+        self.assertEqual([at for at, it in enumerate(lines) if it == "publish"], [10_000, 10_006])
+        self.assertEqual(lines[:4], [f"drop {person}" for person in (101, 102, 103, 104)])
+
+    def test_what_would_be_refused(self):
+        """A person's other key, one who left and comes with another, and a code, and no line."""
+        left = self.write("left.csv", b"person,record_key\n105,8\n")
+        new = b"person,record_key,SEX,AGE,AREA\n101,201,1,0-15,E1\n102,101,1,16-64,E1\n"
+        new += b"103,20,1,65+,E9\n105,9,2,65+,E1\n"
+        done, path = self.diff(new, left)
+        told = f"{path}: 3 KeyChanged, first at record 1: person 101 has the record key 200, and"
+        told += f" here has 201\n{path}: 1 UnknownCode, first at record 3: AREA has no code 'E9'\n"
+        self.assertEqual(done, (1, "", told))
+
+    def test_the_key_range_and_the_limit_of_persons(self):
+        header = b"person,record_key,SEX,AGE\n"
+        old, new = self.write("old.csv", header), header + b"1,4095,1,a\n2,4096,1,a\n"
+        new = new.replace(b",a", b",65+")
+        path = self.write("new.csv", new)
+        classes = self.write("classes.csv", LARGE_CLASSES.replace(b"1000000", b"1"))
+        told = f"{path}: 1 BadKey, first at record 2: '4096' is no record key below 4,096\n"
+        self.assertEqual(self.run_it("diff", classes, old, path, "-"), (1, "", told))
+        self.write("new.csv", new.replace(b"4096", b"0"))
+        told = f"{path}: TooMany: it has 2 persons, and a release at most 1\n"
+        self.assertEqual(self.run_it("diff", classes, old, path, "-"), (1, "", told))
+
+    def test_files_that_are_not_there(self):
+        told = "/no/such: No such file or directory\n"
+        words = [f"{SMALL}/classes.csv", self.OLD, self.OLD, "-"]
+        for place in range(4):
+            tried = [*words[:place], "/no/such", *words[place + 1 :]]
+            self.assertEqual(self.run_it("diff", *tried), (1, "", told))
+
+    @unittest.skipUnless(PROGRAM, "no program is named")
+    def test_it_leads_there(self):
+        """What is printed after a journal's last release makes the new file's tables."""
+        journal_path = self.write("journal", journal_of(*(payload_of(*it) for it in Playing.BATCHES)))
+        files = [f"{SMALL}/{name}.csv" for name in ("classes", "recodes", "ptable", "people")]
+        last = os.path.join(self.folder, "last")
+        words = [files[0], *files[2:], journal_path, last]
+        self.assertEqual(self.run_it("last", *words), (0, "threshold 3\n", ""))
+        new = b"person,record_key,SEX,AGE,AREA\n104,7,1,0-15,E1\n102,100,1,65+,E1\n"
+        new += b"103,20,1,65+,E2\n300,5,1,0-15,E2\n"
+        (status, text, told), path = self.diff(new, f"{last}/left.csv", f"{last}/people.csv")
+        self.assertEqual((status, told), (0, ""))
+        asked = "a table AREA by SEX with totals\na table AGE by AREA\n"
+        played = self.run_it("print", files[0], journal_path)[1] + text
+        lines = "".join(f"custodian {line}\n" for line in played.splitlines())
+        tables = []
+        for people, ptable, threshold, script in [
+            (files[3], files[2], "0", lines + asked),
+            (path, f"{last}/ptable.csv", "3", asked),
+        ]:
+            words = [PROGRAM, "script", *files[:2], ptable, people, threshold]
+            words.append(self.write("script", script.encode()))
+            out = subprocess.run(words, capture_output=True, timeout=60, check=False).stdout
+            self.assertNotIn(b"refused", out)
+            others = ("held ", "published ", "release ")
+            rows = out.decode().splitlines()
+            tables.append([row for row in rows if not row.startswith(others)])
+        self.assertEqual(tables[0], tables[1])
+        self.assertEqual(tables[0].count("."), 2)
+
+
+class Setups(Files):
+    """What a journal was begun with, noted beside it."""
+
+    def setUp(self):
+        super().setUp()
+        self.journal = self.write("journal", journal_of(payload_of("02 00000068")))
+        names = ("recodes", "ptable", "people", "dwellings", "links")
+        self.files = {name: self.write(name, name.encode()) for name in names}
+        self.files.update(classes=self.classes, threshold="10")
+
+    def words(self, **others):
+        files = {**self.files, **others}
+        names = ("classes", "recodes", "ptable", "people", "threshold", "dwellings", "links")
+        return [self.journal, *(files[name] for name in names)]
+
+    def setup(self, **others):
+        return self.run_it("setup", *self.words(**others))
+
+    def text(self, threshold=b"10", **others):
+        """The text of the seven lines, by the sums that `sha256sum` gives too."""
+        def sum_of(name):
+            data = others.get(name, name.encode() if name != "classes" else CLASSES)
+            return b"-" if data is None else hashlib.sha256(data).hexdigest().encode()
+
+        names = (b"classes", b"recodes", b"ptable", b"people")
+        lines = [name + b" " + sum_of(name.decode()) for name in names]
+        lines += [b"threshold " + threshold]
+        lines += [name + b" " + sum_of(name.decode()) for name in (b"dwellings", b"links")]
+        return b"".join(line + b"\n" for line in lines)
+
+    def told(self, text):
+        return f"setup {hashlib.sha256(text).hexdigest()}\n"
+
+    def test_what_is_noted(self):
+        os.remove(self.journal)
+        self.assertEqual(self.setup(), (0, self.told(self.text()), ""))
+        self.assertEqual(self.read("journal.setup"), self.text())
+        self.assertNotIn("journal.setup.part", os.listdir(self.folder))
+        few = self.text(b"0", recodes=None, dwellings=None, links=None)
+        done = self.setup(threshold="000", recodes="-", dwellings="-", links="-")
+        self.assertEqual(done, (0, self.told(few), ""))
+        self.assertEqual(self.read("journal.setup"), few)
+
+    def test_the_same_again(self):
+        why = "it has batches, and these files are noted as those that it was begun with"
+        told = f"{self.journal}: {why}\n"
+        self.assertEqual(self.setup(), (0, self.told(self.text()), told))
+        self.assertEqual(self.setup(), (0, self.told(self.text()), ""))
+        # (another name of the same file, and other digits of the same number)
+        same = self.write("same", b"people")
+        self.assertEqual(self.setup(people=same, threshold="0010")[0], 0)
+
+    def test_what_differs(self):
+        self.setup()
+        other = self.write("other.csv", b"other")
+        anew = "begin a new journal for it (docs/SERVER.md, 'To begin anew')"
+        end = f"to accept what is new all the same, remove {self.journal}.setup"
+        for name, what in [
+            ("classes", anew),
+            ("recodes", anew),
+            ("ptable", "change pvalues by a publication, `pvalue PCV CKEY P`"),
+            ("people", "change persons by publications, as `journal.py diff` prints them"),
+            ("dwellings", anew),
+            ("links", anew),
+        ]:
+            with self.subTest(name):
+                why = f"{other} isn't the file that this journal was begun with; {what}"
+                told = f"{self.journal}: {why}\n{self.journal}: {end}\n"
+                self.assertEqual(self.setup(**{name: other}), (1, "", told))
+        why = "9 isn't the threshold that this journal was begun with; "
+        why += "change it by a publication, `threshold T`"
+        told = f"{self.journal}: {why}\n{self.journal}: {end}\n"
+        self.assertEqual(self.setup(threshold="9"), (1, "", told))
+        status, out, told = self.setup(threshold="9", recodes="-", ptable=other)
+        self.assertEqual((status, out, told.count("\n")), (1, "", 4))
+        self.assertEqual(self.read("journal.setup"), self.text())
+
+    def test_what_is_accepted_on_purpose(self):
+        self.setup()
+        os.remove(f"{self.journal}.setup")
+        self.assertEqual(self.setup(threshold="9")[:2], (0, self.told(self.text(b"9"))))
+        self.assertEqual(self.read("journal.setup"), self.text(b"9"))
+
+    def test_a_journal_that_is_begun_anew(self):
+        for data in (None, b"", b"TBJ", HEADER + GATE, b"012345678"):
+            self.write("journal.setup", b"of another")
+            if data is None:
+                os.remove(self.journal)
+            else:
+                self.write("journal", data)
+            self.assertEqual(self.setup(), (0, self.told(self.text()), ""))
+            self.assertEqual(self.read("journal.setup"), self.text())
+        self.write("journal", b"0123456789")
+        self.assertEqual(self.setup(threshold="9")[0], 1)
+
+    def test_a_note_that_is_none(self):
+        for data in (b"", self.text()[:-1], self.text() + b"\n", b"\xff\n", self.text()[1:]):
+            self.write("journal.setup", data)
+            status, out, told = self.setup()
+            self.assertEqual((status, out), (1, ""))
+            self.assertTrue(told.endswith(f"remove {self.journal}.setup\n"), told)
+            self.assertEqual(self.read("journal.setup"), data)
+
+    def test_words_that_are_none(self):
+        for threshold in ("", "-1", "+1", "1.0", "1e3", "\u0661", "00000000001", "1000001", " 1"):
+            with self.subTest(threshold):
+                status, out, told = self.setup(threshold=threshold)
+                self.assertEqual((status, out), (1, ""))
+                self.assertIn("threshold", told)
+        self.assertEqual(self.setup(threshold="1000000")[0], 0)
+        for one in ({"dwellings": "-"}, {"links": "-"}):
+            self.assertEqual(self.setup(**one)[0], 1)
+        status, out, told = self.setup(people="/no/such")
+        self.assertEqual((status, out, told), (1, "", "/no/such: No such file or directory\n"))
+
+    def test_a_folder_that_is_not_there(self):
+        words = ["/no/such/journal", *self.words()[1:]]
+        status, out, told = self.run_it("setup", *words)
+        self.assertEqual((status, out), (1, ""))
+        self.assertTrue(told.startswith("/no/such/journal.setup.part: "), told)
 
 
 class Playing(Files):
