@@ -62,8 +62,10 @@ def _of_name(name: str, names: Sequence[str], kind: str) -> str:
     return f"no {kind} is named {name}{_differs_by_case(alike)}"
 
 
-def _of_code(name: str, code: str, known: Known) -> str:
+def _of_code(name: str, code: str, known: Known) -> Optional[str]:
     codes = known.codes_of(name)
+    if not codes:
+        return None
     alike = [it.code for it in codes if it.code.lower() == code.lower()]
     labels = [it.code for it in codes if it.label is not None and it.label == code]
     unit = "group" if any(it.label is None for it in codes) else "code"

@@ -404,21 +404,30 @@ class Session:
         raise Refused(line, int(parts[0]), parts[1], position, edit, edit_line, hint)
 
     def _hint(self, line: str, word: str, position: Optional[int]) -> Optional[str]:
-        """Which name or code of a refused line is wrong, as far as the server tells what there is,
-        which it is asked once."""
+        """Which name or code of a refused line is wrong, as far as the server tells what there is;
+        it is asked once for each list."""
         try:
             if self._variables is None:
-                # (nothing more is asked of a server that doesn't tell)
-                self._variables = []
-                self.variables()
-            if not self._variables:
-                return None
-            return hint_of(line, word, position, Known(self._variables, self._codes_of))
+                self._variables = self._list("describe", variables_of)
+            known = Known(self._variables, self._codes_of)
+            return hint_of(line, word, position, known) if self._variables else None
         except Error:
             return None
 
     def _codes_of(self, name: str) -> list[Category]:
-        return self._codes[name] if name in self._codes else self.codes(name)
+        if name not in self._codes:
+            told = self._list(f"describe {name}", lambda reply: categories_of(name, reply))
+            self._codes[name] = told
+        return self._codes[name]
+
+    def _list(self, line: str, meaning: Callable[[list[str]], list[T]]) -> list[T]:
+        """What a list has, or nothing where the reply is none: an older server has no lists, and
+        another kind of port has its own refusals."""
+        (reply,) = self._exchange([line])
+        try:
+            return meaning(reply)
+        except ValueError:
+            return []
 
     def _exchange(self, lines: Sequence[str]) -> list[list[str]]:
         """The replies to lines that each have one."""

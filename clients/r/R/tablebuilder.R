@@ -29,7 +29,11 @@
 #                     Withdrawn that of the oldest one that is shown; else NA) and, of tb_publish,
 #                     the `edit` that can't be made (from 1; 0 for all of them together; else NA).
 #                     Of a query that ends too early or goes on otherwise than it may the message
-#                     says what was expected there. The session goes on.
+#                     says what was expected there, and which name or code is wrong, where the
+#                     server tells what there is. The session goes on.
+#     tb_not_held     some edits of tb_hold aren't held: `faults` has for each of them what was
+#                     signalled, by the number of its line. All others are: it has how many are
+#                     `held` now. tb_publish would make a release of these, tb_close gives them up.
 #     tb_memory       the server had no memory for the reply. Nothing has changed, and the same may
 #                     be tried again.
 #     tb_cannot_describe
@@ -40,8 +44,12 @@
 #                     again. It may have this batch all the same: once it was started again, the
 #                     release of tb_stats tells, before anything is tried again.
 #     tb_ended        the session has ended: it was closed, or the server went away.
-#     tb_busy         nothing came in time, not even a first reply: all workers may have clients.
-#                     It is a tb_ended too.
+#     tb_busy         nothing came in time, or the session ended, before a first reply: all workers
+#                     may have clients. It is a tb_ended too.
+#     tb_repeated_label
+#                     categories of one dimension share a label, or one has that of the totals, so
+#                     that places of the table can't be told apart: ask for it without labels. The
+#                     session goes on.
 #     tb_older_release
 #                     a table, unless a release was asked for, is of an earlier release than one that
 #                     came from the same address before: by another worker or mirror. It has the
@@ -60,6 +68,8 @@ tb_connect <- function(port, host = "127.0.0.1", timeout = 86400) {
   session$address <- paste0(host, ":", port)
   session$timeout <- timeout
   session$is_served <- FALSE
+  session$held <- 0
+  session$codes <- list()
   session$connection <- tryCatch(
     socketConnection(host, port, blocking = TRUE, open = "r+", timeout = timeout),
     error = function(fault) tb_fail("tb_ended", conditionMessage(fault)),
@@ -138,6 +148,13 @@ tb_table <- function(session, query, where = NULL, totals = FALSE, labels = FALS
   if (last < 4 || !grepl("^release [0-9]+$", reply[1])) tb_expect_another(session, reply)
   table <- tb_records(reply[2:(last - 1)])
   dimensions <- seq_len(ncol(table) - 1)
+  twice <- anyDuplicated(table[dimensions])
+  if (twice) {
+    labels <- paste(unlist(table[twice, dimensions]), collapse = ", ")
+    tb_fail("tb_repeated_label", paste0(
+      "labels repeat: two places of the table are ", labels, "; ask without labels"
+    ))
+  }
   counts <- table[[ncol(table)]]
   counts[counts == "c"] <- NA
   table[dimensions] <- lapply(table[dimensions], tb_in_order)
@@ -172,29 +189,76 @@ tb_forget_releases <- function() {
   rm(list = ls(tb_printed), envir = tb_printed)
 }
 
-#' Print a table: its release, its first places, and the last where there are more.
+#' Make a cross table: the last dimension goes across, the others down.
 #'
-#' @param most How many places to show from the first on.
+#' @param table What `tb_table` returned for two dimensions or more, whole and in its order.
+#' @return A data frame with a row for each place of the other dimensions, these as factors, and an
+#'   integer column for each code of the last one, named by it.
+tb_wide <- function(table) {
+  dimensions <- ncol(table) - 1
+  if (dimensions < 2) stop("a cross table has two dimensions or more")
+  across <- levels(table[[dimensions]])
+  rows <- matrix(seq_len(nrow(table)), nrow = length(across))
+  wide <- as.data.frame(table)[rows[1, ], seq_len(dimensions - 1), drop = FALSE]
+  class(wide) <- "data.frame"
+  for (place in seq_along(across)) {
+    wide[[length(wide) + 1]] <- table[[dimensions + 1]][rows[place, ]]
+  }
+  names(wide) <- c(names(table)[seq_len(dimensions - 1)], across)
+  rownames(wide) <- NULL
+  attr(wide, "release") <- attr(table, "release")
+  wide
+}
+
+#' Print a table: its release and its first lines, and the last where there are more.
+#'
+#' It is a cross table where it has two dimensions or more, is whole, and no line is longer than the
+#' option `width`; else it has a line for each place.
+#'
+#' @param most How many lines to show from the first on.
 print.tb_table <- function(x, most = 10, ...) {
   release <- attr(x, "release")
   places <- nrow(x)
   cat(
     if (!is.null(release)) paste0("release ", tb_digits(release), ", "),
-    format(places, big.mark = ","), " place", if (places != 1) "s", "\n",
+    format(places, big.mark = ","), " place", if (places != 1) "s",
     sep = ""
   )
-  is_cut <- places > most + 1
-  shown <- as.data.frame(x)[if (is_cut) c(seq_len(most), places) else seq_len(places), ,
+  lines <- if (tb_is_whole(x)) tb_printed_lines(tb_wide(x), most, ...)
+  if (is.null(lines) || max(nchar(lines)) > getOption("width")) {
+    cat("\n")
+    lines <- tb_printed_lines(x, most, ...)
+  } else {
+    cat(",", names(x)[ncol(x) - 1], "across\n")
+  }
+  writeLines(lines)
+  invisible(x)
+}
+
+# Whether a table of two dimensions or more has each place once, in order, as tb_table returns it.
+tb_is_whole <- function(table) {
+  dimensions <- table[-ncol(table)]
+  if (length(dimensions) < 2 || !all(vapply(dimensions, is.factor, NA))) return(FALSE)
+  sizes <- vapply(dimensions, nlevels, 0L)
+  if (prod(sizes) != nrow(table)) return(FALSE)
+  places <- do.call(expand.grid, lapply(rev(sizes), seq_len))
+  all(mapply(function(codes, wanted) all(as.integer(codes) == wanted), dimensions, rev(places)))
+}
+
+# The first lines of a data frame, and the last where there are more.
+tb_printed_lines <- function(frame, most, ...) {
+  count <- nrow(frame)
+  is_cut <- count > most + 1
+  shown <- as.data.frame(frame)[if (is_cut) c(seq_len(most), count) else seq_len(count), ,
     drop = FALSE
   ]
   class(shown) <- "data.frame"
   lines <- utils::capture.output(print(shown, ..., row.names = FALSE))
   if (is_cut) {
-    more <- paste0(" .. ", format(places - most - 1, big.mark = ","), " more")
+    more <- paste0(" .. ", format(count - most - 1, big.mark = ","), " more")
     lines <- append(lines, more, length(lines) - 1)
   }
-  writeLines(lines)
-  invisible(x)
+  lines
 }
 
 # ---- for the custodian
@@ -203,29 +267,29 @@ print.tb_table <- function(x, most = 10, ...) {
 #'
 #' @return How many edits are held now; so for the other calls that hold an edit.
 tb_add <- function(session, person, record_key, ...) {
-  tb_hold(session, c("add", tb_digits(person), tb_digits(record_key), tb_settings(...)))
+  tb_held(session, c("add", tb_digits(person), tb_digits(record_key), tb_settings(...)))
 }
 
 #' Hold an edit that gives a person other codes of some variables.
 tb_amend <- function(session, person, ...) {
-  tb_hold(session, c("amend", tb_digits(person), tb_settings(...)))
+  tb_held(session, c("amend", tb_digits(person), tb_settings(...)))
 }
 
 #' Hold an edit by which a person leaves.
 tb_drop <- function(session, person) {
-  tb_hold(session, c("drop", tb_digits(person)))
+  tb_held(session, c("drop", tb_digits(person)))
 }
 
 #' Hold an edit that sets the pvalue at a row and a cell key of the perturbation table.
 #'
 #' It goes before the pvalue of the server's file from the release on that tb_publish makes.
 tb_set_pvalue <- function(session, row, cell_key, pvalue) {
-  tb_hold(session, c("pvalue", tb_digits(row), tb_digits(cell_key), tb_digits(pvalue)))
+  tb_held(session, c("pvalue", tb_digits(row), tb_digits(cell_key), tb_digits(pvalue)))
 }
 
 #' Hold an edit that sets the threshold, below which a perturbed count is hidden.
 tb_set_threshold <- function(session, threshold) {
-  tb_hold(session, c("threshold", tb_digits(threshold)))
+  tb_held(session, c("threshold", tb_digits(threshold)))
 }
 
 #' Hold an edit that takes back the releases before this one.
@@ -233,7 +297,41 @@ tb_set_threshold <- function(session, threshold) {
 #' From the release on that tb_publish makes, tb_table with `at` refuses them. What was printed of
 #' them stays printed, and none comes back.
 tb_set_oldest <- function(session, release) {
-  tb_hold(session, c("oldest", tb_digits(release)))
+  tb_held(session, c("oldest", tb_digits(release)))
+}
+
+#' Hold many edits, each by its line, as `journal.py diff` prints them without `publish`.
+#'
+#' No reply is waited for before the next lines are sent. What isn't held is signalled as
+#' `tb_not_held`, with each fault; all others are held then.
+#'
+#' @return How many edits are held now.
+tb_hold <- function(session, lines) {
+  is_edit <- grepl("^[ \t]*(add|amend|drop|pvalue|threshold|oldest)([ \t]|$)", lines) &
+    !grepl("\n", lines, fixed = TRUE) & nchar(enc2utf8(lines), "bytes") <= 4096
+  if (!all(is_edit)) stop("line ", which(!is_edit)[1], " is no edit")
+  faults <- list()
+  # (so few at a time that their replies have room on their way)
+  for (sent in split(seq_along(lines), (seq_along(lines) - 1) %/% 500)) {
+    replies <- tb_exchange(session, lines[sent])
+    for (place in seq_along(sent)) {
+      faults[[as.character(sent[place])]] <- tryCatch(
+        {
+          tb_answer(session, lines[sent[place]], replies[[place]])
+          NULL
+        },
+        tb_refused = identity, tb_memory = identity
+      )
+    }
+  }
+  if (length(faults) > 0) {
+    told <- vapply(utils::head(faults, 10), conditionMessage, "")
+    tb_fail("tb_not_held", paste(c(
+      paste(length(faults), "of", length(lines), "edits aren't held;", session$held, "are held now"),
+      paste0("line ", names(told), ": ", told)
+    ), collapse = "\n"), faults = faults, held = session$held)
+  }
+  session$held
 }
 
 #' Make the held edits the next release, all or none.
@@ -307,7 +405,7 @@ tb_settings <- function(...) {
   if (length(codes) > 0) paste0(names(codes), "=", texts)
 }
 
-tb_hold <- function(session, words) {
+tb_held <- function(session, words) {
   tb_numbers(session, paste(words, collapse = " "), "held N")
 }
 
@@ -323,12 +421,18 @@ tb_numbers_in <- function(line) as.numeric(regmatches(line, gregexpr("[0-9]+", l
 # The lines of the reply to a line.
 tb_reply <- function(session, line) {
   if (grepl("\n", line, fixed = TRUE)) stop("a line feed would begin another line")
-  reply <- tb_exchange(session, line)
+  tb_answer(session, line, tb_exchange(session, line)[[1]])
+}
+
+# The lines of the reply to a line, where it isn't one that signals.
+tb_answer <- function(session, line, reply) {
   if (identical(reply, "memory")) tb_fail("tb_memory", paste("no memory for:", line), line = line)
   if (line == "publish" && identical(reply, "unkept")) {
     tb_fail("tb_unkept", "nothing was published: the server couldn't keep the batch", line = line)
   }
   if (startsWith(reply[1], "refused ")) tb_refuse(session, line, reply)
+  if (startsWith(reply[1], "held ")) session$held <- tb_numbers_in(reply[1])
+  if (startsWith(reply[1], "published ")) session$held <- 0
   reply
 }
 
@@ -339,13 +443,116 @@ tb_refuse <- function(session, line, reply) {
   if (length(parts) == 0) tb_expect_another(session, reply)
   # The server ends a session after a line that is too long.
   if (parts[5] == "TooLong") tb_close(session)
+  if (startsWith(parts[2], "batch")) session$held <- 0
   expected <- if (parts[5] == "Syntax" && parts[2] == "") tb_expected(line, as.integer(parts[7]))
   why <- if (!is.null(expected)) paste0(": expected ", expected)
+  hint <- if (is.na(as.integer(parts[3]))) tb_hint(session, line, parts[5], as.integer(parts[7]))
+  if (!is.null(hint)) why <- paste0(": ", hint)
   tb_fail(
     "tb_refused", paste0(reply, why, ": ", line),
     line = line, number = as.integer(parts[4]), word = parts[5],
     position = as.integer(parts[7]), edit = as.integer(parts[3])
   )
+}
+
+# ---- which name or code is wrong
+
+# What is wrong in a line that is refused for this word, at a token or as an edit, as far as the
+# server tells what there is. It is asked once for each list.
+tb_hint <- function(session, line, word, position) {
+  if (is.null(session$connection)) return(NULL)
+  if (!(word %in% c("UnknownName", "UnknownCode", "Missing", "Repeated"))) return(NULL)
+  tryCatch(
+    {
+      if (is.null(session$variables)) session$variables <- tb_list(session, "describe")
+      if (nrow(session$variables) == 0) return(NULL)
+      if (is.na(position)) {
+        tb_hint_of_edit(session, line, word)
+      } else {
+        tb_hint_of_query(session, tb_tokens(line), word, position)
+      }
+    },
+    tb_error = function(fault) NULL
+  )
+}
+
+tb_hint_of_query <- function(session, tokens, word, position) {
+  if (position > length(tokens)) return(NULL)
+  if (word == "UnknownName") {
+    return(tb_hint_of_name(tokens[position], session$variables$name, "variable and no recode"))
+  }
+  # The filter's name stands before `in (` or `not in (`.
+  opening <- utils::tail(which(utils::head(tokens, position - 1) == "("), 1)
+  if (word != "UnknownCode" || length(opening) == 0 || opening < 4) return(NULL)
+  name <- tokens[opening - if (tokens[opening - 2] == "not") 3 else 2]
+  tb_hint_of_code(session, name, tokens[position])
+}
+
+tb_hint_of_edit <- function(session, line, word) {
+  names <- session$variables$name[session$variables$kind == "variable"]
+  settings <- grep("=", strsplit(line, "[ \t]+")[[1]], fixed = TRUE, value = TRUE)
+  given <- sub("=.*", "", settings)
+  codes <- sub("^[^=]*=", "", settings)
+  unknown <- given[!(given %in% names)]
+  if (word == "UnknownName" && length(unknown) > 0) {
+    return(tb_hint_of_name(unknown[1], names, "variable"))
+  }
+  if (word == "UnknownCode") {
+    for (place in which(given %in% names)) {
+      if (!(codes[place] %in% tb_known_codes(session, given[place])[[1]])) {
+        return(tb_hint_of_code(session, given[place], codes[place]))
+      }
+    }
+  }
+  missing <- setdiff(names, given)
+  if (word == "Missing" && length(missing) > 0) {
+    return(paste("an add sets every variable, also", tb_listed(missing)))
+  }
+  if (word == "Repeated" && anyDuplicated(given)) {
+    return(paste(given[anyDuplicated(given)], "is set twice"))
+  }
+  NULL
+}
+
+tb_hint_of_name <- function(name, names, kind) {
+  paste0("no ", kind, " is named ", name, tb_differ_by_case(name, names))
+}
+
+tb_hint_of_code <- function(session, name, code) {
+  known <- tb_known_codes(session, name)
+  if (nrow(known) == 0) return(NULL)
+  codes <- unique(known[[1]])
+  told <- paste(name, if (names(known)[1] == "group") "has no group" else "has no code", code)
+  alike <- tb_differ_by_case(code, codes)
+  if (nzchar(alike)) return(paste0(told, alike))
+  labelled <- known$code[!is.null(known$label) & known$label %in% code]
+  if (length(labelled) > 0) return(paste0(told, ": that is the label of ", labelled[1]))
+  paste0(told, ": it has ", tb_listed(codes))
+}
+
+tb_differ_by_case <- function(word, words) {
+  alike <- words[tolower(words) == tolower(word)]
+  if (length(alike) == 0) "" else {
+    paste0(": ", paste(alike, collapse = " and "), " differs by case only")
+  }
+}
+
+tb_listed <- function(words, most = 8) {
+  paste(c(utils::head(words, most), if (length(words) > most) ".."), collapse = ", ")
+}
+
+tb_known_codes <- function(session, name) {
+  if (is.null(session$codes[[name]])) {
+    session$codes[[name]] <- tb_list(session, paste("describe", name))
+  }
+  session$codes[[name]]
+}
+
+# What a list has, or no rows where the reply is none: an older server has no lists.
+tb_list <- function(session, line) {
+  reply <- tb_exchange(session, line)[[1]]
+  last <- length(reply)
+  if (last < 3 || reply[1] != line) data.frame() else tb_records(reply[2:(last - 1)])
 }
 
 # ---- what was expected in a query
@@ -404,31 +611,33 @@ tb_expected <- function(line, position) {
 
 # ---- the connection
 
-tb_exchange <- function(session, line) {
+# The replies to lines that each have one, each its lines.
+tb_exchange <- function(session, lines) {
   if (is.null(session$connection)) tb_fail("tb_ended", "the session is closed")
   # Whatever interrupts the wait, no later call takes a reply that isn't its own.
   is_whole <- FALSE
   on.exit(if (!is_whole) tb_close(session))
   begin <- proc.time()[["elapsed"]]
   end <- function(fault) {
+    if (session$is_served) tb_fail("tb_ended", conditionMessage(fault))
     is_late <- proc.time()[["elapsed"]] - begin >= session$timeout
-    if (is_late && !session$is_served) {
-      tb_fail(c("tb_busy", "tb_ended"), paste0(
-        "nothing came from ", session$address, " within ", session$timeout,
-        " s: all workers of this port may have a client; the custodian's has one worker"
-      ))
+    how <- if (is_late) paste0("nothing came within ", session$timeout, " s") else {
+      "the session ended before any reply"
     }
-    tb_fail("tb_ended", conditionMessage(fault))
+    tb_fail(c("tb_busy", "tb_ended"), paste0(
+      session$address, ": ", how,
+      ": all workers of this port may have a client; the custodian's has one worker"
+    ))
   }
-  reply <- tryCatch(
+  replies <- tryCatch(
     {
-      writeLines(enc2utf8(line), session$connection, useBytes = TRUE)
-      tb_lines(session)
+      writeLines(enc2utf8(lines), session$connection, useBytes = TRUE)
+      lapply(lines, function(line) tb_lines(session))
     },
     error = end, warning = end
   )
   is_whole <- TRUE
-  reply
+  replies
 }
 
 # The lines up to the end of a reply.
