@@ -33,7 +33,7 @@ class Files(unittest.TestCase):
     def edits(self, new, old=None, left=None, **more):
         more = {"variables": VARIABLES, "keys": 256, **more}
         left = None if left is None else self.write("left.csv", left)
-        old = self.old if old is None else self.write("old.csv", old)
+        old = self.old if old is None else self.write("before.csv", old)
         return edits(old, self.write("new.csv", new), left=left, **more)
 
     def assertFaults(self, wanted, *words, **more):
@@ -123,7 +123,7 @@ class Refusals(Files):
             new = OLD.replace("person,record_key,SEX,AGE", header)
             self.assertFaults([("new.csv", "BadHeader", 1, 0, lacks)], new)
         lacks = "it lacks the column person, or has it twice"
-        self.assertFaults([("old.csv", "BadHeader", 1, 0, lacks)], OLD, "")
+        self.assertFaults([("before.csv", "BadHeader", 1, 0, lacks)], OLD, "")
         lacks = "it lacks the column record_key, or has it twice"
         self.assertFaults([("left.csv", "BadHeader", 1, 0, lacks)], OLD, left="person\n1\n")
 

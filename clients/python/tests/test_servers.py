@@ -13,7 +13,7 @@ import threading
 import unittest
 
 import tablebuilder
-from tablebuilder import Busy, CannotDescribe, Category, Ended, Refused, Stats
+from tablebuilder import Busy, CannotDescribe, Category, Ended, NotHeld, Refused, Stats
 from tablebuilder import Unkept, Variable
 from tablebuilder.query import stage_after, tokens_of
 
@@ -131,6 +131,35 @@ class Refusals(unittest.TestCase):
             session.table("SEX", dwellings=True)
         self.assertIn("expected `table`", str(caught.exception))
 
+    def test_which_name_or_code_is_wrong(self):
+        with analyst() as session:
+            for query, hint in [
+                ("sex", "no variable and no recode is named sex: SEX differs by case only"),
+                ("SEX where AREA in (E1, e2)", "AREA has no code e2: E2 differs by case only"),
+                ("AGE where SEX not in (Male)", "SEX has no code Male: that is the label of 1"),
+                ("AGE where AGE2 in (x)", "AGE2 has no group x: it has young, old"),
+            ]:
+                with self.assertRaises(Refused) as caught:
+                    session.table(query)
+                self.assertEqual(caught.exception.hint, hint)
+            with self.assertRaises(Refused) as caught:
+                session.codes("area")
+            told = "no variable and no recode is named area: AREA differs by case only"
+            self.assertEqual(caught.exception.hint, told)
+        with custodian() as session:
+            for call, hint in [
+                (lambda: session.add(300, 1, SEX="1", AREA="E1"),
+                 "an add sets every variable, also AGE"),
+                (lambda: session.amend(101, SEX="1", AREA="E9"),
+                 "AREA has no code E9: it has E1, E2"),
+                (lambda: session.amend(101, AGE2="old"), "no variable is named AGE2"),
+                (lambda: session.ask("amend 101 SEX=1 SEX=2"), "SEX is set twice"),
+                (lambda: session.drop(0), None),
+            ]:
+                with self.assertRaises(Refused) as caught:
+                    call()
+                self.assertEqual(caught.exception.hint, hint)
+
     def test_a_line_that_is_too_long_ends_the_session(self):
         with analyst() as session:
             # `table SEX` and blanks, up to 4,096 bytes and one more.
@@ -227,10 +256,47 @@ class Custodians(unittest.TestCase):
             self.assertEqual(
                 str(caught.exception).splitlines(),
                 [
-                    "refused batch 1 3 KeyChanged: it adds a person who once had another key",
+                    "refused batch 1 3 KeyChanged: it adds a person who once had another key: give"
+                    " the person's own one",
                     "    add 200 10 SEX=1 AGE=65+ AREA=E1",
                 ],
             )
+
+    def test_many_edits_at_once(self):
+        with custodian() as session:
+            release = session.stats().release
+            pairs = ["drop 101", "add 101 200 SEX=1 AGE=0-15 AREA=E1"]
+            self.assertEqual(session.hold(pairs * 1_000), 2_000)
+            with self.assertRaises(NotHeld) as caught:
+                session.hold(["drop 0", "amend 101 SEX=2", "amend 101 AREA=e1", "amend 101 SEX=1"])
+            faults = [(number, fault.word) for number, fault in caught.exception.faults]
+            self.assertEqual(faults, [(1, "BadNumber"), (3, "UnknownCode")])
+            self.assertEqual(caught.exception.held, 2_002)
+            self.assertEqual(session.publish(), release + 1)
+            self.assertEqual(session.table("SEX").counts, [1, 2])
+            # The server holds 10,000 at most.
+            with self.assertRaises(NotHeld) as caught:
+                session.hold(pairs * 5_001)
+            faults = [(number, fault.word) for number, fault in caught.exception.faults]
+            self.assertEqual(faults, [(10_001, "TooMany"), (10_002, "TooMany")])
+            self.assertEqual(caught.exception.held, 10_000)
+
+    def test_from_one_file_to_the_next(self):
+        small = os.path.join(os.path.dirname(os.path.abspath(__file__)), "../../../examples/small")
+        with tempfile.TemporaryDirectory() as folder, custodian() as session:
+            new = os.path.join(folder, "next.csv")
+            with open(f"{small}/people.csv", encoding="ascii") as file:
+                text = file.read().replace("104,7,2,", "104,7,1,")
+            with open(new, "w", encoding="ascii") as file:
+                file.write(text.replace("103,20,1,65+,E2\n", ""))
+            tables = []
+            for files in ((f"{small}/people.csv", new), (new, f"{small}/people.csv")):
+                for batch in tablebuilder.edits(*files):
+                    session.hold(batch)
+                    session.publish()
+                tables.append(session.table("SEX").counts)
+        # SEX 1 has then 101, 102 and 104, with the keys 200, 100 and 7, so 51: no pvalue.
+        self.assertEqual(tables, [[3, 0], [1, 2]])
 
     def test_the_rules_of_a_release(self):
         """SEX 1 has three persons and the cell key 64, whose pvalue in the file is -2."""

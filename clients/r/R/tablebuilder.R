@@ -148,17 +148,18 @@ tb_table <- function(session, query, where = NULL, totals = FALSE, labels = FALS
   if (last < 4 || !grepl("^release [0-9]+$", reply[1])) tb_expect_another(session, reply)
   table <- tb_records(reply[2:(last - 1)])
   dimensions <- seq_len(ncol(table) - 1)
-  twice <- anyDuplicated(table[dimensions])
-  if (twice) {
-    labels <- paste(unlist(table[twice, dimensions]), collapse = ", ")
-    tb_fail("tb_repeated_label", paste0(
-      "labels repeat: two places of the table are ", labels, "; ask without labels"
-    ))
-  }
   counts <- table[[ncol(table)]]
   counts[counts == "c"] <- NA
   table[dimensions] <- lapply(table[dimensions], tb_in_order)
   table[[ncol(table)]] <- as.integer(counts)
+  if (prod(vapply(table[dimensions], nlevels, 0L)) != nrow(table)) {
+    twice <- anyDuplicated(table[dimensions])
+    labels <- vapply(table[twice, dimensions, drop = FALSE], as.character, "")
+    tb_fail("tb_repeated_label", paste0(
+      "labels repeat: two places of the table are ", paste(labels, collapse = ", "),
+      "; ask without labels"
+    ))
+  }
   while (anyDuplicated(names(table))) {
     names(table)[ncol(table)] <- paste0(names(table)[ncol(table)], "_")
   }
@@ -195,8 +196,8 @@ tb_forget_releases <- function() {
 #' @return A data frame with a row for each place of the other dimensions, these as factors, and an
 #'   integer column for each code of the last one, named by it.
 tb_wide <- function(table) {
+  if (!tb_is_whole(table)) stop("a cross table has two dimensions or more, and each place once")
   dimensions <- ncol(table) - 1
-  if (dimensions < 2) stop("a cross table has two dimensions or more")
   across <- levels(table[[dimensions]])
   rows <- matrix(seq_len(nrow(table)), nrow = length(across))
   wide <- as.data.frame(table)[rows[1, ], seq_len(dimensions - 1), drop = FALSE]

@@ -404,12 +404,121 @@ server_tests <- list(
     expect(levels(table$SEX), c("2", "1", "Total"))
     shuffled <- table[c(9, 4, 1, 7, 2, 8, 3, 6, 5), ]
     expect(shuffled[order(shuffled$AGE, shuffled$SEX), "count"], table$count)
-    # Labels of which two are equal, and one is as the totals are.
-    tb_forget_releases()
-    table <- tb_table(session, "AGE", totals = TRUE, labels = TRUE)
-    expect(levels(table$AGE), c("same", "old", "Total"))
-    expect(as.character(table$AGE), c("Total", "same", "same", "old", "Total"))
     tb_close(session)
+  },
+  labels_that_repeat = function() {
+    session <- prepared()
+    fault <- fault_of("tb_repeated_label", tb_table(session, "AGE", totals = TRUE, labels = TRUE))
+    expect(
+      conditionMessage(fault),
+      "labels repeat: two places of the table are same; ask without labels"
+    )
+    # The session goes on.
+    expect(tb_table(session, "MANY")$count[50], 49L)
+    tb_close(session)
+  },
+  a_cross_table = function() {
+    session <- prepared()
+    table <- tb_table(session, "AGE by SEX", totals = TRUE)
+    wide <- tb_wide(table)
+    expect(names(wide), c("AGE", "2", "1", "Total"))
+    expect(as.character(wide$AGE), c("65+", "0-15", "Total"))
+    expect(levels(wide$AGE), c("65+", "0-15", "Total"))
+    expect(wide[["1"]], c(2L, 5L, 7L))
+    expect(wide$Total, c(3L, 9L, 12L))
+    expect(attr(wide, "release"), 3)
+    expect(capture.output(print(table)), c(
+      "release 3, 9 places, SEX across", "   AGE 2 1 Total", "   65+ 1 2     3",
+      "  0-15 4 5     9", " Total 5 7    12"
+    ))
+    # Some of its places have a line each, and so has each place where a screen is narrow.
+    expect(capture.output(print(table[1:2, ]))[2], " AGE SEX count")
+    narrow <- options(width = 12)
+    expect(length(capture.output(print(table))) > 9, TRUE)
+    options(narrow)
+    fault_of("simpleError", tb_wide(table[1:2, ]))
+    fault_of("simpleError", tb_wide(tb_table(session, "BACK", at = 3)))
+    tb_close(session)
+  },
+  edits_of_which_some_are_not_held = function() {
+    session <- prepared()
+    lines <- c("drop 1", "drop 2", "amend 3 AREA=e1", "drop 4")
+    fault <- fault_of("tb_not_held", tb_hold(session, lines))
+    expect(names(fault$faults), c("2", "3"))
+    expect(inherits(fault$faults[["2"]], "tb_memory"), TRUE)
+    expect(fault$faults[["3"]]$word, "UnknownCode")
+    expect(fault$held, 2)
+    expect(conditionMessage(fault), paste(
+      "2 of 4 edits aren't held; 2 are held now",
+      "line 2: no memory for: drop 2",
+      paste(
+        "line 3: refused edit 4 UnknownCode: AREA has no code e1: E1 differs by case only:",
+        "amend 3 AREA=e1"
+      ),
+      sep = "\n"
+    ))
+    expect(tb_hold(session, character(0)), 2)
+    for (line in c("table SEX", "publish", "", "drop 1\ndrop 4", paste("drop", strrep("1", 5000)))) {
+      fault_of("simpleError", tb_hold(session, c("drop 1", line)))
+    }
+    tb_close(session)
+  },
+  many_edits_at_once = function() {
+    session <- custodian()
+    lines <- rep(c("drop 101", "add 101 200 SEX=1 AGE=0-15 AREA=E1"), 1000)
+    expect(tb_hold(session, lines), 2000)
+    fault <- fault_of("tb_not_held", tb_hold(session, c("drop 0", "drop 104", "drop x")))
+    expect(names(fault$faults), c("1", "3"))
+    expect(fault$held, 2001)
+    # (what is held ends with the session)
+    tb_close(session)
+  },
+  which_name_or_code_is_wrong = function() {
+    session <- analyst()
+    told <- function(expression) conditionMessage(fault_of("tb_refused", expression))
+    expect(told(tb_table(session, "sex")), paste(
+      "refused 3 UnknownName 2: no variable and no recode is named sex: SEX differs by case only:",
+      "table sex"
+    ))
+    expect(told(tb_table(session, "SEX where AREA in (E1, e2)")), paste(
+      "refused 4 UnknownCode 9: AREA has no code e2: E2 differs by case only:",
+      "table SEX where AREA in (E1, e2)"
+    ))
+    expect(told(tb_table(session, "AGE where SEX not in (Male)")), paste(
+      "refused 4 UnknownCode 8: SEX has no code Male: that is the label of 1:",
+      "table AGE where SEX not in (Male)"
+    ))
+    expect(told(tb_table(session, "AGE where AGE2 in (x)")), paste(
+      "refused 4 UnknownCode 7: AGE2 has no group x: it has young, old:",
+      "table AGE where AGE2 in (x)"
+    ))
+    expect(told(tb_codes(session, "area")), paste(
+      "refused 3 UnknownName 2: no variable and no recode is named area: AREA differs by case only:",
+      "describe area"
+    ))
+    tb_close(session)
+    session <- custodian()
+    expect(told(tb_add(session, 300, 1, SEX = "1", AREA = "E1")), paste(
+      "refused edit 6 Missing: an add sets every variable, also AGE:", "add 300 1 SEX=1 AREA=E1"
+    ))
+    expect(told(tb_amend(session, 101, SEX = "1", AREA = "E9")), paste(
+      "refused edit 4 UnknownCode: AREA has no code E9: it has E1, E2:", "amend 101 SEX=1 AREA=E9"
+    ))
+    expect(told(tb_amend(session, 101, AGE2 = "old")), paste(
+      "refused edit 3 UnknownName: no variable is named AGE2:", "amend 101 AGE2=old"
+    ))
+    expect(told(tb_amend(session, 101, SEX = "1", SEX = "2")), paste(
+      "refused edit 5 Repeated: SEX is set twice:", "amend 101 SEX=1 SEX=2"
+    ))
+    tb_close(session)
+  },
+  a_session_that_ends_before_a_reply = function() {
+    session <- prepared()
+    fault <- fault_of("tb_busy", tb_table(session, "NOTHING"))
+    expect(grepl("the session ended before any reply: all workers", conditionMessage(fault)), TRUE)
+    session <- prepared()
+    tb_table(session, "MANY")
+    expect(inherits(fault_of("tb_ended", tb_table(session, "NOTHING")), "tb_busy"), FALSE)
   },
   no_two_columns_have_one_name = function() {
     session <- prepared()
@@ -423,10 +532,7 @@ server_tests <- list(
     session <- prepared()
     expect(
       capture.output(tb_table(session, "count by SEX")),
-      c(
-        "release 0, 4 places", " count SEX count_", "     b   1      5", "     b   2     NA",
-        "     a   1      7", "     a   2      0"
-      )
+      c("release 0, 4 places, SEX across", " count 1  2", "     b 5 NA", "     a 7  0")
     )
     lines <- capture.output(tb_table(session, "MANY"))
     expect(lines[c(1:3, 12:14)], c(
