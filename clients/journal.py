@@ -32,11 +32,11 @@ left) is told by kinds, how many and the first, and then no line is printed.
 
 `setup` notes in the file JOURNAL.setup what a journal is begun with: the SHA-256 of each file, and
 the threshold. The words and their order are those of `host`, whose start tells the same sum. Where
-JOURNAL.setup is there it is compared, what differs is told, and nothing is changed: a journal has no
-word of its files, and over others `host` would show other tables for the same releases. It is
+JOURNAL.setup is there it is compared, what differs is told, and nothing is changed: a journal has
+no word of its files, and over others `host` would show other tables for the same releases. It is
 written where it isn't there, and where JOURNAL isn't there or is begun anew, since it has at most
-nine bytes. To accept other files for a journal all the same, remove JOURNAL.setup; a new journal, as
-after `last`, gets its own by itself.
+nine bytes. To accept other files for a journal all the same, remove JOURNAL.setup; a new journal,
+as after `last`, gets its own by itself.
 
 A file that isn't a journal, a record that is bad and a batch that doesn't fit CLASSES, or can't be
 made, are told on the standard error, the last two with their number, and the status is 1: `print`
@@ -490,7 +490,7 @@ def copy(path: str, to: str) -> int:
 
 @contextlib.contextmanager
 def _new_file(to: str) -> Iterator[BinaryIO]:
-    """A file that is put in the place of `to` when it is whole and on the disk, if nothing raises."""
+    """A file that is put in the place of `to` once it is whole and on the disk."""
     part = f"{to}.part"
     try:
         with open(part, "wb", opener=_private_file) as out:

@@ -520,7 +520,8 @@ class Differences(Files):
     def test_lines(self):
         new = b"person,record_key,SEX,AGE,AREA\n101,200,1,0-15,E1\n102,100,2,65+,E1\n"
         new += b"103,20,1,65+,E2\n105,9,2,65+,E1\n"
-        lines = ["drop 104", "amend 102 SEX=2 AGE=65+", "add 105 9 SEX=2 AGE=65+ AREA=E1", "publish"]
+        lines = ["drop 104", "amend 102 SEX=2 AGE=65+", "add 105 9 SEX=2 AGE=65+ AREA=E1"]
+        lines.append("publish")
         self.assertEqual(self.diff(new)[0], (0, "\n".join([*lines, ""]), ""))
 
     def test_nothing_to_do(self):
@@ -567,7 +568,8 @@ class Differences(Files):
     @unittest.skipUnless(PROGRAM, "no program is named")
     def test_it_leads_there(self):
         """What is printed after a journal's last release makes the new file's tables."""
-        journal_path = self.write("journal", journal_of(*(payload_of(*it) for it in Playing.BATCHES)))
+        payloads = [payload_of(*batch) for batch in Playing.BATCHES]
+        journal_path = self.write("journal", journal_of(*payloads))
         files = [f"{SMALL}/{name}.csv" for name in ("classes", "recodes", "ptable", "people")]
         last = os.path.join(self.folder, "last")
         words = [files[0], *files[2:], journal_path, last]

@@ -19,10 +19,9 @@ _WITHOUT_WINDOWS = ("agg", "cairo", "pdf", "pgf", "ps", "svg", "template")
 def plot(table: Table, path: Optional[str] = None) -> None:
     """Draws the perturbed counts of a table of one or two dimensions as bars.
 
-    Totals are left out. A hidden count has a `c` in place of its bar, and its place on the axis. The
-    drawing is written to a file of that
-    name, or shown where none is given. ValueError says why there is none: more than two dimensions,
-    too many places, no matplotlib, or nowhere to show it.
+    Totals are left out. A hidden count has a `c` in place of its bar, and its place on the axis.
+    The drawing is written to a file of that name, or shown where none is given. ValueError says why
+    there is none: more than two dimensions, too many places, no matplotlib, or nowhere to show it.
     """
     if len(table.dimensions) > 2:
         raise ValueError("a table of one or two dimensions can be drawn")

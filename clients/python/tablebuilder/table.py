@@ -86,8 +86,8 @@ class Table:
         return self.short(_SHOWN)
 
     def short(self, most: Optional[int] = None) -> str:
-        """The table as text, as it prints: `wide` where it has two dimensions or more and no line is
-        longer than 100 characters, else `text`. `most` is for either."""
+        """The table as it prints: `wide` where it has two dimensions or more and no line is longer
+        than 100 characters, else `text`. `most` is for either."""
         if len(self.dimensions) > 1:
             wide = self.wide(most)
             if max(map(len, wide.split("\n"))) <= _WIDTH:

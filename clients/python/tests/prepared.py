@@ -6,8 +6,8 @@ import threading
 
 TABLE = b"release 0\nSEX,count\n1,1\n2,2\n.\n"
 # What is said to a line of a session, the first time, the second and so on, and from then on the
-# last; a reply that doesn't end with a line feed ends the session, so does None, and an empty one is a
-# wait.
+# last; a reply that doesn't end with a line feed ends the session, so does None, and an empty one is
+# a wait.
 REPLIES = {
     b"table SEX": [b"memory\n", TABLE],
     b"drop 104": [b"memory\n", b"held 1\n"],

@@ -220,13 +220,14 @@ class Hints(WithServer):
             ("table sex", "UnknownName", 2, "no variable and no recode is named sex: SEX differs"
              " by case only"),
             ("table FOO", "UnknownName", 2, "no variable and no recode is named FOO"),
-            ("at 3 table SEX by area2", "UnknownName", 4, "no variable and no recode is named area2:"
-             " AREA2 differs by case only"),
+            ("at 3 table SEX by area2", "UnknownName", 4, "no variable and no recode is named"
+             " area2: AREA2 differs by case only"),
             ("table SEX where AREA in (E1, e2)", "UnknownCode", 9,
              "AREA has no code e2: E2 differs by case only"),
             ("table SEX where SEX in (Male)", "UnknownCode", 7,
              "SEX has no code Male: that is the label of 1"),
-            ("table SEX where AREA in (x)", "UnknownCode", 7, f"AREA has no code x: it has {codes}"),
+            ("table SEX where AREA in (x)", "UnknownCode", 7,
+             f"AREA has no code x: it has {codes}"),
             ("table SEX where AREA2 not in (x)", "UnknownCode", 8,
              "AREA2 has no group x: it has north, south"),
             ("amend 3 SEX=1 AREA=E12", "UnknownCode", None,
@@ -294,9 +295,8 @@ class Prints(WithServer):
         )
         self.assertEqual(str(table), told)
         self.assertEqual(table.wide(), told)
-        self.assertEqual(
-            table.wide(1).splitlines()[3:], ["65+    1  2      3", ".. 1 more", "Total  5  7     12"]
-        )
+        lines = ["65+    1  2      3", ".. 1 more", "Total  5  7     12"]
+        self.assertEqual(table.wide(1).splitlines()[3:], lines)
 
     def test_three_dimensions_across(self):
         codes = (["a"] * 4 + ["b"] * 4, ["x", "x", "y", "y"] * 2, ["1", "2"] * 4)

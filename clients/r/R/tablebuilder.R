@@ -328,7 +328,9 @@ tb_hold <- function(session, lines) {
   if (length(faults) > 0) {
     told <- vapply(utils::head(faults, 10), conditionMessage, "")
     tb_fail("tb_not_held", paste(c(
-      paste(length(faults), "of", length(lines), "edits aren't held;", session$held, "are held now"),
+      paste0(
+        length(faults), " of ", length(lines), " edits aren't held; ", session$held, " are held now"
+      ),
       paste0("line ", names(told), ": ", told)
     ), collapse = "\n"), faults = faults, held = session$held)
   }

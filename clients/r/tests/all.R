@@ -458,7 +458,8 @@ server_tests <- list(
       sep = "\n"
     ))
     expect(tb_hold(session, character(0)), 2)
-    for (line in c("table SEX", "publish", "", "drop 1\ndrop 4", paste("drop", strrep("1", 5000)))) {
+    long <- paste("drop", strrep("1", 5000))
+    for (line in c("table SEX", "publish", "", "drop 1\ndrop 4", long)) {
       fault_of("simpleError", tb_hold(session, c("drop 1", line)))
     }
     tb_close(session)
@@ -493,8 +494,8 @@ server_tests <- list(
       "table AGE where AGE2 in (x)"
     ))
     expect(told(tb_codes(session, "area")), paste(
-      "refused 3 UnknownName 2: no variable and no recode is named area: AREA differs by case only:",
-      "describe area"
+      "refused 3 UnknownName 2: no variable and no recode is named area: AREA differs by case",
+      "only: describe area"
     ))
     tb_close(session)
     session <- custodian()
