@@ -14,8 +14,11 @@ What goes wrong is signalled as a condition that inherits from \code{tb_error}.
 the fault's \code{number} and \code{word}, its \code{position} (of a query: the token, from 1, or
 the byte for \code{NotText}; for \code{NoSuchRelease} the number of the last release, for
 \code{Withdrawn} that of the oldest one that is shown; else \code{NA}) and, of \code{tb_publish}, the
-\code{edit} that can't be made (from 1; 0 for all of them together; else \code{NA}). The session goes
-on.}
+\code{edit} that can't be made (from 1; 0 for all of them together; else \code{NA}). Its message says
+which name or code is wrong, where the server tells what there is. The session goes on.}
+\item{\code{tb_not_held}}{Some edits of \code{tb_hold} aren't held: \code{faults} has for each of them
+what was signalled, by the number of its line. All others are: it has how many are \code{held} now.
+\code{tb_publish} would make a release of these, \code{tb_close} gives them up.}
 \item{\code{tb_cannot_describe}}{The server is of an earlier version, which tells nothing of what
 may be asked. It is a \code{tb_refused} too.}
 \item{\code{tb_memory}}{The server had no memory for the reply. Nothing has changed, and the same
@@ -25,8 +28,11 @@ published, and the edits are still held. From then on it keeps nothing until it 
 may have this batch all the same: once it was started again, the release of \code{tb_stats} tells,
 before anything is tried again.}
 \item{\code{tb_ended}}{The session has ended: it was closed, or the server went away.}
-\item{\code{tb_busy}}{Nothing came in time, not even a first reply: all workers may have clients.
-It is a \code{tb_ended} too.}
+\item{\code{tb_busy}}{Nothing came in time, or the session ended, before a first reply: all workers
+may have clients. It is a \code{tb_ended} too.}
+\item{\code{tb_repeated_label}}{Categories of one dimension share a label, or one has that of the
+totals, so that places of the table can't be told apart: ask for it without labels. The session goes
+on.}
 \item{\code{tb_older_release}}{A table, unless a release was asked for, is of an earlier release than
 one that came from the same address before: by another worker or mirror. It has the \code{table}. The
 session goes on. \code{tb_forget_releases()} is for a server that began anew, whose releases are
