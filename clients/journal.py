@@ -725,8 +725,10 @@ def _last(classes: str, ptable: str, people: str, journal: str, folder: str) -> 
 def _diff(classes: str, old: str, new: str, left: str) -> None:
     here = os.path.dirname(os.path.abspath(__file__))
     sys.path[:0] = [path for path in [f"{here}/python"] if path not in sys.path]
-    from tablebuilder import WouldBeRefused, edits
-
+    try:
+        from tablebuilder import WouldBeRefused, edits
+    except ImportError:
+        _stop("diff needs the Python client: pip install clients/python")
     variables, keys, persons = read_classes(classes)
     gone = None if left == NO_FILE else left
     codes = {name: frozenset(of) for name, of in variables}

@@ -529,7 +529,7 @@ class Differences(Files):
             self.assertEqual(self.diff(file.read())[0], (0, "", ""))
 
     def test_a_publish_behind_each_batch(self):
-        rows = b"".join(b"%d,1,1,0-15,E1\n" % person for person in range(1, 10_002))
+        rows = b"".join(b"%d,1,1,0-15,E1\n" % person for person in range(201, 10_202))
         (status, out, told), _ = self.diff(b"person,record_key,SEX,AGE,AREA\n" + rows)
         self.assertEqual((status, told), (0, ""))
         lines = out.splitlines()

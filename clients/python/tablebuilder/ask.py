@@ -4,7 +4,7 @@
 
 Without SCRIPT, at a terminal, it is a prompt: each line is asked and its table is printed; the tab
 key completes words, names and codes, and earlier lines come back by the arrow keys. Lines that
-begin with a full stop are its own (`.help` lists them). With SCRIPT, a file, or with lines on the
+begin with a full stop are its own (`help` lists them). With SCRIPT, a file, or with lines on the
 standard input, each line is asked in order and its reply written as the server writes it; a line of
 blanks alone, or that begins with `#`, has none. At a terminal the standard error shows how far it
 has come.

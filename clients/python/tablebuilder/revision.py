@@ -119,10 +119,11 @@ def edits(
         Where a file can't be read.
     """
     faults = _Faults()
+    known: Mapping[str, Optional[Collection[str]]] = variables or {}
     if variables is None:
-        variables = dict.fromkeys(_variables_of(old, faults))
-    changes = _Changes(new, _Rules(variables, keys, persons), faults)
-    columns = ["record_key", *variables]
+        known = dict.fromkeys(_variables_of(old, faults))
+    changes = _Changes(new, _Rules(known, keys, persons), faults)
+    columns = ["record_key", *known]
     for _, person, body in _records(old, columns, faults):
         changes.before[person] = body
     if left is not None:
