@@ -62,10 +62,10 @@ class _Faults:
     """Counts faults by file and kind, and keeps the first of each."""
 
     def __init__(self) -> None:
-        self._found: dict[tuple[str, str], Fault] = {}
+        self._found: dict[tuple[str, ...], Fault] = {}
 
     def add(self, path: str, word: str, record: int, why: str) -> None:
-        kind = (path, word)
+        kind = (path, word) if record else (path, word, why)
         fault = self._found.get(kind, Fault(path, word, 0, record, why))
         self._found[kind] = fault._replace(count=fault.count + 1)
 
@@ -207,7 +207,7 @@ class _Changes:
     def _tell_of_change(
         self, number: int, person: str, key: str, before: Optional[str], verb: str
     ) -> None:
-        if before is not None and int(before) != int(key):
+        if before is not None and before.lstrip("0") != key.lstrip("0"):
             why = f"person {person} {verb} the record key {before}, and here has {key}"
             self._faults.add(self._path, "KeyChanged", number, why)
 

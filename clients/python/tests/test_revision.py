@@ -91,6 +91,15 @@ class Refusals(Files):
         left = "person,record_key\n9,7\n"
         self.assertFaults([("new.csv", "KeyChanged", 1, 5, why)], new, left=left)
 
+    def test_a_key_before_that_is_none(self):
+        for key in ("x", "", "256"):
+            why = f"person 1 has the record key {key}, and here has 10"
+            old = OLD.replace("1,10,", f"1,{key},")
+            self.assertFaults([("new.csv", "KeyChanged", 1, 1, why)], OLD, old)
+        for key in ("00", "0"):
+            new = OLD.replace("1,10,", f"1,{key},")
+            self.assertEqual(self.edits(new, OLD.replace("1,10,", "1,0,")), [])
+
     def test_all_kinds_at_once(self):
         new = OLD.replace("1,10,", "1,11,") + (
             "5,256,1,0-15\n6,x,1,0-15\n7,1,3,0-15\n8,1,1,Total\n0,1,1,0-15\n"
@@ -140,6 +149,10 @@ class Refusals(Files):
         self.assertEqual(len(self.edits("".join(OLD.splitlines(True)[:2]))[0]), 3)
         why = "it takes 4 edits, and a chain has at most 3: begin anew from it"
         self.assertFaults([("new.csv", "TooMany", 1, 0, why)], OLD.splitlines(True)[0])
+        # (and too many persons besides)
+        persons = "it has 4 persons, and a release at most 3"
+        wanted = [("new.csv", "TooMany", 1, 0, persons), ("new.csv", "TooMany", 1, 0, why)]
+        self.assertFaults(wanted, OLD, OLD.splitlines(True)[0], persons=3)
 
     def test_what_is_told(self):
         with self.assertRaises(WouldBeRefused) as caught:
