@@ -225,7 +225,12 @@ print.tb_table <- function(x, most = 10, ...) {
     format(places, big.mark = ","), " place", if (places != 1) "s",
     sep = ""
   )
-  lines <- if (tb_is_whole(x)) tb_printed_lines(tb_wide(x), most, ...)
+  lines <- NULL
+  if (tb_is_whole(x)) {
+    # (a line that is too long is to be seen as one, and not to go on in the next)
+    before <- options(width = 10000)
+    lines <- tryCatch(tb_printed_lines(tb_wide(x), most, ...), finally = options(before))
+  }
   if (is.null(lines) || max(nchar(lines)) > getOption("width")) {
     cat("\n")
     lines <- tb_printed_lines(x, most, ...)
