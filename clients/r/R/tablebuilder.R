@@ -639,7 +639,9 @@ tb_exchange <- function(session, lines) {
   }
   replies <- tryCatch(
     {
-      writeLines(enc2utf8(lines), session$connection, useBytes = TRUE)
+      # (at once: R would send each line by itself)
+      sent <- paste(enc2utf8(lines), collapse = "\n")
+      writeLines(sent, session$connection, useBytes = TRUE)
       lapply(lines, function(line) tb_lines(session))
     },
     error = end, warning = end
