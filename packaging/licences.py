@@ -5,9 +5,9 @@
 
 The libraries are those of the Rattle kit (`/opt/rattle` unless KIT says otherwise) that the program
 links: `crates.txt` has what its crates name, and each `rlibs/NAME.rlib/format` of the kit what that
-library names. Each file `LICENSE*` beside a library's source must be word for word a licence that is
-known here. `write` writes the page. `check` compares it with what would be written, tells the first
-line that differs, and ends with status 1; so it does where a licence isn't known.
+library names. Each file `LICENSE*` beside a library's source must be word for word a licence that
+is known here. `write` writes the page. `check` compares it with what would be written, tells the
+first line that differs, and ends with status 1; so it does where a licence isn't known.
 """
 
 from __future__ import annotations
@@ -63,7 +63,7 @@ class Library(NamedTuple):
     files: dict[str, Licence]
 
     def licence(self) -> str:
-        """Where the files are LICENSE-APACHE and LICENSE-MIT either may be chosen; all others hold."""
+        """Of LICENSE-APACHE and LICENSE-MIT either may be chosen; all others hold."""
         names = {file: it.name for file, it in self.files.items()}
         either = [names.pop(f"LICENSE-{it}", None) for it in ("APACHE", "MIT")]
         first = " or ".join(dict.fromkeys(it for it in either if it))
@@ -95,8 +95,8 @@ def apache_words(text: str) -> str:
 
 
 def known(kit: str) -> dict[str, str]:
-    """The words of each licence: of Apache's and Expat's as they stand in this repository and below,
-    of Unicode's as they stand in the kit's file of its data."""
+    """The words of each licence: of Apache's and Expat's as they stand in this repository and
+    below, of Unicode's as they stand in the kit's file of its data."""
     return {
         OURS: apache_words(read(f"{TOP}/LICENSE")),
         "Expat": words_of(EXPAT),
@@ -110,7 +110,8 @@ def unicode_text(kit: str) -> str:
 
 def licence_of(path: str, licences: dict[str, str]) -> Licence:
     text = read(path)
-    name = next((it for it in licences if licences[it] in (words_of(text), apache_words(text))), None)
+    either = (words_of(text), apache_words(text))
+    name = next((it for it, words in licences.items() if words in either), None)
     if name is None:
         raise Unknown(f"{path} is none of {', '.join(licences)}")
     # (at the end of Apache's licence stands how a copy would name its owner)

@@ -7,9 +7,10 @@ The archive is unpacked, and the package installed by `dpkg --root` into an empt
 scripts make the user there. Of each: the program is run from where it lies, over the examples that
 are beside it; the man page is read; each unit's own line starts a server, with the files of
 `examples/small` named in its file under `etc`, which the Python client from beside it asks; haproxy
-and stunnel are put in front by their examples. The host's unit refuses other files than those of its
-journal; the backup's makes a copy, and keeps so many. The relays' units carry a batch of such a server
-to a mirror's double, where `redis-server` and `python3-redis` are there. A unit isn't enabled, and a
+and stunnel are put in front by their examples. The host's unit refuses other files than those of
+its journal; the backup's makes a copy, and keeps so many. The relays' units carry a batch of such a
+server to a mirror's double, where `redis-server` and `python3-redis` are there. A unit isn't
+enabled, and a
 removal leaves the files under `etc`. What can't be tried, since a tool isn't there, is said. The
 status is 0 where all that was tried is as it should be.
 """

@@ -24,8 +24,8 @@ nothing for 30 seconds, so that nobody knows. The status is 0 where all are up a
 its way: ask twice before you wake somebody.
 
 `feed` and `apply` may be stopped and started at any moment: no batch is put or applied twice, none
-is left out, and none comes from another chain. Each waits for who isn't there, and says so on the standard
-error. The status is 2 where the arguments are none of these, and 3 where somebody is to look first,
+is left out, and none comes from another chain. Each waits for who isn't there, and says so on the
+standard error. The status is 2 where the arguments are none of these, and 3 where somebody is to look first,
 for `status` also where Redis isn't there: why is then the last line of the standard error.
 
 It needs Python 3.9 or later, Debian's `python3-redis`, and `journal.py` and the Python client,
@@ -52,7 +52,7 @@ from setups import SetupFiles
 from streams import Stream
 
 NOT_ALL_UP, STOPPED = 1, 3
-# A mirror's `apply` notes where it is each 10 seconds: one that hasn't for so long is gone, or hangs.
+# A mirror's `apply` notes where it is each 10 seconds: one that hasn't for so long is gone.
 SILENT_SECONDS = 30
 FILES = ("CLASSES", "RECODES", "PTABLE", "PEOPLE", "THRESHOLD")
 
