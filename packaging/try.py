@@ -96,13 +96,16 @@ def try_page(tried, at):
 
 def try_tools(tried, at):
     """The commands that are scripts: each is run by its own name, from another folder."""
-    for tool in sorted(glob.glob(f"{at.prefix}/bin/tablebuilder-*")):
+    for name in ("tablebuilder-check", "tablebuilder-journal"):
+        tool = f"{at.prefix}/bin/{name}"
+        if not os.path.exists(tool):
+            tried.skip(name, tool)
+            continue
         status, text = run(tool, cwd="/")
         is_right = status == 2 and "CLASSES" in text and "Traceback" not in text
-        tried.check(f"{os.path.basename(tool)}, without words", is_right, (status, text[:400]))
+        tried.check(f"{name}, without words", is_right, (status, text[:400]))
     tool = f"{at.prefix}/bin/tablebuilder-check"
     if not os.path.exists(tool):
-        tried.skip("a look over the files", "tablebuilder-check")
         return
     status, text = run(tool, *SMALL, 0, cwd=at.small)
     is_right = status in (0, 1) and "Traceback" not in text
