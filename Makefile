@@ -1,6 +1,6 @@
 .PHONY: help test prove gate-times plant try try-guide build demo serve guide quotes clients refusals pressure growths
 .PHONY: crash mirrors bench bench-serve bench-journal bench-mirrors bench-door bench-scale bench-peers bench-tools check-r dist deb
-.PHONY: try-dist analysis
+.PHONY: try-dist analysis licences
 
 # `make help` prints each comment that begins with an audience in brackets, and the target below it. All
 # targets need the Rattle kit (`rt` on the path) unless they say otherwise; what else they need is said.
@@ -105,6 +105,15 @@ dist: $(PACKED)
 # [use] A Debian package of the same. As `make dist`, and dpkg-deb.
 deb: $(PACKED)
 	python3 packaging/dist.py deb $(PROGRAM) $(DIST)
+
+# What `make licences` does; and the folder of another kit than /opt/rattle, for KIT.
+LICENCES = check
+KIT =
+
+# [test] Whether packaging/debian/copyright has the licence of each of the kit's libraries that the program
+# links; with LICENCES=write it is written anew. A second; Python 3.
+licences:
+	python3 -B packaging/licences.py $(LICENCES) $(KIT)
 
 # [test] The archive and the package, each unpacked or installed in a folder of its own (packaging/try.py).
 # What isn't there of dpkg, man, systemd-analyze, haproxy, stunnel and openssl isn't tried, which is

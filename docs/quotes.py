@@ -10,7 +10,7 @@ that are refused (by docs/refusals.py) must be that of the tree.
 
 Each crate stands on the map or among the tests of CONTRIBUTING.md, and each target of the Makefile has a
 comment for `make help`. README.md has a row for each command, and the man page the forms, that
-docs/REFERENCE.md has; each unit starts a command of them or of the relay; docs/SERVER.md has each line
+docs/REFERENCE.md has; each unit starts a command of them or of the relay, or the backup; docs/SERVER.md has each line
 of the examples under packaging; and each place that has the version has that of VERSION.
 """
 
@@ -42,7 +42,7 @@ CRATE = re.compile(r"^(\w+):", re.M)
 FORM = re.compile(r"^    (tablebuilder .*)$", re.M)
 MAN_FORM = re.compile(r"^\.B (tablebuilder .*)$", re.M)
 ROW = re.compile(r"^\| `(\w+)` \|", re.M)
-UNIT_COMMAND = re.compile(r"^ExecStart=\S+ (?:-B \S+/relay\.py )?(\w+)", re.M)
+UNIT_COMMAND = re.compile(r"^ExecStart=\S+ (?:-B \S+/relay\.py |\S+/clients/)?(\w+)", re.M)
 RELAY_COMMAND = re.compile(r"^    relay\.py (\w+)", re.M)
 EXAMPLES = ("haproxy.cfg", "haproxy-mirrors.cfg", "stunnel.conf", "stunnel-client.conf")
 # Where the version stands beside VERSION.
@@ -200,6 +200,7 @@ def wrong_forms(root):
     if sorted(MAN_FORM.findall(read(root, "packaging", "tablebuilder.1"))) != sorted(forms):
         yield "packaging/tablebuilder.1 has other commands than docs/REFERENCE.md"
     commands += RELAY_COMMAND.findall(read(root, "clients", "relay", "relay.py"))
+    commands += ["backup"]
     for path in sorted(glob.glob(os.path.join(root, "packaging", "systemd", "*.service"))):
         if UNIT_COMMAND.search(read(path))[1] not in commands:
             yield f"{path} starts what is no command"

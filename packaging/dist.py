@@ -25,6 +25,12 @@ HERE = os.path.dirname(os.path.abspath(__file__))
 TOP = os.path.dirname(HERE)
 # What stands under `share/tablebuilder`, beside the clients.
 EXAMPLES = ("haproxy.cfg", "haproxy-mirrors.cfg", "stunnel.conf", "stunnel-client.conf")
+# Commands that are scripts among the clients, where these are there.
+TOOLS = {"tablebuilder-check": "check.py", "tablebuilder-journal": "journal.py"}
+TOOL = """\
+#!/bin/sh
+exec python3 -B "$(dirname "$(readlink -f "$0")")/../share/tablebuilder/clients/%s" "$@"
+"""
 # The machine of an ELF file, and where its number stands.
 MACHINE, MACHINE_AT = b"\x3e\x00", slice(18, 20)
 PLAIN, EXECUTABLE = 0o644, 0o755
@@ -69,11 +75,15 @@ def files_of(program, places):
     with open(program, "rb") as file:
         files = {"bin/tablebuilder": file.read()}
     doc, share = "share/doc/tablebuilder", "share/tablebuilder"
-    for name in ("README.md", "CHANGELOG.md", "VERSION"):
+    for name in ("README.md", "CHANGELOG.md", "VERSION", "LICENSE"):
         files[f"{doc}/{name}"] = read(name)
+    files[f"{doc}/copyright"] = read("packaging", "debian", "copyright")
     pages = files_under("docs", lambda path: f"{doc}/{path}")
     files.update({path: data for path, data in pages.items() if not path.endswith(".py")})
     files.update(files_under("clients", lambda path: f"{share}/{path}"))
+    for name, script in TOOLS.items():
+        if f"{share}/clients/{script}" in files:
+            files[f"bin/{name}"] = (TOOL % script).encode()
     files.update(files_under("examples/small", lambda path: f"{share}/{path}"))
     files.update({f"{share}/{name}": read("packaging", name) for name in EXAMPLES})
     files["share/man/man1/tablebuilder.1"] = places.fill(read("packaging", "tablebuilder.1"))
@@ -117,7 +127,7 @@ def needs_of(program):
     """The packages without which the program doesn't start, by the names in its file."""
     with open(program, "rb") as file:
         data = file.read()
-    needs = ["systemd | systemd-standalone-sysusers"]
+    needs = ["systemd | systemd-standalone-sysusers", "python3 (>= 3.9)"]
     found = [tuple(map(int, it)) for it in re.findall(rb"\0GLIBC_(\d+)\.(\d+)", data)]
     if found:
         needs.append("libc6 (>= {}.{})".format(*max(found)))
@@ -141,7 +151,6 @@ def make_deb(program, folder, kind):
     files[f"{page}.gz"] = gzip.compress(files.pop(page), 9, mtime=0)
     doc = "usr/share/doc/tablebuilder"
     files[f"{doc}/changelog.gz"] = gzip.compress(debian_changes(), 9, mtime=0)
-    files[f"{doc}/copyright"] = read("packaging", "debian", "copyright")
     files["usr/lib/sysusers.d/tablebuilder.conf"] = read("packaging", "debian", "sysusers.conf")
     own = settings("etc/tablebuilder")
     files.update(own)

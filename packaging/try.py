@@ -7,8 +7,10 @@ The archive is unpacked, and the package installed by `dpkg --root` into an empt
 scripts make the user there. Of each: the program is run from where it lies, over the examples that
 are beside it; the man page is read; each unit's own line starts a server, with the files of
 `examples/small` named in its file under `etc`, which the Python client from beside it asks; haproxy
-and stunnel are put in front by their examples. The relays' units carry a batch of such a server to
-a mirror's double, where `redis-server` and `python3-redis` are there. A unit isn't enabled, and a
+and stunnel are put in front by their examples. The host's unit refuses other files than those of
+its journal; the backup's makes a copy, and keeps so many. The relays' units carry a batch of such a
+server to a mirror's double, where `redis-server` and `python3-redis` are there. A unit isn't
+enabled, and a
 removal leaves the files under `etc`. What can't be tried, since a tool isn't there, is said. The
 status is 0 where all that was tried is as it should be.
 """
@@ -35,6 +37,8 @@ SMALL = ("classes.csv", "recodes.csv", "ptable.csv", "people.csv")
 # The first table of examples/small, counted by hand (README.md).
 TABLE = "release 0\nSEX,count\n1,1\n2,2\n.\n"
 PATIENCE = 60
+# The journal after `drop 104` and `publish`, as docs/REFERENCE.md has it.
+JOURNAL = bytes.fromhex("54424A4F55524E31 01 00000009 00000001 02 00000068 00")
 # What the archive has below the prefix.
 PARTS = ["bin", "lib", "share"]
 
@@ -90,12 +94,30 @@ def try_page(tried, at):
     tried.check("the man page", is_right and "warning" not in text, text[:400])
 
 
-def words_of(unit):
+def try_tools(tried, at):
+    """The commands that are scripts: each is run by its own name, from another folder."""
+    for name in ("tablebuilder-check", "tablebuilder-journal"):
+        tool = f"{at.prefix}/bin/{name}"
+        if not os.path.exists(tool):
+            tried.skip(name, tool)
+            continue
+        status, text = run(tool, cwd="/")
+        is_right = status == 2 and "CLASSES" in text and "Traceback" not in text
+        tried.check(f"{name}, without words", is_right, (status, text[:400]))
+    tool = f"{at.prefix}/bin/tablebuilder-check"
+    if not os.path.exists(tool):
+        return
+    status, text = run(tool, *SMALL, 0, cwd=at.small)
+    is_right = status in (0, 1) and "Traceback" not in text
+    tried.check("tablebuilder-check over examples/small", is_right, (status, text[:400]))
+
+
+def words_of(unit, setting="ExecStart"):
     """The words of the line by which a unit starts its server, and the names of its files."""
     with open(unit, encoding="utf-8") as file:
         text = file.read()
     return (
-        shlex.split(re.search(r"^ExecStart=(.*)$", text, re.M)[1]),
+        shlex.split(re.search(rf"^{setting}=(.*)$", text, re.M)[1]),
         re.findall(r"^EnvironmentFile=/etc/tablebuilder/(.*)$", text, re.M),
     )
 
@@ -166,6 +188,8 @@ def try_unit(tried, at, unit):
         first = free_ports(others + 4)
         values.update(PORT=str(first), JOURNAL=f"{folder}/revisions.journal")
         words = filled(line, values)
+        if "JOURNAL" in settings_names(unit):
+            try_setup(tried, at, unit, values)
         installed = os.path.normpath(at.root + line[0])
         tried.check(f"{name}: its program is there", os.access(installed, os.X_OK), installed)
         if not os.access(installed, os.X_OK):
@@ -177,6 +201,51 @@ def try_unit(tried, at, unit):
                 got = ask(at, first + 1)
                 tried.check(f"{name}: a table by the Python client", got == "[1, 2]", got)
                 try_front(tried, at, folder, first, first + others + 1)
+
+
+def settings_names(unit):
+    """The settings that a unit's lines name."""
+    with open(unit, encoding="utf-8") as file:
+        return set(re.findall(r"\$\{(\w+)\}", file.read()))
+
+
+def try_setup(tried, at, unit, values):
+    """What goes before the server: of a new journal it notes the files; where a journal was begun
+    it refuses another threshold, and takes the same files."""
+    line, _ = words_of(unit, "ExecStartPre")
+
+    def status_of(**more):
+        first, *words = filled(line, {**values, **more})
+        return run(os.path.normpath(at.root + first), *words)[0]
+
+    noted, journal = status_of(), values["JOURNAL"]
+    is_there = os.path.exists(f"{journal}.setup")
+    with open(journal, "wb") as out:
+        out.write(JOURNAL)
+    told = (noted, is_there, status_of(), status_of(THRESHOLD="1"))
+    os.remove(journal)
+    tried.check("the files of a journal are noted, and compared", told == (0, True, 0, 1), told)
+
+
+def try_backup(tried, at, unit):
+    """A journal is copied by its unit's own line, three times, of which two are kept."""
+    line, settings = words_of(unit)
+    with tempfile.TemporaryDirectory() as folder:
+        journal, copies = f"{folder}/revisions.journal", f"{folder}/copies"
+        with open(journal, "wb") as out:
+            out.write(JOURNAL)
+        values = {**values_of(at, settings), "JOURNAL": journal, "BACKUPS": copies, "KEEP": "2"}
+        words = filled(line, values)
+        words = [at.root + word if os.path.exists(at.root + word) else word for word in words]
+        told = []
+        for _ in range(3):
+            told.append(run(*words))
+            # (a copy's name has its second)
+            time.sleep(1.1)
+        names = sorted(os.listdir(copies)) if os.path.isdir(copies) else []
+        same = [run("cmp", journal, f"{copies}/{it}")[0] for it in names]
+        is_right = [it[0] for it in told] == [0, 0, 0] and same == [0, 0]
+        tried.check("a backup, and so many are kept", is_right, (told, names, same))
 
 
 def try_front(tried, at, folder, first, free):
@@ -268,20 +337,23 @@ def start_unit(stack, at, name, own):
 def try_units(tried, at):
     tried.check("there are units", bool(at.units))
     for unit in at.units:
-        if "-feed" not in unit and "-apply" not in unit:
+        if unit.endswith("-backup.service"):
+            try_backup(tried, at, unit)
+        elif "-feed" not in unit and "-apply" not in unit:
             try_unit(tried, at, unit)
     try_relays(tried, at)
     if shutil.which("systemd-analyze") is None:
         tried.skip("systemd's own look at the units", "systemd-analyze")
         return
     with tempfile.TemporaryDirectory() as folder:
-        for unit in at.units:
+        timers = glob.glob(f"{at.prefix}/lib/systemd/system/*.timer")
+        for unit in [*at.units, *timers]:
             # (systemd looks whether the program is there; Conflicts name each other)
             with open(unit, encoding="utf-8") as file:
-                text = re.sub(r"(?m)^ExecStart=\S+", f"ExecStart={at.program}", file.read())
+                text = re.sub(r"(?m)^(ExecStart(?:Pre)?)=\S+", rf"\1={at.program}", file.read())
             with open(f"{folder}/{os.path.basename(unit)}", "w", encoding="utf-8") as file:
                 file.write(re.sub(r"(?m)^Documentation=.*\n", "", text))
-        for path in sorted(glob.glob(f"{folder}/*.service")):
+        for path in sorted(glob.glob(f"{folder}/*")):
             status, text = run("systemd-analyze", "verify", path)
             own = [it for it in text.splitlines() if "tablebuilder" in it]
             told = (status, own)
@@ -290,6 +362,7 @@ def try_units(tried, at):
 
 def try_all(tried, at):
     try_program(tried, at)
+    try_tools(tried, at)
     try_page(tried, at)
     try_units(tried, at)
 

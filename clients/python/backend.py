@@ -33,6 +33,7 @@ def metadata(told):
         f"Version: {told['version']}",
         f"Summary: {told['description']}",
         f"Requires-Python: {told['requires-python']}",
+        f"License: {told['license']}",
         "Description-Content-Type: text/markdown",
     ]
     for extra, needs in extras:

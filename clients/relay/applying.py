@@ -2,6 +2,7 @@
 
 from __future__ import annotations
 
+import contextlib
 import select
 import socket
 import time
@@ -148,8 +149,9 @@ class Leader:
         # The digest of the chain behind which the next entry stands, where it is known.
         self._before: Optional[str] = None
         # Where the mirror stands, as far as it told; from where on it is up, once that is known;
-        # and when it was noted last.
+        # and when it was noted last, and whether that it isn't there.
         self._at, self._goal, self._noted = 0, UNKNOWN, 0.0
+        self._is_noted_down = False
 
     def run(self) -> NoReturn:
         while True:
@@ -160,6 +162,7 @@ class Leader:
                 pass
             except Gone as fault:
                 self._teller.tell(f"{fault}; trying again")
+                self._note_down()
                 time.sleep(AGAIN_SECONDS)
             finally:
                 self._mirror = None
@@ -245,7 +248,20 @@ class Leader:
         if self._sent is not None:
             state = "up" if self._has_reached() else "down"
             self._stream.write_note(self._name, self._at, *self._sent, state)
-            self._noted = time.monotonic()
+            self._noted, self._is_noted_down = time.monotonic(), False
+
+    def _note_again(self) -> None:
+        if time.monotonic() - self._noted > NOTE_SECONDS:
+            self._note()
+
+    def _note_down(self) -> None:
+        """Notes that the mirror isn't there: when it goes, and from then on as often as else."""
+        if self._is_noted_down and time.monotonic() - self._noted <= NOTE_SECONDS:
+            return
+        self._noted, self._is_noted_down = time.monotonic(), True
+        # (where Redis isn't there either, it is told once the mirror is)
+        with contextlib.suppress(Away):
+            self._stream.note_down(self._name, self._files.digest)
 
     def _follow(self, mirror: Mirror) -> NoReturn:
         """Sends entry after entry, from where the mirror stands on."""
@@ -273,8 +289,7 @@ class Leader:
         # (a stream may also end earlier than it did, where Redis lost what came last)
         if number < self._goal and number < self._stream.last().number:
             raise Stop(self._why_trimmed(number))
-        if time.monotonic() - self._noted > NOTE_SECONDS:
-            self._note()
+        self._note_again()
 
     def _check(self, number: int, entries: list[Entry]) -> None:
         """Stops where entries aren't those that follow the entry of this number."""
@@ -300,6 +315,7 @@ class Leader:
             if reply != "memory":
                 break
             self._teller.tell(f"batch {entry.number}: the mirror has no memory; trying again")
+            self._note_again()
             time.sleep(AGAIN_SECONDS)
         for word in ("at", "old", "kept", "far"):
             at = _number_after(word, reply)

@@ -17,10 +17,16 @@ or of a later one, so never one that isn't on the disk or that was never publish
 how far it has led it, which `status` prints. With `--agent` it answers haproxy's agent-check there:
 `up` once the mirror has the batches that the stream had when the mirror was found, else `down`.
 
-Either may be stopped and started at any moment: no batch is put or applied twice, none is left out,
-and none comes from another chain. Each waits for who isn't there, and says so on the standard
-error. The status is 2 where the arguments are none of these, and 3 where somebody is to look first:
-what stopped it is then the last line of the standard error.
+`status` prints a line for each mirror: its release, by how many batches it is behind, and `up`, or
+`down` from when it goes until it has all that it missed, or `silent` where its `apply` has noted
+nothing for 30 seconds, so that nobody knows. The status is 0 where all are up and behind by 0, and
+1 where one isn't, or no mirror is known. A batch that was published a moment ago may still be on
+its way: ask twice before you wake somebody.
+
+`feed` and `apply` may be stopped and started at any moment: no batch is put or applied twice, none
+is left out, and none comes from another chain. Each waits for who isn't there, and says so on the
+standard error. The status is 2 where the arguments are none of these, and 3 where somebody is to look first,
+for `status` also where Redis isn't there: why is then the last line of the standard error.
 
 It needs Python 3.9 or later, Debian's `python3-redis`, and `journal.py` and the Python client,
 which stand beside its folder.
@@ -45,7 +51,9 @@ from feeding import Feed
 from setups import SetupFiles
 from streams import Stream
 
-STOPPED = 3
+NOT_ALL_UP, STOPPED = 1, 3
+# A mirror's `apply` notes where it is each 10 seconds: one that hasn't for so long is gone.
+SILENT_SECONDS = 30
 FILES = ("CLASSES", "RECODES", "PTABLE", "PEOPLE", "THRESHOLD")
 
 
@@ -69,10 +77,14 @@ def status(words: argparse.Namespace) -> int:
     stream = Stream.of_url(words.redis, words.stream)
     last = stream.last().number
     print(f"stream {words.stream} last {last}")
-    for name, note in sorted(stream.notes().items()):
+    notes = stream.notes()
+    are_all_up = bool(notes)
+    for name, note in sorted(notes.items()):
         behind = max(last - note.at, 0)
-        print(f"mirror {name} at {note.at} behind {behind} {note.state} told {note.age} s ago")
-    return 0
+        state = note.state if note.age <= SILENT_SECONDS else "silent"
+        print(f"mirror {name} at {note.at} behind {behind} {state} told {note.age} s ago")
+        are_all_up = are_all_up and state == "up" and behind == 0
+    return 0 if are_all_up else NOT_ALL_UP
 
 
 def _name_of(address: tuple[str, int]) -> str:

@@ -50,6 +50,14 @@ return found
 NOTE = """
 redis.call('HSET', KEYS[1], ARGV[1], ARGV[2] .. ' ' .. redis.call('TIME')[1])
 """
+# Notes the word `down`, and leaves the rest of a note as it is: another relay may have written it.
+NOTE_DOWN = """
+local note = redis.call('HGET', KEYS[1], ARGV[1]) or '0 0 ' .. ARGV[2] .. ' down 0'
+local rest = string.match(note, '^(%S+ %S+ %S+) %S+ %S+$')
+if rest then
+    redis.call('HSET', KEYS[1], ARGV[1], rest .. ' down ' .. redis.call('TIME')[1])
+end
+"""
 
 
 class Last(NamedTuple):
@@ -140,6 +148,12 @@ class Stream:
         note = f"{at} {sent} {digest} {state}"
         with self._faults():
             self._client.eval(NOTE, 1, self._notes_name, mirror, note)
+
+    def note_down(self, mirror: str, files: str) -> None:
+        """Notes that a mirror isn't there. One of which nothing is noted so far begins at release 0
+        of the files that have this digest."""
+        with self._faults():
+            self._client.eval(NOTE_DOWN, 1, self._notes_name, mirror, files)
 
     def notes(self) -> dict[str, Note]:
         """What is noted of each mirror, by its name."""

@@ -733,22 +733,73 @@ class Applying(WithRedis):
         self.assertEqual(len(again.applied), 4)
         self.assertStops(self.apply(mirror, "--agent", str(port)), f"--agent: 127.0.0.1:{port}: ")
 
-    def test_status(self):
-        self.fill(3)
-        mirror = self.double(Mirror())
-        apply = self.apply(mirror)
-        self.wait(lambda: len(mirror.applied) == 3 and self.note().at == 3, apply)
-        apply.kill()
-        self.stream.write_note("other", 1, 3, "d", "down")
+    def status(self):
+        """The status of `status`, and its lines but for how old each is."""
         words = [sys.executable, "-B", relay.__file__, "status", "--stream", "tables"]
         environment = {**os.environ, "REDIS_URL": self.redis.url}
         done = subprocess.run(
             words, capture_output=True, env=environment, timeout=PATIENCE, check=False
         )
         told = [line.rpartition(" told ")[0] or line for line in done.stdout.decode().splitlines()]
-        wanted = ["stream tables last 3", "mirror one at 3 behind 0 up"]
-        wanted.append("mirror other at 1 behind 2 down")
-        self.assertEqual((done.returncode, told), (0, wanted))
+        return done.returncode, told
+
+    def test_status(self):
+        self.assertEqual(self.status(), (1, ["stream tables last 0"]))
+        self.fill(3)
+        mirror = self.double(Mirror())
+        apply = self.apply(mirror)
+        self.wait(lambda: len(mirror.applied) == 3 and self.note().at == 3, apply)
+        up = ["stream tables last 3", "mirror one at 3 behind 0 up"]
+        self.assertEqual(self.status(), (0, up))
+        self.stream.write_note("other", 1, 3, "d", "up")
+        self.assertEqual(self.status(), (1, [*up, "mirror other at 1 behind 2 up"]))
+        self.stream.write_note("other", 3, 3, "d", "down")
+        self.assertEqual(self.status(), (1, [*up, "mirror other at 3 behind 0 down"]))
+        self.stream.write_note("other", 3, 3, "d", "up")
+        self.assertEqual(self.status(), (0, [*up, "mirror other at 3 behind 0 up"]))
+
+    def test_a_word_grows_old(self):
+        self.fill(3)
+        now = int(self.command("TIME")[0])
+        for age, status, word in ((20, 0, "up"), (40, 1, "silent")):
+            self.command("HSET", "tables:mirrors", "one", f"3 3 d up {now - age}")
+            wanted = ["stream tables last 3", f"mirror one at 3 behind 0 {word}"]
+            self.assertEqual(self.status(), (status, wanted))
+
+    def test_a_mirror_that_goes_is_down(self):
+        self.fill(3)
+        mirror = self.double(Mirror())
+        apply = self.apply(mirror, change="applying.NOTE_SECONDS = 0.1")
+        self.wait(lambda: len(mirror.applied) == 3 and self.note().state == "up", apply)
+        before = self.note()
+        mirror.close()
+        self.wait(lambda: self.note().state == "down", apply)
+        self.assertEqual(self.note()[:3], before[:3])
+        # The word is told again, so that it doesn't grow old.
+        old = f"{before.at} {before.sent} {before.digest} down 1"
+        self.command("HSET", "tables:mirrors", "one", old)
+        self.wait(lambda: self.note().age < 30, apply)
+        self.assertEqual(self.note()[:4], (*before[:3], "down"))
+        again = self.double(Mirror(mirror.port))
+        self.wait_for(again, 3, apply)
+        self.wait(lambda: self.note().state == "up", apply)
+
+    def test_a_mirror_that_never_came_is_down(self):
+        self.fill(3)
+        mirror = Mirror()
+        mirror.close()
+        apply = self.apply(mirror)
+        self.wait(lambda: "one" in self.stream.notes(), apply)
+        wanted = ["stream tables last 3", "mirror one at 0 behind 3 down"]
+        self.assertEqual(self.status(), (1, wanted))
+        self.wait_for(self.double(Mirror(mirror.port)), 3, apply)
+
+    def test_noting_down_leaves_the_rest(self):
+        self.stream.note_down("one", "f")
+        self.assertEqual(self.note()[:4], (0, 0, "f", "down"))
+        self.stream.write_note("one", 5, 7, "d", "up")
+        self.stream.note_down("one", "f")
+        self.assertEqual(self.note()[:4], (5, 7, "d", "down"))
 
 
 if __name__ == "__main__":
