@@ -266,8 +266,8 @@ def facts(census: Census, rows: Rows, keys: Keys) -> Iterator[str]:
         )
         yield from row_lines(rows)
         yield (
-            f"  with the threshold {census.threshold}, {rows.true():,} of the {rows.pairs():,} pairs"
-            f" of these rows ({share(rows.true(), rows.pairs())}) show the true count"
+            f"  with the threshold {census.threshold}, {rows.true():,} of the {rows.pairs():,}"
+            f" pairs of these rows ({share(rows.true(), rows.pairs())}) show the true count"
         )
     if census.people.is_read:
         yield f"{census.people.path}: {census.people.records:,} persons"
