@@ -100,8 +100,8 @@ FAULTS = [
      " 2", "3 OutOfRange 1"),
     ("ptable", PTABLE + "1,255,0\n1,256,0\n", "ckey isn't from 0 to 255 (OutOfRange), 1 record:"
      " `256` in line 3", "3 OutOfRange 2"),
-    ("ptable", PTABLE + "700,1,-1001\n", "pvalue isn't from -1000 to 1000 (OutOfRange), 1 record:"
-     " `-1001` in line 2", "3 OutOfRange 1"),
+    ("ptable", PTABLE + "700,1,1001\n", "pvalue isn't from -1000 to 1000 (OutOfRange), 1 record:"
+     " `1001` in line 2", "3 OutOfRange 1"),
     ("ptable", PTABLE + "3,10,-4\n3,11,-3\n", "pcv + pvalue is below 0 (Negative), 1 record:"
      " `3,10,-4` in line 2", "4 Negative 1"),
     ("ptable", PTABLE + "0,0,0\n0,1,1\n", "pcv is 0 and pvalue isn't (ZeroRow), 1 record: `0,1,1` in"
@@ -290,6 +290,23 @@ class Csv(Files):
         ])
 
 
+class Example(unittest.TestCase):
+    def test_every_pair_of_the_example(self):
+        paths = [os.path.join(SMALL, it) for it in (*NAMES[:2], "every-pair.csv", NAMES[3])]
+        lines, status = check.check(paths, 0)
+        self.assertEqual((lines[-1], status), ("no fault; warnings: 0", 0))
+
+    def test_its_table_is_what_its_script_makes(self):
+        path = os.path.join(HERE, "../examples/every_pair.py")
+        if not os.path.exists(path):
+            self.skipTest("examples/every_pair.py isn't there")
+        with tempfile.TemporaryDirectory() as folder:
+            subprocess.run([sys.executable, "-B", path, f"{folder}/made.csv"], check=True)
+            with open(f"{folder}/made.csv", "rb") as made:
+                with open(f"{SMALL}/every-pair.csv", "rb") as kept:
+                    self.assertEqual(made.read(), kept.read())
+
+
 class Warnings(Files):
     def test_none(self):
         lines, status = self.check(threshold=2)
@@ -415,7 +432,7 @@ class Keys(unittest.TestCase):
             (24.996, 15, 0.05), (37.697, 15, 0.001), (7.261, 15, 0.95), (124.342, 100, 0.05),
             (149.449, 100, 0.001),
         ]:
-            self.assertAlmostEqual(check.chance_of(value, degrees), chance, delta=chance * 0.04)
+            self.assertAlmostEqual(check.chance_of(value, degrees), chance, delta=chance * 0.06)
 
 
 class Numbers(unittest.TestCase):
@@ -519,7 +536,10 @@ class BesideTheProgram(unittest.TestCase):
 
     def test_the_first_fault(self):
         drawn, refused = random.Random(3), 0
-        originals = {it: open(os.path.join(SMALL, it), "rb").read() for it in NAMES}
+        originals = {}
+        for it in NAMES:
+            with open(os.path.join(SMALL, it), "rb") as file:
+                originals[it] = file.read()
         with tempfile.TemporaryDirectory() as folder:
             with open(f"{folder}/script.txt", "w", encoding="utf-8"):
                 pass

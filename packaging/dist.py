@@ -24,6 +24,11 @@ import tempfile
 HERE = os.path.dirname(os.path.abspath(__file__))
 TOP = os.path.dirname(HERE)
 # What stands under `share/tablebuilder`, beside the clients.
+# The commands beside the program, each of a file under `share/tablebuilder`, which needs Python 3.
+COMMANDS = {
+    "tablebuilder-check": "clients/check.py",
+    "tablebuilder-keys": "clients/python/tablebuilder/keys.py",
+}
 EXAMPLES = ("haproxy.cfg", "haproxy-mirrors.cfg", "stunnel.conf", "stunnel-client.conf")
 # The machine of an ELF file, and where its number stands.
 MACHINE, MACHINE_AT = b"\x3e\x00", slice(18, 20)
@@ -69,6 +74,10 @@ def files_of(program, places):
     with open(program, "rb") as file:
         files = {"bin/tablebuilder": file.read()}
     doc, share = "share/doc/tablebuilder", "share/tablebuilder"
+    for name, path in COMMANDS.items():
+        # (wherever the archive lies)
+        at = f'"$(dirname "$(readlink -f "$0")")/../{share}/{path}"'
+        files[f"bin/{name}"] = f'#!/bin/sh\nexec python3 -B {at} "$@"\n'.encode()
     for name in ("README.md", "CHANGELOG.md", "VERSION"):
         files[f"{doc}/{name}"] = read(name)
     pages = files_under("docs", lambda path: f"{doc}/{path}")

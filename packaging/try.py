@@ -80,6 +80,15 @@ def try_program(tried, at):
     tried.check("the first table of examples/small", is_right, text)
 
 
+def try_commands(tried, at):
+    files = ["classes.csv", "recodes.csv", "every-pair.csv", "people.csv"]
+    status, text = run(f"{at.prefix}/bin/tablebuilder-check", *files, 0, cwd=at.small)
+    is_right = status == 0 and text.endswith("\nno fault; warnings: 0\n")
+    tried.check("tablebuilder-check", is_right, text)
+    status, text = run(f"{at.prefix}/bin/tablebuilder-keys", "people.csv", "/dev/null", cwd=at.small)
+    tried.check("tablebuilder-keys", status == 1 and "record_key already" in text, text)
+
+
 def try_page(tried, at):
     if shutil.which("man") is None:
         tried.skip("the man page", "man")
@@ -290,6 +299,7 @@ def try_units(tried, at):
 
 def try_all(tried, at):
     try_program(tried, at)
+    try_commands(tried, at)
     try_page(tried, at)
     try_units(tried, at)
 
