@@ -9,7 +9,7 @@
 # LINKS are both given or neither.
 CLASSES = examples/small/classes.csv
 RECODES = examples/small/recodes.csv
-PTABLE = examples/small/ptable.csv
+PTABLE = examples/small/every-pair.csv
 PEOPLE = examples/small/people.csv
 THRESHOLD = 0
 DWELLINGS =
@@ -123,7 +123,7 @@ try-dist: dist deb
 		$(DIST)/tablebuilder_$$(cat VERSION)_amd64.deb
 
 # [test] The tests of the Python and the R client against servers over examples/small, of
-# clients/journal.py, and of the relay. As `make build`, Python 3 and R, for the relay redis-server and
+# clients/journal.py and clients/check.py, and of the relay. As `make build`, Python 3 and R, for the relay redis-server and
 # python3-redis, without which most of its tests are passed over, which is said. Some 40 seconds.
 clients: build
 	python3 clients/run.py crates/tablebuilder/out/tablebuilder examples/small

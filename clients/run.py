@@ -1,6 +1,6 @@
 #!/usr/bin/env python3
-"""Runs the tests of each client against servers over `examples/small`, and those of `journal.py` and
-of the relay, which has doubles of the servers.
+"""Runs the tests of each client against servers over `examples/small`, and those of `journal.py`,
+`check.py` and the relay, which has doubles of the servers.
 
     run.py PROGRAM FOLDER [here]
 
@@ -36,6 +36,7 @@ CLIENTS = {
     "python": ("python", [sys.executable, "-B", "-m", "unittest"], ""),
     "R": ("r", ["Rscript", "--vanilla", "tests/all.R"], R_MISSING),
     "journal": (".", [sys.executable, "-B", "test_journal.py"], ""),
+    "check": (".", [sys.executable, "-B", "test_check.py"], ""),
     "relay": ("relay", [sys.executable, "-B", "test_relay.py"], ""),
 }
 

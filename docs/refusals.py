@@ -503,6 +503,15 @@ def first_looks(runs):
     ]:
         compare_look(runs, {**good, name: value}, f"{name}={value}: {said}\n")
     compare_look(runs, {**good, "LINKS": "links.csv"}, f"DWELLINGS=: {empty}\n")
+    example = os.path.join(SMALL, "every-pair.csv")
+    hint = (
+        f"PTABLE={example} is an example's: the counts of PEOPLE=people.csv that it has no pair of are"
+        ' shown as they are. Make one of your own (docs/GUIDE.md, "The four files"), name it as PTABLE,'
+        " and look it over: python3 clients/check.py (tablebuilder-check)\n"
+    )
+    no_kit = "rt isn't on the path: it is of the Rattle kit, which this needs\n"
+    compare_look(runs, {**good, "PTABLE": example}, hint + no_kit)
+    compare_look(runs, good, no_kit)
 
 
 def compare_look(runs, given, said):

@@ -65,6 +65,22 @@ def words_of(given):
     return words
 
 
+def is_example(path):
+    return os.path.abspath(path).startswith(os.path.join(TOP, "examples") + os.sep)
+
+
+def hint_of(given):
+    """What is said where own persons meet a perturbation table of the examples, which has no pair of
+    larger counts."""
+    if not is_example(given["PTABLE"]) or is_example(given["PEOPLE"]):
+        return None
+    return (
+        f"PTABLE={given['PTABLE']} is an example's: the counts of PEOPLE={given['PEOPLE']} that it has no"
+        " pair of are shown as they are. Make one of your own (docs/GUIDE.md, \"The four files\"), name it"
+        " as PTABLE, and look it over: python3 clients/check.py (tablebuilder-check)"
+    )
+
+
 def sources_sum():
     """The sum of what the program is built from: the sources and the kit."""
     told = subprocess.run(["rt", "version"], stdout=subprocess.PIPE, check=True).stdout
@@ -120,9 +136,13 @@ def build(kept):
 
 
 def main():
-    words = words_of(dict(word.split("=", 1) for word in sys.argv[1:]))
+    given = dict(word.split("=", 1) for word in sys.argv[1:])
+    words = words_of(given)
     if words is None:
         return 2
+    hint = hint_of(given)
+    if hint is not None:
+        print(hint, file=sys.stderr, flush=True)
     if shutil.which("rt") is None:
         print("rt isn't on the path: it is of the Rattle kit, which this needs", file=sys.stderr)
         return 2

@@ -23,14 +23,14 @@ import tempfile
 
 HERE = os.path.dirname(os.path.abspath(__file__))
 TOP = os.path.dirname(HERE)
+# The commands beside the program, each of a file under `share/tablebuilder`, which needs Python 3.
+COMMANDS = {
+    "tablebuilder-check": "clients/check.py",
+    "tablebuilder-journal": "clients/journal.py",
+    "tablebuilder-keys": "clients/python/tablebuilder/keys.py",
+}
 # What stands under `share/tablebuilder`, beside the clients.
 EXAMPLES = ("haproxy.cfg", "haproxy-mirrors.cfg", "stunnel.conf", "stunnel-client.conf")
-# Commands that are scripts among the clients, where these are there.
-TOOLS = {"tablebuilder-check": "check.py", "tablebuilder-journal": "journal.py"}
-TOOL = """\
-#!/bin/sh
-exec python3 -B "$(dirname "$(readlink -f "$0")")/../share/tablebuilder/clients/%s" "$@"
-"""
 # The machine of an ELF file, and where its number stands.
 MACHINE, MACHINE_AT = b"\x3e\x00", slice(18, 20)
 PLAIN, EXECUTABLE = 0o644, 0o755
@@ -75,15 +75,16 @@ def files_of(program, places):
     with open(program, "rb") as file:
         files = {"bin/tablebuilder": file.read()}
     doc, share = "share/doc/tablebuilder", "share/tablebuilder"
+    for name, path in COMMANDS.items():
+        # (wherever the archive lies)
+        at = f'"$(dirname "$(readlink -f "$0")")/../{share}/{path}"'
+        files[f"bin/{name}"] = f'#!/bin/sh\nexec python3 -B {at} "$@"\n'.encode()
     for name in ("README.md", "CHANGELOG.md", "VERSION", "LICENSE"):
         files[f"{doc}/{name}"] = read(name)
     files[f"{doc}/copyright"] = read("packaging", "debian", "copyright")
     pages = files_under("docs", lambda path: f"{doc}/{path}")
     files.update({path: data for path, data in pages.items() if not path.endswith(".py")})
     files.update(files_under("clients", lambda path: f"{share}/{path}"))
-    for name, script in TOOLS.items():
-        if f"{share}/clients/{script}" in files:
-            files[f"bin/{name}"] = (TOOL % script).encode()
     files.update(files_under("examples/small", lambda path: f"{share}/{path}"))
     files.update({f"{share}/{name}": read("packaging", name) for name in EXAMPLES})
     files["share/man/man1/tablebuilder.1"] = places.fill(read("packaging", "tablebuilder.1"))

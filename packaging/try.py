@@ -84,6 +84,18 @@ def try_program(tried, at):
     tried.check("the first table of examples/small", is_right, text)
 
 
+def try_commands(tried, at):
+    files = ["classes.csv", "recodes.csv", "every-pair.csv", "people.csv"]
+    status, text = run(f"{at.prefix}/bin/tablebuilder-check", *files, 0, cwd=at.small)
+    is_right = status == 0 and text.endswith("\nno fault; warnings: 0\n")
+    tried.check("tablebuilder-check", is_right, text)
+    status, text = run(f"{at.prefix}/bin/tablebuilder-keys", "people.csv", "/dev/null", cwd=at.small)
+    tried.check("tablebuilder-keys", status == 1 and "record_key already" in text, text)
+    status, text = run(f"{at.prefix}/bin/tablebuilder-journal", cwd="/")
+    is_right = status == 2 and "CLASSES" in text and "Traceback" not in text
+    tried.check("tablebuilder-journal, without words", is_right, (status, text[:400]))
+
+
 def try_page(tried, at):
     if shutil.which("man") is None:
         tried.skip("the man page", "man")
@@ -92,24 +104,6 @@ def try_page(tried, at):
     status, text = run("man", "--warnings", "-l", at.page, env=environment)
     is_right = status == 0 and "tablebuilder script CLASSES" in text and "@" not in text
     tried.check("the man page", is_right and "warning" not in text, text[:400])
-
-
-def try_tools(tried, at):
-    """The commands that are scripts: each is run by its own name, from another folder."""
-    for name in ("tablebuilder-check", "tablebuilder-journal"):
-        tool = f"{at.prefix}/bin/{name}"
-        if not os.path.exists(tool):
-            tried.skip(name, tool)
-            continue
-        status, text = run(tool, cwd="/")
-        is_right = status == 2 and "CLASSES" in text and "Traceback" not in text
-        tried.check(f"{name}, without words", is_right, (status, text[:400]))
-    tool = f"{at.prefix}/bin/tablebuilder-check"
-    if not os.path.exists(tool):
-        return
-    status, text = run(tool, *SMALL, 0, cwd=at.small)
-    is_right = status in (0, 1) and "Traceback" not in text
-    tried.check("tablebuilder-check over examples/small", is_right, (status, text[:400]))
 
 
 def words_of(unit, setting="ExecStart"):
@@ -362,7 +356,7 @@ def try_units(tried, at):
 
 def try_all(tried, at):
     try_program(tried, at)
-    try_tools(tried, at)
+    try_commands(tried, at)
     try_page(tried, at)
     try_units(tried, at)
 

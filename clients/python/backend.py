@@ -49,13 +49,11 @@ def modules():
 def build_wheel(folder, config_settings=None, metadata_directory=None):
     told = project()
     name = f"{told['name']}-{told['version']}"
-    command = "tablebuilder-ask"
     files = {it: read(it) for it in modules()}
     files[f"{name}.dist-info/METADATA"] = metadata(told)
     files[f"{name}.dist-info/WHEEL"] = WHEEL
-    files[f"{name}.dist-info/entry_points.txt"] = (
-        f"[console_scripts]\n{command} = {told[command]}\n"
-    )
+    commands = "".join(f"{it} = {told[it]}\n" for it in told if it.startswith("tablebuilder-"))
+    files[f"{name}.dist-info/entry_points.txt"] = f"[console_scripts]\n{commands}"
     record = f"{name}.dist-info/RECORD"
     lines = []
     for path, text in files.items():

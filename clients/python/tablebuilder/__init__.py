@@ -23,12 +23,16 @@ The custodian, at the first port of the server:
 
 Every count is perturbed: it is what the server shows, and no true count. A session holds a worker
 of the server until it is closed, and the custodian's port has one alone, so use `with`. A session is for one thread.
+Before there is a server: `draw_keys` and `add_keys` draw record keys, and `ptable` makes a
+perturbation table.
 The package needs the standard library alone; `Table.frame` needs pandas. The command
 `tablebuilder-ask HOST:PORT` (or `python3 -m tablebuilder HOST:PORT`) asks from a prompt.
 """
 
 from tablebuilder.faults import Busy, CannotDescribe, Ended, Error, NotHeld, OlderRelease
 from tablebuilder.faults import OutOfMemory, Refused, RepeatedLabel, Unexpected, Unkept
+from tablebuilder.keys import add_keys, draw_keys
+from tablebuilder.perturbation import ptable, read_intervals
 from tablebuilder.revision import WouldBeRefused, edits
 from tablebuilder.session import Session, Stats, connect, forget_releases
 from tablebuilder.table import Category, Table, Variable, table_of
@@ -51,8 +55,12 @@ __all__ = [
     "Unkept",
     "Variable",
     "WouldBeRefused",
+    "add_keys",
     "connect",
+    "draw_keys",
     "edits",
     "forget_releases",
+    "ptable",
+    "read_intervals",
     "table_of",
 ]

@@ -48,6 +48,8 @@ tb_intervals <- function(table) {
   }
   table <- table[names]
   if (!all(vapply(table, is.numeric, NA)) || anyNA(table)) stop("a field is no number")
+  # (a table that was read from a file has whole numbers of another type)
+  table[] <- lapply(table, as.numeric)
   if (any(table$i != floor(table$i) | table$j != floor(table$j))) {
     stop("a count i, or what it becomes, j, is no whole number")
   }

@@ -6,6 +6,7 @@
 if (file.exists("R/tablebuilder.R")) {
   source("R/tablebuilder.R")
   source("R/ptable.R")
+  source("R/keys.R")
 } else {
   library(tablebuilder)
 }
@@ -634,6 +635,33 @@ own_tests <- list(
         expect(isTRUE(all.equal(told$mean[i], sum(p * (as.numeric(names(p)) - i)))), TRUE)
       }
     }
+  },
+  # Whole numbers that were read from a file are of another type.
+  a_table_that_was_read_from_a_file = function() {
+    table <- intervals_of(list(c("0" = 0.25, "2" = 0.75), c("2" = 1)))
+    file <- tempfile(fileext = ".csv")
+    utils::write.csv(table, file, row.names = FALSE)
+    read <- utils::read.csv(file)
+    expect(is.integer(read$i), TRUE)
+    expect(tb_ptable(read), tb_ptable(table))
+  },
+  record_keys = function() {
+    for (keys in c(256, 4096)) {
+      drawn <- tb_keys(20000, keys)
+      expect(length(drawn), 20000L)
+      expect(all(drawn == floor(drawn) & drawn >= 0 & drawn < keys), TRUE)
+      # 16 parts of 1,250 each: chi-square above 60 comes up once in some 3 million draws.
+      parts <- tabulate(drawn %/% (keys / 16) + 1, 16)
+      expect(sum((parts - 1250)^2 / 1250) < 60, TRUE)
+      ends <- tabulate(drawn %% 16 + 1, 16)
+      expect(sum((ends - 1250)^2 / 1250) < 60, TRUE)
+    }
+    expect(length(tb_keys(0)), 0L)
+    expect(identical(tb_keys(100), tb_keys(100)), FALSE)
+    fault_of("simpleError", tb_keys(10, keys = 1024))
+    fault_of("simpleError", tb_keys(-1))
+    fault_of("simpleError", tb_keys(1.5))
+    fault_of("simpleError", tb_keys(NA))
   },
   an_object_of_the_package_and_a_file = function() {
     holder <- methods::setClass("ptable", representation(pTable = "data.frame"))
