@@ -22,6 +22,7 @@ pub struct SetupSum {
 }
 
 /// The digits of a sum.
+#[derive(Drop)]
 pub struct Digits {
     digits: [u8; DIGITS],
 }

@@ -79,23 +79,26 @@ impl Seen {
         }
     }
 
-    // Takes the file of a name, once it was read. PEOPLE is read once PTABLE is accepted.
-    fn see(&mut self, rt: &impl Eprint, alloc: Global, task: &Task<'_>, name: &str, bytes: &[u8]) {
-        let Some((file, read)) = next_input(task, self.read, name) else {
-            return;
-        };
+    // The file of a name that a task reads next. PEOPLE comes once PTABLE is accepted.
+    fn next(&mut self, rt: &impl Eprint, task: &Task<'_>, name: &str) -> Option<Input> {
+        let (file, read) = next_input(task, self.read, name)?;
         self.read = read;
         if file == Input::People {
             tell_missing(rt, task, self.missing);
         }
+        Some(file)
+    }
+
+    // Sees the bytes of a file of a task.
+    fn see(&mut self, rt: &impl Eprint, alloc: Global, task: &Task<'_>, file: Input, bytes: &[u8]) {
         self.take(alloc, file, bytes);
         self.sum(rt, task, file, bytes);
     }
 }
 
-/// The files of the system, as a task reads them. On the standard error they tell which share of
-/// the perturbation table is missing, once that is accepted, and of a server with a journal the sum
-/// of its setup, once its last file is read.
+/// The files of the system, as a task reads them. On the standard error they tell how many pairs the
+/// perturbation table lacks, once that is accepted, and of a server with a journal the sum of its
+/// setup, once its last file is read.
 #[derive(Drop)]
 pub struct ToldFiles<'r, 'c, 'a, R: FileSystem + Eprint> {
     rt: &'r R,
@@ -156,9 +159,13 @@ impl<'r, 'c, 'a, R: FileSystem + Eprint> Files for ToldFiles<'r, 'c, 'a, R> {
     ghost content = { λ _. None };
 
     fn read(&mut self, alloc: Global, name: &str, max: u64) -> FileRead {
+        let Some(task) = self.task else {
+            return self.files.read(alloc, name, max);
+        };
+        let file = self.seen.next(self.rt, task, name);
         let read = self.files.read(alloc, name, max);
-        if let (FileRead::Bytes(bytes), Some(task)) = (&read, self.task) {
-            self.seen.see(self.rt, alloc, task, name, bytes.as_slice());
+        if let (FileRead::Bytes(bytes), Some(file)) = (&read, file) {
+            self.seen.see(self.rt, alloc, task, file, bytes.as_slice());
         }
         read
     }

@@ -21,18 +21,20 @@ use tb_units::UnitsKind;
 const MOST_SHOWN: usize = 60;
 
 // A value of a file. What is no text in it is escaped, and of a long one the beginning is told.
+#[derive(Clone, Copy)]
 struct Shown<'v>(&'v [u8]);
 
 impl<'v> Display for Shown<'v> {
     fn fmt<W: Write>(&self, f: &mut Formatter<W>) -> fmt::Result {
         match self.0.get(..MOST_SHOWN) {
-            Some(first) => write!(f, "{:?}..", BStr::new(first)),
-            None => write!(f, "{:?}", BStr::new(self.0)),
+            Some(first) if first.len() < self.0.len() => write!(f, "{:?}..", BStr::new(first)),
+            _ => write!(f, "{:?}", BStr::new(self.0)),
         }
     }
 }
 
 // What is at fault.
+#[derive(Clone, Copy)]
 enum Value<'v> {
     NoVariable(&'v [u8]),
     NoCategory {
