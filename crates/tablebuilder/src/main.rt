@@ -52,7 +52,7 @@ use tb_real_disk::RealDisk;
 use tb_top::tablebuilder;
 use told_files::ToldFiles;
 use unbuffered::Unbuffered;
-use values::{Place, tell_value};
+use values::tell_value;
 
 // The arguments after the program's name.
 fn arguments<R: Env + AllocGlobal>(rt: &R) -> io::Result<Vec<String>> {
@@ -128,15 +128,12 @@ fn tell_record<R: FileSystem<File = File> + Eprint>(
     arguments: Option<&Arguments<'_>>,
     refusal: &Refusal<'_>,
 ) -> bool {
-    match (task_in(arguments), refusal) {
-        (Some(task), Refusal::Record { file, kind, at }) => {
-            let place = Place {
-                file: *file,
-                at: *at,
-            };
-            tell_value(rt, alloc, task, *kind, place)
-        }
-        _ => false,
+    let Some(task) = task_in(arguments) else {
+        return false;
+    };
+    match refusal.record() {
+        Some((kind, place)) => tell_value(rt, alloc, task, kind, place),
+        None => false,
     }
 }
 

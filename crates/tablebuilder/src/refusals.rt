@@ -3,6 +3,7 @@
 use crate::inputs::{input_named, name_of, task_of};
 use crate::kinds::Kind;
 use crate::usage::{BadArgument, Usage};
+use crate::values::Place;
 use tb_base::{Status, read_number};
 use tb_command::{Arguments, Command, Layout, Service};
 use tb_endings::Input;
@@ -217,6 +218,20 @@ impl<'a> Refusal<'a> {
             None => None,
         };
         of_status(command, ending)
+    }
+
+    /// The record for which a file is refused, and the kind of its fault.
+    pub fn record(&self) -> Option<(Kind, Place<'a>)> {
+        match self {
+            Refusal::Record { file, kind, at } => Some((
+                *kind,
+                Place {
+                    file: *file,
+                    at: *at,
+                },
+            )),
+            _ => None,
+        }
     }
 }
 

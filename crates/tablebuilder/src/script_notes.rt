@@ -1,12 +1,12 @@
-// What a script's author is told of lines that nobody can mean as they stand. They are answered as
-// they stand all the same.
+// What a script's author is told of lines that nobody means as they stand. They are answered so all
+// the same.
 
 use bstr::ByteSlice;
 use tb_base::{blank_at, skip_blanks};
 use tb_command::{Owner, Task};
 
-/// The number of the first line that begins as what is asked, and of the first with an `at` behind
-/// which no number stands.
+/// The number of the first line that begins with what is asked, and not with who asks, and of the
+/// first with an `at` behind which no number stands.
 #[derive(Clone, Copy)]
 pub struct ScriptNotes {
     asker: Option<u32>,
@@ -79,11 +79,13 @@ impl ScriptNotes {
     pub fn tell(&self, rt: &impl Eprint, task: &Task<'_>, script: &str) {
         if let Some(at) = self.asker {
             let _ = eprintln!(rt;
-                "{script}, line {at}: a script's line begins with who asks, as \
-                `a table SEX`"
+                "{script}, line {at}: a script's line begins with who asks, as `a table SEX`"
             );
         }
-        if let (Some(at), false) = (self.release, matches!(&task.owner, Owner::Leader)) {
+        if let Owner::Leader = &task.owner {
+            return;
+        }
+        if let Some(at) = self.release {
             let _ = eprintln!(rt;
                 "{script}, line {at}: behind `at` stands the number of a release, \
                 as `a at 0 table SEX`"

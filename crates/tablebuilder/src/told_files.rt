@@ -43,8 +43,8 @@ fn tell_missing(rt: &impl Eprint, task: &Task<'_>, missing: Option<Missing>) {
     let file = task.inputs.ptable.as_str();
     let (pairs, of, last_key) = (missing.pairs, missing.of, missing.last_key);
     let _ = eprintln!(rt;
-        "{file}: {pairs} of {of} pairs (pcv 1 to 750, ckey 0 to {last_key}) are \
-        missing, and counts there are shown unperturbed"
+        "{file}: {pairs} of {of} pairs (pcv 1 to 750, ckey 0 to {last_key}) are missing, \
+        and counts there are shown unperturbed"
     );
 }
 
@@ -90,9 +90,18 @@ impl Seen {
     }
 
     // Sees the bytes of a file of a task.
-    fn see(&mut self, rt: &impl Eprint, alloc: Global, task: &Task<'_>, file: Input, bytes: &[u8]) {
-        self.take(alloc, file, bytes);
-        self.sum(rt, task, file, bytes);
+    fn see(
+        &mut self,
+        rt: &impl Eprint,
+        alloc: Global,
+        task: &Task<'_>,
+        file: Option<Input>,
+        bytes: &[u8],
+    ) {
+        if let Some(file) = file {
+            self.take(alloc, file, bytes);
+            self.sum(rt, task, file, bytes);
+        }
     }
 }
 
@@ -164,8 +173,9 @@ impl<'r, 'c, 'a, R: FileSystem + Eprint> Files for ToldFiles<'r, 'c, 'a, R> {
         };
         let file = self.seen.next(self.rt, task, name);
         let read = self.files.read(alloc, name, max);
-        if let (FileRead::Bytes(bytes), Some(file)) = (&read, file) {
-            self.seen.see(self.rt, alloc, task, file, bytes.as_slice());
+        match &read {
+            FileRead::Bytes(bytes) => self.seen.see(self.rt, alloc, task, file, bytes.as_slice()),
+            FileRead::TooLong | FileRead::Failed | FileRead::Memory => {}
         }
         read
     }
