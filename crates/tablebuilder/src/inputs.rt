@@ -56,8 +56,8 @@ pub fn name_of<'a>(task: &Task<'a>, file: Input) -> Option<&'a str> {
 /// The file that a task reads under this name, the first of those behind so many; and how many are
 /// behind it then. Two files may have one name.
 pub fn next_input(task: &Task<'_>, read: usize, name: &str) -> Option<(Input, usize)> {
-    for (i, input) in INPUTS.iter().enumerate().skip(read) {
-        if name_of(task, *input) == Some(name) {
+    for (i, input) in INPUTS.iter().enumerate() {
+        if i >= read && name_of(task, *input) == Some(name) {
             return Some((*input, i.saturating_add(1)));
         }
     }
