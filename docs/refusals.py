@@ -8,13 +8,18 @@ what a program that checks as it goes can't show is passed over: files of a mill
 reads for minutes, and want of memory, since it takes more of its own.
 """
 
+import contextlib
+import csv
 import errno
 import fcntl
+import hashlib
 import os
+import re
 import resource
 import shutil
 import signal
 import socket
+import stat
 import subprocess
 import sys
 import tempfile
@@ -115,8 +120,12 @@ GROUPS = "".join(f"R{i},SEX,1,all\n" for i in range(257))
 LONG = 268_435_457
 # The same of a census's files where the classification states more than a million persons.
 LONGER = 34_359_738_369
+# A user who isn't the owner of anything.
+NOBODY = 65_534
 # How many seconds a run may take; a program that checks as it goes takes minutes over a million records.
 PATIENCE = 600
+# What the text is made of whose sum is that of a setup.
+SETUP = ("classes", "recodes", "ptable", "people", "threshold", "dwellings", "links")
 LONG_SCRIPT = 16_777_217
 
 # The file that is replaced and its text or length (None: there is none), the line printed, what the standard
@@ -138,7 +147,7 @@ FILES = [
     ("classes.csv", CLASSES + 'SEX,1,"Ma\nle"\n', "fault classes 11 BadLabel 1",
      "classes.csv, record 1: the `label` must be UTF-8 text of up to 200 bytes on one line", 3),
     ("classes.csv", CLASSES + "SEX,1,Male\nSEX,1,Female\n", "fault classes 4 RepeatedCode 2",
-     "classes.csv, record 2: an earlier record has the same `variable` and `code`", 3),
+     'classes.csv, record 2: an earlier record has the category "1" of SEX too', 3),
     ("classes.csv", CLASSES + VARIABLES, "fault classes 12 TooMany 65", f"classes.csv, record 65: {LIMITS}", 3),
     ("classes.csv", LONG, "fault classes TooLong", "classes.csv: the file must have at most 268435456 bytes", 3),
     ("classes.csv", None, "fault read classes", f"classes.csv: {UNREAD}", 7),
@@ -149,18 +158,18 @@ FILES = [
     ("recodes.csv", RECODES + "where,AGE,0-15,young\n", "fault recodes 2 BadName 1",
      f"recodes.csv, record 1: the `recode` {SPELLED}", 3),
     ("recodes.csv", RECODES + "AGE2,FOO,0-15,young\n", "fault recodes 5 UnknownVariable 1",
-     "recodes.csv, record 1: the `variable` is not in the classification", 3),
+     'recodes.csv, record 1: the classification has no variable "FOO"', 3),
     ("recodes.csv", RECODES + "SEX,AGE,0-15,young\n", "fault recodes 9 NameTwice 1",
      "recodes.csv, record 1: the `recode` has the name of a variable, or names two variables", 3),
     ("recodes.csv", RECODES + "AGE2,AGE,7,young\n", "fault recodes 6 UnknownCode 1",
-     "recodes.csv, record 1: the `code` is not one of its variable's", 3),
+     'recodes.csv, record 1: AGE has no category "7"', 3),
     ("recodes.csv", RECODES + "AGE2,AGE,65+,old\nAGE2,AGE,65+,old\n", "fault recodes 7 CodeTwice 2",
-     "recodes.csv, record 2: an earlier record has the same `recode` and `code`", 3),
+     'recodes.csv, record 2: an earlier record has the category "65+" of AGE2 too', 3),
     ("recodes.csv", RECODES + "AGE2,AGE,65+,the old\n", "fault recodes 3 BadCode 1",
      f"recodes.csv, record 1: the `group` {CODED}", 3),
     ("recodes.csv", RECODES + GROUPS, "fault recodes 12 TooMany 257", f"recodes.csv, record 257: {LIMITS}", 3),
     ("recodes.csv", RECODES + "AGE2,AGE,0-15,young\nAGE2,AGE,65+,old\n", "fault recodes 8 CodeMissing 1",
-     "recodes.csv, record 1: the `recode` lacks a code of its variable", 3),
+     'recodes.csv, record 1: AGE2 lacks the category "16-64" of AGE', 3),
     ("recodes.csv", LONG, "fault recodes TooLong", "recodes.csv: the file must have at most 268435456 bytes", 3),
     ("recodes.csv", None, "fault read recodes", f"recodes.csv: {UNREAD}", 7),
     ("ptable.csv", "", "fault ptable 1 BadHeader 0",
@@ -187,9 +196,9 @@ FILES = [
     ("people.csv", PEOPLE + "101,200,1,0-15,E1\n102,100,1,65+,E1\n103,256,1,65+,E2\n", "fault people 3 BadKey 3",
      f"people.csv, record 3: record_key must be a number from 0 to 255, {WIDE}", 5),
     ("people.csv", PEOPLE + "101,200,1,0-15,E3\n", "fault people 4 UnknownCode 1",
-     "people.csv, record 1: each variable's field must be one of the variable's codes", 5),
+     'people.csv, record 1: AREA has no category "E3"', 5),
     ("people.csv", PEOPLE + "101,200,1,0-15,E1\n101,200,1,0-15,E1\n", "fault people 5 PersonTwice 2",
-     "people.csv, record 2: an earlier record has the same person", 5),
+     'people.csv, record 2: an earlier record has the person "101" too', 5),
     ("people.csv", PEOPLE + "".join(f"{i},0,1,65+,E1\n" for i in range(1, 1_000_002)), "fault people 7 TooMany 1000001",
      f"people.csv, record 1000001: {TOO_MANY}", 5),
     ("people.csv", LONG, "fault people TooLong", f"people.csv: {TOO_LONG}", 5),
@@ -212,7 +221,7 @@ UNITS_FILES = [
     ("dwellings.csv", DWELLINGS + "1,50\n2,256\n", "fault dwellings 3 BadKey 2",
      f"dwellings.csv, record 2: dwelling_key must be a number from 0 to 255, {WIDE}", 13),
     ("dwellings.csv", DWELLINGS + "1,50\n2,60\n1,50\n", "fault dwellings 4 DwellingTwice 3",
-     "dwellings.csv, record 3: an earlier record has the same dwelling", 13),
+     'dwellings.csv, record 3: an earlier record has the dwelling "1" too', 13),
     ("dwellings.csv", DWELLINGS + ONES, "fault dwellings 9 TooMany 1000001",
      f"dwellings.csv, record 1000001: {TOO_MANY}", 13),
     ("dwellings.csv", LONG, "fault dwellings TooLong", f"dwellings.csv: {TOO_LONG}", 13),
@@ -224,9 +233,9 @@ UNITS_FILES = [
      "links.csv, record 1: person must be a number from 1 to 4294967295", 13),
     ("links.csv", LINKS + "101,1\n102,x\n", "fault links 2 BadDwelling 2", f"links.csv, record 2: {DWELLING}", 13),
     ("links.csv", LINKS + "101,1\n102,1\n103,2\n104,3\n", "fault links 5 UnknownDwelling 4",
-     "links.csv, record 4: the dwelling is not among the dwellings", 13),
+     'links.csv, record 4: there is no dwelling "3"', 13),
     ("links.csv", LINKS + "101,1\n101,2\n", "fault links 6 PersonTwice 2",
-     "links.csv, record 2: an earlier record has the same person", 13),
+     'links.csv, record 2: an earlier record has the person "101" too', 13),
     ("links.csv", LINKS + ONES, "fault links 9 TooMany 1000001", f"links.csv, record 1000001: {TOO_MANY}", 13),
     ("links.csv", LONG, "fault links TooLong", f"links.csv: {TOO_LONG}", 13),
     ("links.csv", None, "fault read links", f"links.csv: {UNREAD}", 7),
@@ -241,14 +250,12 @@ NOT_FOLLOWING = (
     "the batch must fit the classification and follow the microdata and the batches before it, so name the files that"
     " this journal was begun with"
 )
-DISK = (
-    "the file must be there or its folder, this user must be allowed to read and write it, no other process may have"
-    " it, and the disk must take what is written"
-)
-# A server may have served before its journal took no more.
-HOST_DISK = (
-    f"{DISK}, and memory suffice behind it; each `publish` after such a fault was answered `unkept`, so"
-    " start anew from the file"
+NO_FILE = "it must be a file, and no folder, pipe or device"
+NOT_ALLOWED = "this user must be allowed to read and write it, and while it isn't there or is empty its folder too"
+# Of a server whose journal took no more.
+UNKEPT = (
+    "nothing was kept any more after a fault of the disk or of memory; each `publish` since then was answered"
+    " `unkept`, so start anew from the file"
 )
 # A journal of one batch, which drops person 104; and such a record.
 RECORD = bytes.fromhex("01 00000009 00000001 02 00000068")
@@ -301,12 +308,48 @@ class Runs:
         else:
             os.remove(path)
 
-    def run(self, words, out, err, status, stdout=subprocess.PIPE, limit=None):
+    def run(self, words, out, err, status, stdout=subprocess.PIPE, limit=None, sent=b""):
         """Compares what a run of these arguments prints, what it says and its status."""
-        done = subprocess.run([self.program, *words], cwd=self.work, stdin=subprocess.DEVNULL, stdout=stdout,
+        done = subprocess.run([self.program, *words], cwd=self.work, input=sent, stdout=stdout,
                               stderr=subprocess.PIPE, preexec_fn=limit, timeout=PATIENCE, check=False)
         got = ((done.stdout or b"").decode(), done.stderr.decode(), done.returncode)
-        self.compare(words, got, (out, err, status))
+        self.compare(words, got, (out, self.said_of_files(words, out) + err, status))
+
+    def said_of_files(self, words, out):
+        """What a run of these arguments that prints this says of its files in front of all else."""
+        if re.match("fault (read )?(usage|classes|recodes|ptable)", out):
+            return ""
+        said = self.said_of_ptable(words)
+        are_read = not re.match("fault (read )?(people|dwellings|links)( TooLong)?$", out)
+        if words[0] == "host" and are_read:
+            said += f"setup {self.setup_sum(words)}\n"
+        return said
+
+    def said_of_ptable(self, words):
+        """What is said of the pairs that a perturbation table lacks."""
+        with open(os.path.join(self.work, words[1]), encoding="utf-8", errors="replace") as file:
+            keys = 4096 if "\n*,keys,4096" in file.read() else 256
+        with open(os.path.join(self.work, words[3]), encoding="utf-8") as file:
+            pairs = sum(int(record["pcv"]) > 0 for record in csv.DictReader(file))
+        missing = 750 * keys - pairs
+        if not missing:
+            return ""
+        return (
+            f"{words[3]}: {missing} of {750 * keys} pairs (pcv 1 to 750, ckey 0 to {keys - 1}) are missing, and counts"
+            " there are shown unperturbed\n"
+        )
+
+    def setup_sum(self, words):
+        """The sum of the setup of a server with a journal."""
+        sums = []
+        for name in words[1:8]:
+            path = os.path.join(self.work, name)
+            sums.append(name)
+            if os.path.exists(path):
+                with open(path, "rb") as file:
+                    sums[-1] = hashlib.sha256(file.read()).hexdigest()
+        lines = (f"{word} {each}\n" for word, each in zip(SETUP, sums))
+        return hashlib.sha256("".join(lines).encode()).hexdigest()
 
     def compare(self, words, got, wanted):
         if got == wanted:
@@ -332,6 +375,19 @@ def short_files():
     resource.setrlimit(resource.RLIMIT_FSIZE, (15, 15))
 
 
+@contextlib.contextmanager
+def as_nobody(runs):
+    """While the folder can be read by a user who may write nothing there: what makes a run that user's."""
+    program, allowed = runs.program, stat.S_IMODE(os.stat(runs.work).st_mode)
+    runs.program = shutil.copy(program, runs.work)
+    os.chmod(runs.work, 0o555)
+    try:
+        yield (lambda: os.setuid(NOBODY)) if os.getuid() == 0 else None
+    finally:
+        os.chmod(runs.work, allowed)
+        runs.program = program
+
+
 def journals(runs):
     """What comes of the journal's file."""
     runs.fill()
@@ -345,13 +401,14 @@ def journals(runs):
             runs.run(each, line + "\n", said + "\n", 11)
     with open(path, "rb") as held:
         fcntl.flock(held, fcntl.LOCK_EX)
-        for each, why in ((words, DISK), (host, HOST_DISK)):
-            said = f"the journal's file: another process has it\njournal: {why}\n"
-            runs.run(each, "fault disk\n", said, 12)
-    names = {"none/journal": system_error(errno.ENOENT), ".": system_error(errno.EISDIR), "/dev/null": "it is no file"}
-    for name, why in names.items():
-        said = f"the journal's file: {why}\n{name}: {DISK}\n"
-        runs.run([*KEEP.split(), name, "script.txt"], "fault disk\n", said, 12)
+        for each in (words, host):
+            runs.run(each, "fault disk\n", "journal: another process has it\n", 12)
+    for name, why in {"none/journal": "its folder must be there", ".": NO_FILE, "/dev/null": NO_FILE}.items():
+        runs.run([*KEEP.split(), name, "script.txt"], "fault disk\n", f"{name}: {why}\n", 12)
+    with as_nobody(runs) as nobody:
+        os.chmod(path, 0)
+        runs.run(words, "fault disk\n", f"journal: {NOT_ALLOWED}\n", 12, limit=nobody)
+        runs.run([*KEEP.split(), "new", "script.txt"], "fault disk\n", f"new: {NOT_ALLOWED}\n", 12, limit=nobody)
     runs.fill("script.txt", "custodian drop 104\ncustodian publish\ncustodian publish\na table SEX\n")
     os.remove(path)
     said = f"the journal's file: {system_error(errno.EFBIG)}\n"
@@ -393,6 +450,7 @@ def hosts(runs):
         runs.compare(words, (told, out, process.returncode), ([replies, ""], report, status))
         fault = f"the journal's file: {system_error(errno.EFBIG)}\n"
         runs.compare(words, said.count(fault), 1 if limit else 0)
+        runs.compare(words, said.endswith(f"\nnew: {UNKEPT}\n"), bool(limit))
 
 
 def units(runs):
@@ -450,7 +508,7 @@ def others(runs):
         runs.run(bad, "fault usage\n", f"{said}\n{USAGE}", 2)
     here = [f"./{word}" if word == "people.csv" else word for word in words]
     runs.fill("people.csv", PEOPLE + "101,200,1,0-15,E1\n101,200,1,0-15,E1\n")
-    said = "./people.csv, record 2: an earlier record has the same person\n"
+    said = './people.csv, record 2: an earlier record has the person "101" too\n'
     runs.run(here, "fault people 5 PersonTwice 2\n", said, 5)
     serve = ["serve", *here[1:6], "4000", "1", "1"]
     runs.run(serve, "fault people 5 PersonTwice 2\n", said, 5)
@@ -485,6 +543,61 @@ def others(runs):
         runs.run(words, "", "the standard output must take what is written\n", 8, stdout=full)
     runs.fill("script.txt", "# no lines\n")
     runs.run(words, "", "", 0)
+
+
+def askers(runs):
+    """What is said of lines of a script that don't say who asks, or ask for a release by no number."""
+    asker = "script.txt, line {}: a script's line begins with who asks, as `a table SEX`\n"
+    release = "script.txt, line {}: behind `at` stands the number of a release, as `a at 0 table SEX`\n"
+    syntax = "refused 2 Syntax {}\n"
+    for text, out, said in [
+        ("table SEX by AGE\n", syntax.format(1), asker.format(1)),
+        ("# at x\na describe NONE\nat 0 table SEX\ndwellings SEX\n",
+         "refused 3 UnknownName 2\n" + 2 * syntax.format(1), asker.format(3)),
+        ("table # no line\ntable table by\n", syntax.format(2), ""),
+        ("a table by\na at -1 table SEX\na at\n", syntax.format(2) + 2 * syntax.format(1), release.format(2)),
+    ]:
+        runs.fill("script.txt", text)
+        runs.run(SCRIPT.split(), out, said, 0)
+    runs.fill("script.txt", "describe\n")
+    runs.run(SCRIPT.split(), "fault script 1\n", f"script.txt, line 1: {LINE}\n{asker.format(1)}", 6)
+    runs.fill("script.txt", "a at -1 table SEX\n")
+    runs.run(["follow", *SCRIPT.split()[1:]], syntax.format(1), "", 0)
+
+
+def tables(runs):
+    """What is said of perturbation tables of each key range: only of row 0 nothing need be there."""
+    with open(os.path.join(SMALL, "classes.csv"), encoding="utf-8", newline="") as file:
+        classes = file.read()
+    for keys in (256, 4096):
+        whole = "".join(f"{row},{key},0\n" for row in range(751) for key in range(keys))
+        for table in (PTABLE + whole, PTABLE + whole[:-len(f"750,{keys - 1},0\n")]):
+            if runs.passes_over(table):
+                continue
+            runs.fill("classes.csv", classes.replace(CLASSES, f"{CLASSES}*,keys,{keys}\n"))
+            runs.put("ptable.csv", table)
+            runs.put("script.txt", "a table SEX\n")
+            runs.run(SCRIPT.split(), "release 0\nSEX,count\n1,3\n2,1\n.\n", "", 0)
+
+
+def values(runs):
+    """How a value at fault is shown: escaped where it is no text, and cut where it is long. What comes from
+    a pipe can't be read again."""
+    runs.fill()
+    words = SCRIPT.split()
+    for value, shown in [
+        (b'"\xff3\'""\xc3\xa9"', '"\\xff3\\\'\\"é"'),
+        (b"", '""'),
+        (b"x" * 60, '"' + "x" * 60 + '"'),
+        (b"x" * 61, '"' + "x" * 60 + '"..'),
+    ]:
+        with open(os.path.join(runs.work, "people.csv"), "wb") as file:
+            file.write(PEOPLE.encode() + b"101,200,1,0-15,E1\n102,100,1,65+," + value + b"\n")
+        said = f"people.csv, record 2: AREA has no category {shown}\n"
+        runs.run(words, "fault people 4 UnknownCode 2\n", said, 5)
+    words[4] = "/dev/stdin"
+    said = "/dev/stdin, record 1: each variable's field must be one of the variable's codes\n"
+    runs.run(words, "fault people 4 UnknownCode 1\n", said, 5, sent=PEOPLE.encode() + b"101,200,1,0-15,E3\n")
 
 
 def first_looks(runs):
@@ -537,6 +650,9 @@ def main():
         hosts(runs)
         limits(runs)
         others(runs)
+        tables(runs)
+        askers(runs)
+        values(runs)
         first_looks(runs)
     if runs.passed:
         print(f"{runs.passed} refusals were passed over: files of a million records, and want of memory")

@@ -137,8 +137,8 @@ fn columns(file: ClassFile) -> &'static str {
     }
 }
 
-// The column with a name that is spelled by the rules.
-fn column_of_names(file: ClassFile) -> &'static str {
+/// The column with a name that is spelled by the rules.
+pub fn column_of_names(file: ClassFile) -> &'static str {
     match file {
         ClassFile::Classes => "variable",
         ClassFile::Recodes => "recode",

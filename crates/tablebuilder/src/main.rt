@@ -7,22 +7,32 @@
 //!
 //! Begin at `run` below. `LastLine` keeps the last line of a run that was refused, and under `keep`
 //! writes each `published` out at once; `refusals` says in words what that line means, `kinds` what
-//! a record at fault must be, and `usage` what is wrong with arguments.
+//! a record at fault must be, `values` which value it is, and `usage` what is wrong with arguments.
+//! `ToldFiles` tells what is missing in a perturbation table, the sum of a server's setup, and what
+//! stands oddly in a script.
 #![tactic(auto)]
 
+mod inputs;
 mod kinds;
 mod last_line;
+mod pairs;
 mod ports;
 mod refusals;
+mod rows;
+mod script_notes;
+mod setup_sum;
+mod told_files;
 mod unbuffered;
 mod usage;
+mod values;
 mod version;
 
 ghost use Rattle.std.specs.Prelude.{◌≡◌, ◌<◌};
 
+use inputs::task_of;
 use last_line::LastLine;
 use refusals::{Ending, Refusal};
-use std::alloc::AllocError;
+use std::alloc::{AllocError, Global};
 use std::fs::File;
 use std::io::ErrorKind;
 use std::marker::Brand;
@@ -35,12 +45,14 @@ use std::thread::Threads;
 use std::time::Clock;
 use std::{env, io};
 use tb_base::{Status, Steps};
-use tb_command::Arguments;
+use tb_command::{Arguments, Task};
 use tb_endings::{End, end_by};
-use tb_io::{RealFiles, RealSink, Wrote};
+use tb_io::{RealSink, Wrote};
 use tb_real_disk::RealDisk;
 use tb_top::tablebuilder;
+use told_files::ToldFiles;
 use unbuffered::Unbuffered;
+use values::tell_value;
 
 // The arguments after the program's name.
 fn arguments<R: Env + AllocGlobal>(rt: &R) -> io::Result<Vec<String>> {
@@ -61,8 +73,8 @@ fn end_of(fault: &io::Error) -> End {
     }
 }
 
-// Runs the command of these arguments over the system's files, listeners and disk, writing into
-// `out`, with a counter of its own.
+// Runs the command of these arguments over these files, and the system's listeners and disk, writing
+// into `out`, with a counter of its own.
 // The type of a folder is named, since the disk goes to the custodian's thread: what a bound alone
 // says of a type holds of this thread.
 fn run_words<
@@ -76,7 +88,13 @@ fn run_words<
         + Clock
         + Sync,
     L: Ledger,
->(rt: &R, arguments: &Arguments<'_>, out: &mut LastLine<'_, R>, blank: Blank) -> Status
+>(
+    rt: &R,
+    arguments: &Arguments<'_>,
+    files: &mut ToldFiles<'_, '_, '_, R>,
+    out: &mut LastLine<'_, R>,
+    blank: Blank,
+) -> Status
     requires name { blank.name ≡ L.name }
     requires parts { blank.parts ≡ L.parts }
     requires some { 0 < L.parts }
@@ -89,7 +107,7 @@ fn run_words<
         rt,
         rt.alloc(),
         arguments,
-        &mut RealFiles::new(rt),
+        files,
         out,
         &mut net,
         &mut RealDisk::new(rt),
@@ -97,12 +115,41 @@ fn run_words<
     )
 }
 
+// The task of these arguments, if they ask for one.
+fn task_in<'c, 'a>(arguments: Option<&'c Arguments<'a>>) -> Option<&'c Task<'a>> {
+    task_of(arguments?.command()?)
+}
+
+// Tells the value at fault, where a record's is what a run of these arguments was refused for, and
+// returns whether it could.
+fn tell_record<R: FileSystem<File = File> + Eprint>(
+    rt: &R,
+    alloc: Global,
+    arguments: Option<&Arguments<'_>>,
+    refusal: &Refusal<'_>,
+) -> bool {
+    let Some(task) = task_in(arguments) else {
+        return false;
+    };
+    match refusal.record() {
+        Some((kind, place)) => tell_value(rt, alloc, task, kind, place),
+        None => false,
+    }
+}
+
 // Says in words why a run of these arguments ended so, for whoever reads the standard error. There
 // are none where they couldn't be read.
-fn explain(rt: &impl Eprint, arguments: Option<&Arguments<'_>>, ending: &Ending<'_>) {
+fn explain<R: FileSystem<File = File> + Eprint>(
+    rt: &R,
+    alloc: Global,
+    arguments: Option<&Arguments<'_>>,
+    ending: &Ending<'_>,
+) {
     if let Some(refusal) = Refusal::of(arguments, ending) {
-        // Where that can't be written nothing can be said of it either.
-        let _ = rt.eprintln(refusal);
+        if !tell_record(rt, alloc, arguments, &refusal) {
+            // Where that can't be written nothing can be said of it either.
+            let _ = rt.eprintln(refusal);
+        }
     }
 }
 
@@ -116,7 +163,7 @@ fn keeps(arguments: &Arguments<'_>) -> bool {
 }
 
 // Writes out what waits and explains how the run of these arguments ended, which is returned.
-fn finish<R: Print + Eprint>(
+fn finish<R: FileSystem<File = File> + Print + Eprint + AllocGlobal>(
     rt: &R,
     arguments: Option<&Arguments<'_>>,
     status: Status,
@@ -131,7 +178,33 @@ fn finish<R: Print + Eprint>(
         line: out.text(),
         reported: out.has_report(),
     };
-    explain(rt, arguments, &ending);
+    explain(rt, rt.alloc(), arguments, &ending);
+    status
+}
+
+// Whether a run with this status may have read a script whose lines are told of.
+fn has_lines(status: Status) -> bool {
+    matches!(status, Status::Done | Status::Script)
+}
+
+// Runs the command of these arguments over the system, and tells how that ended.
+fn run_given<
+    R: FileSystem<File = File, Dir = <HostRuntime as FileSystem>::Dir>
+        + Print
+        + Eprint
+        + AllocGlobal
+        + Threads
+        + Wait
+        + Net<Listener = TcpListener, Stream = TcpStream>
+        + Clock
+        + Sync,
+>(rt: &R, given: &Arguments<'_>, out: &mut LastLine<'_, R>) -> Status {
+    let mut files = ToldFiles::new(rt, given.command());
+    let status = run_words::<R, Brand>(rt, given, &mut files, out, Blank::new(1));
+    let status = finish(rt, Some(given), status, out);
+    if has_lines(status) {
+        files.tell_notes();
+    }
     status
 }
 
@@ -155,7 +228,7 @@ fn run<
             line: None,
             reported: false,
         };
-        explain(rt, None, &ending);
+        explain(rt, rt.alloc(), None, &ending);
         return status;
     };
     let mut out = LastLine::new(out);
@@ -165,8 +238,7 @@ fn run<
             if keeps(&given) {
                 out.acknowledge_at_once();
             }
-            let status = run_words::<R, Brand>(rt, &given, &mut out, Blank::new(1));
-            finish(rt, Some(&given), status, &mut out)
+            run_given(rt, &given, &mut out)
         }
         Err(fault) => {
             let status = end_by(&end_of(&fault), &mut out);

@@ -1,9 +1,11 @@
 // A refusal in words, for whoever reads the standard error.
 
+use crate::inputs::{input_named, name_of, task_of};
 use crate::kinds::Kind;
 use crate::usage::{BadArgument, Usage};
+use crate::values::Place;
 use tb_base::{Status, read_number};
-use tb_command::{Arguments, Command, Layout, Lines, Service, Task};
+use tb_command::{Arguments, Command, Layout, Service};
 use tb_endings::Input;
 use tb_schema::MOST_UNSTATED;
 use tb_top::{LARGE_BYTES, most_bytes_of};
@@ -66,16 +68,9 @@ pub enum Refusal<'a> {
         file: &'a str,
         at: u32,
     },
-    #[error("{file}: the file must be there or its folder, this user must be allowed to read and \
-        write it, no other process may have it, and the disk must take what is written")]
-    Disk {
-        file: &'a str,
-    },
-    #[error("{file}: the file must be there or its folder, this user must be allowed to read and \
-        write it, no other process may have it, and the disk must take what is written, and memory \
-        suffice behind it; each `publish` after such a fault was answered `unkept`, so start anew \
-        from the file")]
-    HostDisk {
+    #[error("{file}: nothing was kept any more after a fault of the disk or of memory; each \
+        `publish` since then was answered `unkept`, so start anew from the file")]
+    Unkept {
         file: &'a str,
     },
     #[error("the standard output must take what is written")]
@@ -113,55 +108,6 @@ pub struct Ending<'a> {
     pub reported: bool,
 }
 
-// The file of this name in a last line.
-fn input_named(word: &str) -> Option<Input> {
-    let inputs = [
-        Input::Classes,
-        Input::Recodes,
-        Input::Ptable,
-        Input::People,
-        Input::Dwellings,
-        Input::Links,
-        Input::Script,
-    ];
-    for input in inputs {
-        if input.name() == word {
-            return Some(input);
-        }
-    }
-    None
-}
-
-// The task of a command over files, unless it reads none.
-fn task_of<'c, 'a>(command: &'c Command<'a>) -> Option<&'c Task<'a>> {
-    match command {
-        Command::Over(task) => Some(task),
-        Command::Gen(_) => None,
-    }
-}
-
-// The name of the script, where lines come from one.
-fn script_of<'a>(lines: &Lines<'a>) -> Option<&'a str> {
-    match lines {
-        Lines::Script(name) | Lines::Lanes(name) => Some(name.as_str()),
-        Lines::Ports(_) => None,
-    }
-}
-
-// The name that the arguments give a file.
-fn name_of<'a>(command: &Command<'a>, file: Input) -> Option<&'a str> {
-    let task = task_of(command)?;
-    match file {
-        Input::Classes => Some(task.inputs.classes.as_str()),
-        Input::Recodes => Some(task.inputs.recodes.as_ref()?.as_str()),
-        Input::Ptable => Some(task.inputs.ptable.as_str()),
-        Input::People => Some(task.inputs.people.as_str()),
-        Input::Dwellings => Some(task.units.as_ref()?.dwellings.as_str()),
-        Input::Links => Some(task.units.as_ref()?.links.as_str()),
-        Input::Script => script_of(&task.lines),
-    }
-}
-
 // The name that the arguments give the journal's file.
 fn journal_of<'a>(command: &Command<'a>) -> Option<&'a str> {
     Some(command.journal()?.as_str())
@@ -193,11 +139,11 @@ fn of_file<'a>(command: &Command<'a>, line: &str) -> Option<Refusal<'a>> {
     let first = words.next()?;
     let second = words.next()?;
     if first == "read" {
-        let file = name_of(command, input_named(second)?)?;
+        let file = name_of(task_of(command)?, input_named(second)?)?;
         return Some(Refusal::Unread { file });
     }
     let input = input_named(first)?;
-    let file = name_of(command, input)?;
+    let file = name_of(task_of(command)?, input)?;
     if second == "TooLong" {
         return Some(too_long(input, file));
     }
@@ -245,13 +191,14 @@ fn of_net<'a>(service: &Service, reported: bool) -> Refusal<'a> {
     }
 }
 
-// What a fault of the journal's disk says: of a service, or of a script.
-fn of_disk<'a>(command: &Command<'a>) -> Option<Refusal<'a>> {
-    let file = journal_of(command)?;
-    match command.service() {
-        Some(_) => Some(Refusal::HostDisk { file }),
-        None => Some(Refusal::Disk { file }),
+// What a fault of the journal's disk says of a service that has served. Before that the disk says it
+// alone.
+fn of_disk<'a>(command: &Command<'a>, reported: bool) -> Option<Refusal<'a>> {
+    if !reported {
+        return None;
     }
+    let file = journal_of(command)?;
+    Some(Refusal::Unkept { file })
 }
 
 impl<'a> Refusal<'a> {
@@ -272,6 +219,20 @@ impl<'a> Refusal<'a> {
         };
         of_status(command, ending)
     }
+
+    /// The record for which a file is refused, and the kind of its fault.
+    pub fn record(&self) -> Option<(Kind, Place<'a>)> {
+        match self {
+            Refusal::Record { file, kind, at } => Some((
+                *kind,
+                Place {
+                    file: *file,
+                    at: *at,
+                },
+            )),
+            _ => None,
+        }
+    }
 }
 
 // Why a run of this command, of which there is none where the arguments couldn't be read, ended so.
@@ -282,7 +243,7 @@ fn of_status<'a>(command: Option<&Command<'a>>, ending: &Ending<'_>) -> Option<R
         Status::Memory => Some(Refusal::Memory),
         Status::NetFault => Some(of_net(command?.service()?, ending.reported)),
         Status::Journal => of_journal(command?, ending.line?),
-        Status::DiskFault => of_disk(command?),
+        Status::DiskFault => of_disk(command?, ending.reported),
         Status::Schema
         | Status::Perturbation
         | Status::Microdata

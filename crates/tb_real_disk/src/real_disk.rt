@@ -10,6 +10,9 @@ use std::os::unix::fs::FileExt;
 use std::rt::Files as FileSystem;
 use tb_disk::{Disk, Done, Size};
 
+// How the file is called once it is attached.
+const ATTACHED: &str = "the journal's file";
+
 /// A file of the system, which one process at a time has attached, by a lock on it.
 ///
 /// It tells nothing of its bytes. Each error of the system counts one fault, up to the count's last
@@ -34,14 +37,14 @@ impl<'a, R: FileSystem + Eprint> RealDisk<'a, R> {
         }
     }
 
-    // Counts a fault, and tells it.
-    fn count<E: Display>(&mut self, e: &E)
+    // Counts a fault, and tells it of this file.
+    fn count<E: Display>(&mut self, file: &str, e: &E)
         ensures count { self.old.faults ≤ self.new.faults }
         ensures risen { HasRisen self.old.faults self.new.faults }
         ensures file { self.new.file ≡ self.old.file }
     {
         self.faults = self.faults.saturating_add(1);
-        let _ = eprintln!(self.rt; "the journal's file: {e}");
+        let _ = eprintln!(self.rt; "{file}: {e}");
     }
 
     // How a call ended.
@@ -53,7 +56,7 @@ impl<'a, R: FileSystem + Eprint> RealDisk<'a, R> {
         match outcome {
             Ok(()) => Done::All,
             Err(e) => {
-                self.count(&e);
+                self.count(ATTACHED, &e);
                 Done::Failed
             }
         }
@@ -89,7 +92,7 @@ impl<'a, R: FileSystem<File = File> + Eprint> Disk for RealDisk<'a, R> {
     ghost only_now = { λ disk image left. left };
 
     /// Opens the file and locks it. A file that another process has attached, a folder, a pipe, and
-    /// a file that may not be written are faults.
+    /// a file that may not be written are faults, which are told by the file's name.
     fn attach(&mut self, name: &str) -> Done {
         match open_locked(self.rt, name) {
             Ok(file) => {
@@ -97,7 +100,7 @@ impl<'a, R: FileSystem<File = File> + Eprint> Disk for RealDisk<'a, R> {
                 Done::All
             }
             Err(e) => {
-                self.count(&e);
+                self.count(name, &e);
                 Done::Failed
             }
         }
@@ -110,7 +113,7 @@ impl<'a, R: FileSystem<File = File> + Eprint> Disk for RealDisk<'a, R> {
         match file.metadata() {
             Ok(metadata) => Size::Is(metadata.len()),
             Err(e) => {
-                self.count(&e);
+                self.count(ATTACHED, &e);
                 Size::Failed
             }
         }

@@ -3,6 +3,7 @@
 ghost use Rattle.std.specs.Prelude.{◌≡◌, true, None};
 
 use crate::RealDisk;
+use crate::opening::open_locked;
 use std::path::AsPath;
 use std::test::Fail;
 use std::{env, fs, process};
@@ -23,6 +24,14 @@ fn has<D: Disk>(disk: &mut D, want: &[u8], buf: &mut [u8]) -> bool
     }
 }
 
+// Whether the file of a name can't be attached, and this is why.
+fn is_refused(rt: &HostRuntime, name: &str, why: &str) -> Result<bool, Fail> {
+    match open_locked(rt, name) {
+        Ok(_) => Ok(false),
+        Err(e) => Ok(format!(in rt.alloc(); "{e}")?.as_str() == why),
+    }
+}
+
 #[test]
 fn what_is_written_is_read_again(rt: HostRuntime) -> Result<(), Fail> {
     let place = env::temp_dir(&rt)?;
@@ -39,6 +48,7 @@ fn what_is_written_is_read_again(rt: HostRuntime) -> Result<(), Fail> {
         // The file is locked.
         let mut other = RealDisk::new(&rt);
         assert!(rt; other.attach(name.as_str()) == Done::Failed);
+        assert!(rt; is_refused(&rt, name.as_str(), "another process has it")?);
     }
     let mut again = RealDisk::new(&rt);
     assert!(rt; again.attach(name.as_str()) == Done::All);
@@ -55,5 +65,9 @@ fn what_is_no_file_is_not_attached(rt: HostRuntime) -> Result<(), Fail> {
         let mut disk = RealDisk::new(&rt);
         assert!(rt; disk.attach(name) == Done::Failed, "{name}");
     }
+    let no_file = "it must be a file, and no folder, pipe or device";
+    assert!(rt; is_refused(&rt, "/", no_file)?);
+    assert!(rt; is_refused(&rt, "/dev/null", no_file)?);
+    assert!(rt; is_refused(&rt, "/no/such/folder/journal", "its folder must be there")?);
     Ok(())
 }

@@ -1,4 +1,4 @@
-use Rattle.tablebuilder.proofs.run.Given as goal
+use Rattle.tablebuilder.proofs.run_given.Given as goal
 
 -- the ledger of the blank
 abbrev pub ghosts-run_words : goal.ghosts-run_words
