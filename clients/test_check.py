@@ -118,7 +118,7 @@ FAULTS = [
      " 255 (BadKey), 3 records: `256` 2 times, first in line 3; `-1` in line 5", "3 BadKey 2"),
     ("people", PEOPLE + "1,0,1\n2,0,3\n3,0,\n4,0,3\n5,0,7\n6,0,8\n", "SEX isn't one of its codes"
      " (UnknownCode), 5 records: `3` 2 times, first in line 3; `` in line 4; `7` in line 6; 1"
-     " others", "4 UnknownCode 2"),
+     " more", "4 UnknownCode 2"),
     ("people", PEOPLE + "1,0,1\n2,0,1\n01,0,1\n", "an earlier record has the same person"
      " (PersonTwice), 1 record: `01` in line 4", "5 PersonTwice 3"),
 ]
@@ -313,7 +313,7 @@ class Warnings(Files):
         lines, status = self.check(threshold=2)
         # Of row 2 half of the 256 keys add 0, and its count is printed; of row 1 none is.
         self.assertEqual((lines, status), ([
-            "classes.csv: 1 variables, 2 categories, the key range 256, at most 1,000,000 persons",
+            "classes.csv: variables 1, categories 2, key range 256, limit of persons 1,000,000",
             "recodes.csv: 2 records",
             "ptable.csv: 512 pairs; these persons can meet the rows 1 to 2",
             "  rows            mean  variance  largest move  keys that add 0",
