@@ -254,8 +254,8 @@ def facts(census: Census, rows: Rows, keys: Keys) -> Iterator[str]:
     categories = sum(map(len, census.variables.values()))
     if census.classes.is_read:
         yield (
-            f"{census.classes.path}: {len(census.variables)} variables, {categories:,} categories,"
-            f" the key range {census.keys}, at most {census.limit:,} persons"
+            f"{census.classes.path}: variables {len(census.variables)}, categories {categories:,},"
+            f" key range {census.keys}, limit of persons {census.limit:,}"
         )
     if census.recodes is not None and census.recodes.is_read:
         yield f"{census.recodes.path}: {census.recodes.records:,} records"

@@ -10,7 +10,7 @@ from array import array
 from collections import Counter
 from dataclasses import dataclass, field
 from operator import add
-from typing import Iterable, Optional, Sequence
+from typing import Optional, Sequence
 
 from check_files import MOST_BYTES, MOST_BYTES_OF_MANY, MOST_NUMBER, Block, File, Found, Place, Seen
 from check_files import blocks_of, few_numbers_of, number_of, numbers_of, shown, signed_of, some_of
@@ -130,7 +130,12 @@ class Census:
         self.pvalues, self.listed = array("h", bytes(2 * pairs)), bytearray(pairs)
         reads = PtableReader(self.ptable, self.keys)
         for block in blocks_of(self.ptable, ("pcv", "ckey", "pvalue")):
-            for pair, pvalue in reads.pairs_of(block):
+            numbers, pvalues = reads.pairs_of(block)
+            if numbers and numbers == list(range(numbers[0], numbers[0] + len(numbers))):
+                own = slice(numbers[0], numbers[0] + len(numbers))
+                self.pvalues[own], self.listed[own] = array("h", pvalues), b"\1" * len(numbers)
+                continue
+            for pair, pvalue in zip(numbers, pvalues):
                 self.pvalues[pair], self.listed[pair] = pvalue, 1
 
     def read_people(self) -> None:
@@ -270,10 +275,10 @@ class PtableReader:
         self.file, self.keys = file, keys
         self.seen = Seen()
 
-    def pairs_of(self, block: Block) -> Iterable[tuple[int, int]]:
-        """The pairs of a block, each as one number, with their pvalues, but for those at fault."""
+    def pairs_of(self, block: Block) -> tuple[list[int], list[int]]:
+        """The pairs of a block, each as one number, and their pvalues, but for those at fault."""
         if len(block.columns) < 3:
-            return ()
+            return [], []
         rows = few_numbers_of(block.columns["pcv"])
         keys = few_numbers_of(block.columns["ckey"])
         pvalues = few_numbers_of(block.columns["pvalue"], signed_of)
@@ -281,13 +286,13 @@ class PtableReader:
         if not self._is_clean(rows, keys, pvalues):
             at = [i for i in at if self._check(block, i, rows[i], keys[i], pvalues[i])]
             rows, keys, pvalues = ([it[i] for i in at] for it in (rows, keys, pvalues))
-        pairs = [row * self.keys + key for row, key in zip(rows, keys)]  # type: ignore[operator]
+        pairs = list(map(add, map(self.keys.__mul__, rows), keys))  # type: ignore[arg-type]
         again = self.seen.again(pairs)
         if again:
             values = [f"{pairs[i] // self.keys},{pairs[i] % self.keys}" for i in again]
             why = "an earlier record has the same pcv and ckey"
             block.fault(self.file, "PairTwice", "pcv", why, [at[i] for i in again], values)
-        return zip(pairs, pvalues)  # type: ignore[arg-type]
+        return pairs, pvalues  # type: ignore[return-value]
 
     def _is_clean(
         self, rows: Sequence[Optional[int]], keys: Sequence[Optional[int]],

@@ -160,7 +160,7 @@ def told(kind: str, found: Found) -> str:
         times = f" {of.times:,} times, first in" if of.times > 1 else " in"
         values.append(f"`{shown(value)}`{times} line {of.line:,}")
     if found.others:
-        values.append(f"{found.others:,} others")
+        values.append(f"{found.others:,} more")
     return f"{found.why} ({kind}), {count}: {'; '.join(values)}"
 
 

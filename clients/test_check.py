@@ -104,8 +104,8 @@ FAULTS = [
      " `1001` in line 2", "3 OutOfRange 1"),
     ("ptable", PTABLE + "3,10,-4\n3,11,-3\n", "pcv + pvalue is below 0 (Negative), 1 record:"
      " `3,10,-4` in line 2", "4 Negative 1"),
-    ("ptable", PTABLE + "0,0,0\n0,1,1\n", "pcv is 0 and pvalue isn't (ZeroRow), 1 record: `0,1,1` in"
-     " line 3", "6 ZeroRow 2"),
+    ("ptable", PTABLE + "0,0,0\n0,1,1\n", "pcv is 0 and pvalue isn't (ZeroRow), 1 record: `0,1,1`"
+     " in line 3", "6 ZeroRow 2"),
     ("ptable", PTABLE + "1,7,1\n01,07,1\n", "an earlier record has the same pcv and ckey"
      " (PairTwice), 1 record: `1,7` in line 3", "5 PairTwice 2"),
     ("people", "person,SEX\n", "the header lacks record_key (BadHeader)", "1 BadHeader 0"),
@@ -118,7 +118,7 @@ FAULTS = [
      " 255 (BadKey), 3 records: `256` 2 times, first in line 3; `-1` in line 5", "3 BadKey 2"),
     ("people", PEOPLE + "1,0,1\n2,0,3\n3,0,\n4,0,3\n5,0,7\n6,0,8\n", "SEX isn't one of its codes"
      " (UnknownCode), 5 records: `3` 2 times, first in line 3; `` in line 4; `7` in line 6; 1"
-     " others", "4 UnknownCode 2"),
+     " more", "4 UnknownCode 2"),
     ("people", PEOPLE + "1,0,1\n2,0,1\n01,0,1\n", "an earlier record has the same person"
      " (PersonTwice), 1 record: `01` in line 4", "5 PersonTwice 3"),
 ]
@@ -185,11 +185,12 @@ class Faults(Files):
         self.assertEqual(faults, [
             "recodes.csv: S has no group for 1 of the 2 codes of SEX: 2 (CodeMissing)",
             "ptable.csv: ckey isn't from 0 to 255 (OutOfRange), 1 record: `400` in line 515",
-            "ptable.csv: an earlier record has the same pcv and ckey (PairTwice), 1 record: `1,1` in"
-            " line 514",
+            "ptable.csv: an earlier record has the same pcv and ckey (PairTwice), 1 record: `1,1`"
+            " in line 514",
             "people.csv: person isn't a number from 1 to 4294967295 (BadPerson), 1 record: `x` in"
             " line 3",
-            "people.csv: record_key isn't a number from 0 to 255 (BadKey), 1 record: `300` in line 2",
+            "people.csv: record_key isn't a number from 0 to 255 (BadKey), 1 record: `300` in line"
+            " 2",
             "people.csv: SEX isn't one of its codes (UnknownCode), 1 record: `9` in line 2",
         ])
         self.assertEqual(last, "the program refuses these files: fault recodes 8 CodeMissing 1")
@@ -244,8 +245,8 @@ class Faults(Files):
         self.put("people", PEOPLE + "1,4095,1\n2,4096,1\n")
         self.assertEqual(self.faults()[0], [
             "ptable.csv: ckey isn't from 0 to 4095 (OutOfRange), 1 record: `4096` in line 515",
-            "people.csv: record_key isn't a number from 0 to 4095 (BadKey), 1 record: `4096` in line"
-            " 3",
+            "people.csv: record_key isn't a number from 0 to 4095 (BadKey), 1 record: `4096` in"
+            " line 3",
         ])
 
     def test_files_that_were_given_in_another_order(self):
@@ -312,12 +313,13 @@ class Warnings(Files):
         lines, status = self.check(threshold=2)
         # Of row 2 half of the 256 keys add 0, and its count is printed; of row 1 none is.
         self.assertEqual((lines, status), ([
-            "classes.csv: 1 variables, 2 categories, the key range 256, at most 1,000,000 persons",
+            "classes.csv: variables 1, categories 2, key range 256, limit of persons 1,000,000",
             "recodes.csv: 2 records",
             "ptable.csv: 512 pairs; these persons can meet the rows 1 to 2",
             "  rows            mean  variance  largest move  keys that add 0",
             "  1 to 2         0.000     0.500             1              128",
-            "  with the threshold 2, 128 of the 512 pairs of these rows (25.0 %) show the true count",
+            "  with the threshold 2, 128 of the 512 pairs of these rows (25.0 %) show the true"
+            " count",
             "people.csv: 2 persons",
             "  2 persons are too few to tell whether their record keys are spread evenly",
             "no fault; warnings: 0",
@@ -524,7 +526,8 @@ class LinesOfThePages(unittest.TestCase):
 
 # What stands in place of bytes of the files of examples/small, or is put among them.
 PIECES = [
-    b"", b",", b"\n", b"\r\n", b"\n\n", b'"', b'""', b"0", b"00", b"-", b"-1", b"256", b"1000", b"1",
+    b"", b",", b"\n", b"\r\n", b"\n\n", b'"', b'""', b"0", b"00", b"-", b"-1", b"256", b"1000",
+    b"1",
     b"Total", b"E1", b"SEX", b"AGE", b"*", b"*,keys,256\n", b"*,persons,3\n", b" ", b"\xff", b"\0",
     b"\xef\xbb\xbf", b"\r", b"person", b"751", b"4294967296", b"101",
 ]

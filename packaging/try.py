@@ -89,7 +89,8 @@ def try_commands(tried, at):
     status, text = run(f"{at.prefix}/bin/tablebuilder-check", *files, 0, cwd=at.small)
     is_right = status == 0 and text.endswith("\nno fault; warnings: 0\n")
     tried.check("tablebuilder-check", is_right, text)
-    status, text = run(f"{at.prefix}/bin/tablebuilder-keys", "people.csv", "/dev/null", cwd=at.small)
+    command = f"{at.prefix}/bin/tablebuilder-keys"
+    status, text = run(command, "people.csv", "/dev/null", cwd=at.small)
     tried.check("tablebuilder-keys", status == 1 and "record_key already" in text, text)
     status, text = run(f"{at.prefix}/bin/tablebuilder-journal", cwd="/")
     is_right = status == 2 and "CLASSES" in text and "Traceback" not in text

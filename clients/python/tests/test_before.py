@@ -86,7 +86,8 @@ class Ptable(WithFolder):
             ([{"i": 1, "j": 1}], "the table has no column p_int_lb, p_int_ub"),
             ([*good, interval("x", 1, 0, 1)], "a field is no number"),
             ([*good, interval(float("nan"), 1, 0, 1)], "a field is no number"),
-            ([*good, interval(3, 3.5, 0, 1)], "a count i, or what it becomes, j, is no whole number"),
+            ([*good, interval(3, 3.5, 0, 1)],
+             "a count i, or what it becomes, j, is no whole number"),
             ([*good, interval(3, -1, 0, 1)], "a count i, or what it becomes, j, is below 0"),
             ([*good, interval(0, 1, 0, 1)],
              "the count 0 is perturbed, and the program perturbs no empty cell"),
@@ -108,7 +109,9 @@ class Ptable(WithFolder):
     def test_the_same_bytes_as_by_r(self):
         # Ends that aren't those of a cell key's interval, and some that are between two middles.
         rows = [(1, (0, 0.31, 0.74, 1)), (2, (0, 0.001953125, 0.6, 1)), (3, (0, 1 / 3, 2 / 3, 1))]
-        lines = [f"{i},{i - 1 + n},{ends[n]!r},{ends[n + 1]!r}" for i, ends in rows for n in range(3)]
+        lines = [
+            f"{i},{i - 1 + n},{ends[n]!r},{ends[n + 1]!r}" for i, ends in rows for n in range(3)
+        ]
         self.put("t.csv", "i,j,p_int_lb,p_int_ub\n0,0,0,1\n" + "\n".join(lines) + "\n")
         code = (
             "words <- commandArgs(TRUE); source(words[1]);"

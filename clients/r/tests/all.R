@@ -9,6 +9,8 @@ if (file.exists("R/tablebuilder.R")) {
   source("R/keys.R")
 } else {
   library(tablebuilder)
+  # (no user calls it, so it isn't exported)
+  tb_refuse <- utils::getFromNamespace("tb_refuse", "tablebuilder")
 }
 
 port_of <- function(server) as.integer(Sys.getenv(paste0("TABLEBUILDER_", server, "_PORT")))
