@@ -169,6 +169,38 @@ class Keys(WithFolder):
         self.assertEqual(str(caught.exception), f"{self.path('people.csv')}, {why}")
         self.assertFalse(os.path.exists(self.path("keyed.csv")))
 
+    def test_keys_that_stay(self):
+        self.put("people.csv", "SEX,person\n1,101\n2,102\n1,0103\n2,104\n")
+        self.put("before.csv", "person,record_key,SEX\n0102,255,2\n101,0,2\n")
+        self.put("left.csv", "person,record_key\n103,07\n")
+        earlier = [self.path("before.csv"), self.path("left.csv")]
+        self.assertEqual(add_keys(self.path("people.csv"), self.path("keyed.csv"), 256, earlier), 4)
+        rows = self.text("keyed.csv").splitlines()
+        self.assertEqual(rows[:4], ["SEX,person,record_key", "1,101,0", "2,102,255", "1,0103,7"])
+        self.assertRegex(rows[4], r"^2,104,\d{1,3}$")
+
+    def keep_keys(self):
+        add_keys(self.path("people.csv"), self.path("keyed.csv"), 256, [self.path("before.csv")])
+
+    def test_earlier_files_that_are_refused(self):
+        for text, why in [
+            ("person,key\n1,7\n", "record 1: it lacks person or record_key"),
+            ("person,record_key\n1,7\n2,256\n", "record 2: '256' is no key below 256"),
+            ("person,record_key\n1,7\n01,8\n", "record 2: person 01 has another key before"),
+        ]:
+            self.put("people.csv", "person,SEX\n1,1\n")
+            self.put("before.csv", text)
+            with self.assertRaises(ValueError) as caught:
+                self.keep_keys()
+            self.assertEqual(str(caught.exception), f"{self.path('before.csv')}, {why}")
+            self.assertFalse(os.path.exists(self.path("keyed.csv")))
+        self.put("before.csv", "person,record_key\n1,7\n")
+        self.put("people.csv", "id,SEX\n1,1\n")
+        with self.assertRaises(ValueError) as caught:
+            self.keep_keys()
+        why = "it lacks the column person"
+        self.assertEqual(str(caught.exception), f"{self.path('people.csv')}: {why}")
+
     def test_the_command(self):
         self.put("people.csv", "person,SEX\n1,1\n2,2\n")
         people, keyed = self.path("people.csv"), self.path("keyed.csv")
@@ -179,10 +211,16 @@ class Keys(WithFolder):
             self.assertEqual(main([people, keyed]), 1)
             self.assertEqual(main([people]), 2)
             self.assertEqual(main([people, "other", "512"]), 2)
-        self.assertEqual(out.getvalue(), f"{keyed}: 2 persons, each with a record key below 256\n")
+            self.put("more.csv", "person,SEX\n1,1\n2,2\n3,1\n")
+            more, again = self.path("more.csv"), self.path("again.csv")
+            self.assertEqual(main([more, again, keyed]), 0)
+        self.assertEqual(self.text("again.csv")[: len(before)], before)
+        told = "persons, each with a record key below 256\n"
+        self.assertEqual(out.getvalue(), f"{keyed}: 2 {told}{again}: 3 {told}")
         said = err.getvalue().split("\n")
         self.assertIn("File exists", said[0])
-        self.assertEqual(said[1:3], 2 * ["usage: tablebuilder-keys PEOPLE TO [256 | 4096]"])
+        usage = "usage: tablebuilder-keys PEOPLE TO [256 | 4096] [EARLIER ..]"
+        self.assertEqual(said[1:3], 2 * [usage])
         self.assertEqual(self.text("keyed.csv"), before)
 
 
