@@ -11,6 +11,8 @@ An analyst:
         for area, sex, count in table:
             print(table.release, area, sex, "hidden" if count is None else count)
 
+The same by the address of a server's page: `tablebuilder.connect("https://tables.example")`.
+
 The custodian, at the first port of the server:
 
     with tablebuilder.connect(4000) as session:
@@ -25,8 +27,9 @@ The package needs the standard library alone; `Table.frame` needs pandas. The co
 
 from tablebuilder.faults import Busy, CannotDescribe, Ended, Error, OlderRelease, OutOfMemory
 from tablebuilder.faults import Refused, Unexpected, Unkept
-from tablebuilder.session import Session, Stats, connect, forget_releases
+from tablebuilder.session import Session, Stats, forget_releases
 from tablebuilder.table import Category, Table, Variable, table_of
+from tablebuilder.web import connect
 
 __all__ = [
     "Busy",
