@@ -12,6 +12,7 @@ door, with their statuses and fields. A file of prepared tables has, for each re
 import http.server
 import json
 import os
+import queue
 import re
 import socket
 import sys
@@ -32,13 +33,16 @@ LONG = (b"release ", b"describe")
 
 
 class Lines:
-    """A voice over a session with a server of lines."""
+    """A voice over sessions with a server of lines, of which each line is asked by one that is free."""
+
+    SESSIONS = 4
 
     def __init__(self, port):
-        self._turn = threading.Lock()
-        connection = socket.create_connection(("127.0.0.1", port))
-        connection.setsockopt(socket.IPPROTO_TCP, socket.TCP_NODELAY, 1)
-        self._ends = connection.makefile("rb"), connection.makefile("wb")
+        self._free = queue.Queue()
+        for _ in range(self.SESSIONS):
+            connection = socket.create_connection(("127.0.0.1", port))
+            connection.setsockopt(socket.IPPROTO_TCP, socket.TCP_NODELAY, 1)
+            self._free.put((connection.makefile("rb"), connection.makefile("wb")))
 
     def ask(self, line):
         if not line.strip(b" \t\r") or line.startswith(b"#"):
@@ -46,13 +50,15 @@ class Lines:
         # The last word of a foreign line, and `quit`, would end the session; both are queries here.
         if line.split() == [b"quit"] or re.search(rb"[ \t]HTTP/1\.[01]\r?$", line):
             return b"refused 2 Syntax 1\n"
-        source, sink = self._ends
-        with self._turn:
+        source, sink = self._free.get()
+        try:
             sink.write(line + b"\n")
             sink.flush()
             reply = [source.readline()]
-            while reply[0].startswith(LONG) and reply[-1] != b".\n":
+            while reply[0].startswith(LONG) and reply[-1] not in (b".\n", b""):
                 reply.append(source.readline())
+        finally:
+            self._free.put((source, sink))
         return b"".join(reply)
 
     def release(self):

@@ -51,21 +51,29 @@
 
 #' Open a session.
 #'
-#' @param port,host Where the server listens, or what stands in front of it.
+#' @param port,host Where the server listens, or what stands in front of it; or in place of the port
+#'   the address of its page, as "https://tables.example", which has the host in it: then each line
+#'   is a request of its own (R/web.R).
 #' @param timeout For how many seconds to wait at each step of a reply. Where all workers have
 #'   clients this is the wait for one to go.
+#' @param auth The name and the password for what stands in front of a page.
 #' @return A session, for `tb_table` and the others. `tb_close` ends it.
-tb_connect <- function(port, host = "127.0.0.1", timeout = 86400) {
+tb_connect <- function(port, host = "127.0.0.1", timeout = 86400, auth = NULL) {
   session <- new.env(parent = emptyenv())
-  session$address <- paste0(host, ":", port)
   session$timeout <- timeout
   session$is_served <- FALSE
+  class(session) <- "tb_session"
+  if (is.character(port)) {
+    session$address <- port
+    session$connection <- tb_web_connection(port, timeout, auth)
+    return(session)
+  }
+  session$address <- paste0(host, ":", port)
   session$connection <- tryCatch(
     socketConnection(host, port, blocking = TRUE, open = "r+", timeout = timeout),
     error = function(fault) tb_fail("tb_ended", conditionMessage(fault)),
     warning = function(fault) tb_fail("tb_ended", conditionMessage(fault))
   )
-  class(session) <- "tb_session"
   session
 }
 
@@ -421,19 +429,18 @@ tb_exchange <- function(session, line) {
     tb_fail("tb_ended", conditionMessage(fault))
   }
   reply <- tryCatch(
-    {
-      writeLines(enc2utf8(line), session$connection, useBytes = TRUE)
-      tb_lines(session)
-    },
+    tb_lines(session, line),
     error = end, warning = end
   )
   is_whole <- TRUE
   reply
 }
 
-# The lines up to the end of a reply.
-tb_lines <- function(session) {
+# The lines of the reply to a line, up to its end.
+tb_lines <- function(session, line) {
   connection <- session$connection
+  if (inherits(connection, "tb_web")) return(tb_web_lines(connection, line))
+  writeLines(enc2utf8(line), connection, useBytes = TRUE)
   reply <- tb_line(connection)
   session$is_served <- TRUE
   # A table and a list go on, up to the line `.`.
