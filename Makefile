@@ -1,6 +1,6 @@
 .PHONY: help test prove gate-times plant try try-guide build demo serve guide quotes clients refusals pressure growths
 .PHONY: crash mirrors bench bench-serve bench-journal bench-mirrors bench-door bench-scale bench-peers bench-tools check-r dist deb
-.PHONY: try-dist analysis
+.PHONY: try-dist analysis web picture
 
 # `make help` prints each comment that begins with an audience in brackets, and the target below it. All
 # targets need the Rattle kit (`rt` on the path) unless they say otherwise; what else they need is said.
@@ -118,6 +118,19 @@ try-dist: dist deb
 # python3-redis, without which most of its tests are passed over, which is said. Some 40 seconds.
 clients: build
 	python3 clients/run.py crates/tablebuilder/out/tablebuilder examples/small
+
+# [test] The page for analysts, looked at by a browser that is installed by apt-get where it isn't there,
+# over tables counted by hand and then over those of the program of `make try`; the Python client over HTTP;
+# and packaging/haproxy-page.cfg where haproxy and openssl are there. Python 3 and curl; some two minutes.
+web: try
+	/usr/bin/python3 -B web/test_page.py out/try/*/program
+	cd clients/python && python3 -B -m unittest tests.test_web
+	python3 -B web/test_proxy.py
+
+# [look] The picture of the page in README.md, made anew over generated persons by the program of
+# `make try`. As `make web`, and some two minutes.
+picture: try
+	/usr/bin/python3 -B web/picture.py out/try/*/program docs/page.png
 
 # [test] The two analyses of docs/ANALYSIS.md over 20,000 generated persons, compared with the page; with
 # UPDATE=update the page and its drawings are written anew. As `make build`, Python 3 with pandas and

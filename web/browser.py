@@ -171,19 +171,20 @@ class PreparedOffice:
 
 
 class ProgramOffice:
-    """An office whose tables the program counts, over examples/small with its dwellings."""
+    """An office whose tables the program counts, over the files of a folder."""
 
     WORKERS = 8
 
-    def __init__(self, program):
+    def __init__(self, program, folder=SMALL, threshold="0", has_units=True, office=OFFICE):
         from serve import Server
 
         self._stack = contextlib.ExitStack()
-        folder = self._stack.enter_context(tempfile.TemporaryDirectory())
-        files = [os.path.join(SMALL, f"{name}.csv")
+        files = [os.path.join(folder, f"{name}.csv")
                  for name in ("classes", "recodes", "ptable", "people")]
-        units = [os.path.join(SMALL, f"{name}.csv") for name in ("dwellings", "links")]
-        words = [program, "host", *files, "0", *units, os.path.join(folder, "journal")]
+        units = [os.path.join(folder, f"{name}.csv") if has_units else "-"
+                 for name in ("dwellings", "links")]
+        folder = self._stack.enter_context(tempfile.TemporaryDirectory())
+        words = [program, "host", *files, threshold, *units, os.path.join(folder, "journal")]
         self._served = Server(words, folder, self.WORKERS, 100_000)
         self._stack.callback(self._served.process.wait)
         self._stack.callback(self._served.process.kill)
@@ -192,7 +193,7 @@ class ProgramOffice:
         self._custodian = socket.create_connection(("127.0.0.1", self._served.first))
         self._replies = self._custodian.makefile("rb")
         self._released = 0
-        self.server = Standin(0, Lines(self.door), OFFICE).begin()
+        self.server = Standin(0, Lines(self.door), office).begin()
         self.url = self.server.url
 
     def publish(self, edit=None):
