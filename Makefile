@@ -120,11 +120,11 @@ clients: build
 	python3 clients/run.py crates/tablebuilder/out/tablebuilder examples/small
 
 # [test] The page for analysts, looked at by a browser that is installed by apt-get where it isn't there,
-# over tables counted by hand and then over those of the program of `make try`; the Python client over HTTP;
-# and packaging/haproxy-page.cfg where haproxy and openssl are there. Python 3 and curl; some two minutes.
+# over tables counted by hand and then over those of the program of `make try`; the clients over HTTP; and
+# packaging/haproxy-page.cfg where haproxy and openssl are there. Python 3 and curl, and R for its client.
 web: try
 	/usr/bin/python3 -B web/test_page.py out/try/*/program
-	cd clients/python && python3 -B -m unittest tests.test_web
+	python3 -B web/test_clients.py
 	python3 -B web/test_proxy.py
 
 # [look] The picture of the page in README.md, made anew over generated persons by the program of

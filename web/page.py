@@ -2,13 +2,14 @@
 """Puts the page for analysts into a source of Rattle, as constants of bytes.
 
     page.py [--check] [FILE]
+    page.py --policy
 
 FILE is `crates/tb_web/src/page.rt` unless another one is named. The page is `page.html` beside this
 script. It has a place for the office's title and, behind that, one for its text, so there are three
 constants: what stands before the title, between the two, and behind the text. A fourth is the page's
 policy: a browser runs the script and takes the style whose sums stand in it, and no others, and asks
 nobody but the page's own server. With `--check` nothing is written, and the status is 1 where FILE
-isn't what would be.
+isn't what would be. `--policy` prints the policy.
 """
 
 import base64
@@ -91,6 +92,9 @@ def source_of(page):
 
 
 def main(arguments):
+    if arguments == ["--policy"]:
+        print(policy_of(read_page()).decode())
+        return 0
     is_check = arguments[:1] == ["--check"]
     path = (arguments[is_check:] or [SOURCE])[0]
     source = source_of(read_page())
