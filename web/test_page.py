@@ -109,7 +109,7 @@ def choose_a_table(checks, screen):
     checks.same("its cells", screen.table(), HEADS + CELLS)
     checks.same("totals are marked", screen.texts("#wide td.total"), ["2", "1", "1", "2", "6"])
     checks.same("release and line above it", screen.text("#under"),
-                f"Release 0 · 9 counts · {LINE}")
+                f"Release 0 · {LINE}")
     checks.shoot(screen, "2-table")
 
 
@@ -187,7 +187,8 @@ def take_it_away(checks, screen, office, downloads):
         screen.click("#copy")
         screen.wait(lambda: "cop" in screen.text("#status").lower())
         checks.same(f"copied as {kind}", screen.value("#copied"), text)
-    told = subprocess.run(copies["curl"], shell=True, stdout=subprocess.PIPE, timeout=PATIENCE)
+    told = subprocess.run(copies["curl"], shell=True, stdout=subprocess.PIPE,
+                          stderr=subprocess.DEVNULL, timeout=PATIENCE)
     if told.returncode != 127:
         checks.same("what curl gets", told.stdout.decode(), between(fetched(office.url, LINE)))
     screen.open(copies["link"])
@@ -369,7 +370,8 @@ def look_elsewhere(checks, screen):
             checks.true(f"contrast of {css} by {scheme}", ratio >= 4.5, f"{ratio:.1f}")
         checks.shoot(screen, f"9-{scheme}")
     screen.command("Emulation.setEmulatedMedia", features=[], media="print")
-    checks.true("the choices aren't printed", not screen.one("#form").is_displayed())
+    for css in ("#choices", "#form", "#tools", "#past"):
+        checks.true(f"{css} isn't printed", not screen.one(css).is_displayed())
     checks.true("the table is", screen.one("#wide table").is_displayed())
     checks.true("what the numbers are, too", screen.one("#about").is_displayed())
     pdf = base64.b64decode(screen.command("Page.printToPDF")["data"])
