@@ -92,7 +92,8 @@ class Screen:
 
     def texts(self, css):
         return self.run(
-            "return [...document.querySelectorAll(arguments[0])].map(it => it.innerText)", css)
+            "return [...document.querySelectorAll(arguments[0])].map(it => it.innerText.trim())",
+            css)
 
     def value(self, css):
         return self.one(css).get_attribute("value")

@@ -124,7 +124,7 @@ def look_at_it_otherwise(checks, screen):
     checks.shoot(screen, "3-heat")
     screen.click("[data-view=bars]")
     sizes = screen.run("return [...document.querySelectorAll('#wide td.n')].map(it =>"
-                       " it.style.backgroundSize.split(' ')[0])")
+                       " getComputedStyle(it).backgroundSize.split(' ')[0])")
     checks.same("bars by the counts", sizes, ["66%", "0%", "33%", "66%"])
     checks.same("numbers stay", screen.table()[1:], CELLS)
     checks.shoot(screen, "4-bars")
@@ -254,7 +254,7 @@ def write_lines(checks, screen):
     checks.same("choices follow a line", screen.texts("#rows li span"), ["SEX"])
     checks.same("its filter too", screen.text(".filter .help:last-child"), "1 of 2 ticked")
     screen.write("table SEX whe")
-    checks.true("a line that is none", "isn’t what is chosen" in screen.text("#linehelp"))
+    checks.true("a line that is none", "the choices aren’t its" in screen.text("#linehelp"))
     checks.same("a comment", screen.ask("# nothing"),
                 "A line of blanks, or one that begins with #, has no reply.")
     checks.same("a long line", screen.ask("table " + "x" * 5_000), "A line has at most 4,096 bytes.")
@@ -538,7 +538,7 @@ class Faulty(Wide):
     reply = None
 
     def ask(self, line):
-        if self.reply is None or not line.startswith(b"table"):
+        if self.reply is None or line.startswith(b"describe"):
             return super().ask(line)
         return self.reply.pop(0) if len(self.reply) > 1 else self.reply[0]
 
