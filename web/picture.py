@@ -31,7 +31,7 @@ WORK = {"school": "At school", "work": "In work", "seek": "Looking for work", "o
         "ret": "Retired"}
 GROUPS = [f"{n}-{n + 9}" for n in range(0, 80, 10)] + ["80+"]
 LINE, COLUMNS = "table REGION by AGE10 with totals", "AGE10"
-SIZE = (1_440, 960)
+SIZE = (1_360, 960)
 
 
 def class_lines():
@@ -88,6 +88,8 @@ def main(program, png):
         office = ProgramOffice(os.path.abspath(program), folder, THRESHOLD, False, OFFICE)
         try:
             with Screen(SIZE) as screen:
+                screen.command("Emulation.setDeviceMetricsOverride", width=SIZE[0], height=SIZE[1],
+                               deviceScaleFactor=1, mobile=False)
                 screen.open(office.url + f"/#line={LINE.replace(' ', '+')}&columns={COLUMNS}")
                 screen.wait(lambda: screen.all("#wide td"))
                 screen.click("[data-view=heat]")
