@@ -6,9 +6,9 @@
 
 FILE is `crates/tb_web/src/page.rt` unless another one is named. The page is `page.html` beside this
 script. It has a place for the office's title and, behind that, one for its text, so there are three
-constants: what stands before the title, between the two, and behind the text. A fourth is the page's
-policy: a browser runs the script and takes the style whose sums stand in it, and no others, and asks
-nobody but the page's own server. With `--check` nothing is written, and the status is 1 where FILE
+constants: what stands before the title, between the two, and behind the text. A fourth is the
+page's policy: a browser runs the script and takes the style whose sums stand in it, and no others,
+and asks nobody but the page's own server. With `--check` nothing is written, and the status is 1 where FILE
 isn't what would be. `--policy` prints the policy.
 """
 

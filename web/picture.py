@@ -20,8 +20,8 @@ from browser import ProgramOffice, Screen, install
 from make import KEYS, age_of, ptable_lines
 
 SEED, PERSONS, THRESHOLD = 78, 20_000, "5"
-OFFICE = ("Census of Aldland\nCounts of persons in private households, on the day of the census. By the"
-          " Statistical Office of Aldland; questions to tables@office.example.")
+OFFICE = ("Census of Aldland\nCounts of persons in private households, on the day of the census. By"
+          " the Statistical Office of Aldland; questions to tables@office.example.")
 REGIONS = ("Ashmoor", "Brackenfield", "Coldhaven", "Dunmere", "Eastvale", "Fairwater", "Greyfell",
            "Harrowby", "Inverlea", "Kingsport")
 SEXES = {"f": "Female", "m": "Male"}

@@ -1,5 +1,5 @@
 #!/usr/bin/env python3
-"""A stand-in for the door of the web, to try the page and the clients with. Nothing of it is proved.
+"""A stand-in for the door of the web, to try the page and the clients with. It is unproved.
 
     standin.py WEB_PORT LINE_PORT [OFFICE]    over a server of lines at 127.0.0.1:LINE_PORT
     standin.py WEB_PORT TABLES [OFFICE]       over a file of prepared tables (prepared.txt)
@@ -33,7 +33,7 @@ LONG = (b"release ", b"describe")
 
 
 class Lines:
-    """A voice over sessions with a server of lines, of which each line is asked by one that is free."""
+    """A voice over sessions with a server of lines: each line is asked by one that is free."""
 
     SESSIONS = 4
 

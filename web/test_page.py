@@ -10,11 +10,12 @@ of the screen. The last line says how many actions there were and how many of th
 status is 1 where any did.
 """
 
+import ast
 import base64
 import hashlib
 import html.parser
-import json
 import os
+import re
 import subprocess
 import sys
 import tempfile
@@ -201,7 +202,8 @@ def filter_and_search(checks, screen):
     screen.click("#clear")
     checks.same("all is cleared", screen.value("#line"), "")
     screen.type("#find", "rural")
-    checks.same("found by a label", screen.texts("#names .name"), ["AREA\n2 categories: North, rural"])
+    checks.same("found by a label", screen.texts("#names .name"),
+                ["AREA\n2 categories: North, rural"])
     screen.type("#find", "zzz")
     checks.same("nothing is found", screen.text("#found"), "0 of 4 have “zzz”")
     screen.type("#find", "ag")
@@ -257,7 +259,8 @@ def write_lines(checks, screen):
     checks.true("a line that is none", "the choices aren’t its" in screen.text("#linehelp"))
     checks.same("a comment", screen.ask("# nothing"),
                 "A line of blanks, or one that begins with #, has no reply.")
-    checks.same("a long line", screen.ask("table " + "x" * 5_000), "A line has at most 4,096 bytes.")
+    checks.same("a long line", screen.ask("table " + "x" * 5_000),
+                "A line has at most 4,096 bytes.")
     checks.same("what may be asked", screen.ask("describe AREA"), "2 lines.")
     checks.same("its lines", screen.table(),
                 [["code", "label"], ["E1", "North, rural"], ["E2", "South"]])
@@ -605,7 +608,7 @@ def publish_meanwhile(checks, office, begin):
         for number in range(releases):
             before = [len(seen[it]) for it in (one, other)]
             office.publish("threshold 0" if number % 2 else "threshold 1")
-            # (the next one once both have asked on, so that they see more than the first and the last)
+            # (the next one once both have asked on, so that they see some between, too)
             one.wait(lambda: all(len(seen[it]) > had for it, had in zip((one, other), before)))
         for thread in threads:
             thread.join()
@@ -613,6 +616,28 @@ def publish_meanwhile(checks, office, begin):
         checks.same("each table is as new as the one before", numbers, sorted(numbers))
         checks.true("several releases were seen", len(set(numbers)) > 2, f"{sorted(set(numbers))}")
         checks.same("the last one", numbers[-1], last)
+
+
+def put_into_a_source(checks):
+    """The constants of the source have the page's bytes, by Python's reading of them."""
+    checks.begin("the source")
+    source = page.source_of(page.read_page())
+    literals = re.findall(r"(?m)^pub const (\w+): &\[u8\] = (b\".*\");$", source)
+    values = {name: ast.literal_eval(text) for name, text in literals}
+    names = ["PAGE_BEFORE_TITLE", "PAGE_BEFORE_TEXT", "PAGE_BEHIND_TEXT"]
+    with open(page.PAGE, "rb") as file:
+        whole = file.read()
+    checks.same("the page", values[names[0]] + b"<!--TITLE-->" + values[names[1]]
+                + b"<!--TEXT-->" + values[names[2]], whole)
+    checks.true("each place is filled once", b"<title></title>" in values[names[0]]
+                + values[names[1]] and b"<!--" not in b"".join(values[it] for it in names))
+    with tempfile.TemporaryDirectory() as folder:
+        path = os.path.join(folder, "page.rt")
+        checks.same("it is written", page.main([path]), 0)
+        checks.same("it is what would be", page.main(["--check", path]), 0)
+        with open(path, "a", encoding="ascii") as file:
+            file.write("// more\n")
+        checks.same("another one isn't", page.main(["--check", path]), 1)
 
 
 def main(arguments):
@@ -626,6 +651,7 @@ def main(arguments):
         print("there is no Chromium to look with")
         return 1
     checks = Checks(shots)
+    put_into_a_source(checks)
     office = PreparedOffice()
     look_at_an_office(checks, office)
     office.close()

@@ -1,7 +1,8 @@
 #!/usr/bin/env python3
-"""Tries packaging/haproxy-page.cfg at other ports, in front of the stand-in for the door of the web:
-who is let in, what is logged, and the Python client over TLS. It needs haproxy and openssl, without
-which nothing is tried, which is said. The last line says how much passed and how much failed."""
+"""Tries packaging/haproxy-page.cfg at other ports, in front of the stand-in for the door of the
+web: who is let in, what is logged, and the Python client over TLS. It needs haproxy and openssl,
+without which nothing is tried, which is said. The last line says how much passed and how much
+failed."""
 
 import base64
 import os
@@ -84,7 +85,8 @@ def ask_through(url, context):
     yield "no metrics", get("/metrics", named)[0], 403
     elsewhere = get("/", {**named, "host": "evil.example"})[0]
     yield "a name that isn't the server's", elsewhere, 421
-    with tablebuilder.connect(url, tls=context, auth=("ada", "secret"), timeout=PATIENCE) as session:
+    ada = {"auth": ("ada", "secret"), "timeout": PATIENCE}
+    with tablebuilder.connect(url, tls=context, **ada) as session:
         table = session.table("AREA by SEX", totals=True)
         yield "the client's table", table.counts, [2, 0, 2, 1, 2, 1, 1, 2, 6]
     with tablebuilder.connect(url, tls=context, timeout=PATIENCE) as session:

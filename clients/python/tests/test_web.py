@@ -1,4 +1,4 @@
-"""Sessions by the address of a page, over a stand-in for the door of the web with prepared tables."""
+"""Sessions by the address of a page, over a stand-in for the door of the web."""
 
 from __future__ import annotations
 

@@ -1,5 +1,6 @@
-# Tests of sessions by the address of a page. They need the stand-in that `clients/run.py` starts
-# over tables counted by hand, whose address is in TABLEBUILDER_WEB_URL, and are passed over without it.
+# Tests of sessions by the address of a page. They need the stand-in that `web/test_clients.py` starts
+# over tables counted by hand, whose address is in TABLEBUILDER_WEB_URL, and are passed over without
+# it.
 # With TABLEBUILDER_WEB_BY=program they are by the program `curl`, also where the package is.
 
 if (file.exists("R/tablebuilder.R")) {
