@@ -12,8 +12,10 @@ status is 1 where any did.
 
 import ast
 import base64
+import contextlib
 import hashlib
 import html.parser
+import io
 import os
 import re
 import subprocess
@@ -637,7 +639,9 @@ def put_into_a_source(checks):
         checks.same("it is what would be", page.main(["--check", path]), 0)
         with open(path, "a", encoding="ascii") as file:
             file.write("// more\n")
-        checks.same("another one isn't", page.main(["--check", path]), 1)
+        with contextlib.redirect_stderr(io.StringIO()) as told:
+            checks.same("another one isn't", page.main(["--check", path]), 1)
+        checks.true("which is said", "run web/page.py" in told.getvalue())
 
 
 def main(arguments):

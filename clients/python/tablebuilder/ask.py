@@ -7,7 +7,8 @@ key completes words, names and codes, and earlier lines come back by the arrow k
 begin with a full stop are its own (`.help` lists them). With SCRIPT, a file, or with lines on the
 standard input, each line is asked in order and its reply written as the server writes it; a line of
 blanks alone, or that begins with `#`, has none. At a terminal the standard error shows how far it
-has come.
+has come. In place of the port the address of a page will do, as https://tables.example; then
+TABLEBUILDER_AUTH has NAME:PASSWORD for what stands in front of it.
 
 The status is 0 where every line was answered, 1 where one was refused or found no memory, or its
 table is of an earlier release than one before, and 2 where there was no session, or it ended early.
@@ -25,8 +26,9 @@ from tablebuilder.faults import Busy, CannotDescribe, Ended, Error
 from tablebuilder.faults import OlderRelease, OutOfMemory, Refused, Unkept
 from tablebuilder.plot import plot
 from tablebuilder.query import query_start, stage_after, tokens_of
-from tablebuilder.session import Session, connect
+from tablebuilder.session import Session
 from tablebuilder.table import Category, Table, Variable, table_of
+from tablebuilder.web import connect
 
 __all__ = ["main"]
 
@@ -259,11 +261,22 @@ def _lines_of(data: bytes) -> list[str]:
 
 
 def address_of(text: str) -> tuple[str, int]:
-    """The host and the port that an argument names."""
+    """The host and the port that an argument names; or the address of a page, and 0."""
+    if text.startswith(("http://", "https://")):
+        return text, 0
     host, _, port = text.rpartition(":")
     if not (port.isascii() and port.isdigit() and 1 <= int(port) <= 65_535):
         raise argparse.ArgumentTypeError(f"{text} is no [HOST:]PORT")
     return host.strip("[]") or "127.0.0.1", int(port)
+
+
+def _auth(port: int) -> Optional[tuple[str, str]]:
+    """The name and the password for what stands in front of a page, from the environment."""
+    named = os.environ.get("TABLEBUILDER_AUTH")
+    if port or not named:
+        return None
+    name, _, password = named.partition(":")
+    return name, password
 
 
 def _words(arguments: Optional[Sequence[str]]) -> argparse.Namespace:
@@ -274,7 +287,7 @@ def _words(arguments: Optional[Sequence[str]]) -> argparse.Namespace:
         epilog=more,
         formatter_class=argparse.RawDescriptionHelpFormatter,
     )
-    where = "where analysts are answered"
+    where = "where analysts are answered, or the address of its page, as https://tables.example"
     parser.add_argument("address", metavar="[HOST:]PORT", type=address_of, help=where)
     parser.add_argument("script", metavar="SCRIPT", nargs="?", help="a file of lines to ask")
     parser.add_argument(
@@ -291,6 +304,7 @@ def main(arguments: Optional[Sequence[str]] = None) -> int:
     """The command; its arguments are those of the command line unless others are given."""
     words = _words(arguments)
     host, port = words.address
+    said = f"{host}:{port}" if port else host
     lines = None
     if words.script is not None:
         try:
@@ -302,19 +316,19 @@ def main(arguments: Optional[Sequence[str]] = None) -> int:
     elif not sys.stdin.isatty():
         lines = _lines_of(sys.stdin.buffer.read())
     try:
-        with connect(port, host, timeout=words.wait) as session:
+        with connect(port or host, host, timeout=words.wait, auth=_auth(port)) as session:
             names = Names(session)
             session.timeout = None
             if lines is not None:
                 return _run_script(session, lines)
             _complete_by(names)
-            print(f"{host}:{port}; .help says what may be typed")
+            print(f"{said}; .help says what may be typed")
             Prompt(session, names).run(_typed_lines())
             return 0
     except Busy as fault:
-        print(f"{host}:{port} is busy: {fault}", file=sys.stderr)
+        print(f"{said} is busy: {fault}", file=sys.stderr)
     except (Error, OSError) as fault:
-        print(f"{host}:{port}: {getattr(fault, 'strerror', None) or fault}", file=sys.stderr)
+        print(f"{said}: {getattr(fault, 'strerror', None) or fault}", file=sys.stderr)
     except KeyboardInterrupt:
         print(file=sys.stderr)
     return 2

@@ -4,7 +4,9 @@ from __future__ import annotations
 
 import http.server
 import os
+import subprocess
 import sys
+import tempfile
 import threading
 import unittest
 from typing import List, Tuple
@@ -117,6 +119,18 @@ class OverTheDoor(unittest.TestCase):
         with self.assertRaises(tablebuilder.Refused) as caught:
             self.session.ask("table " + "x" * 4_200)
         self.assertEqual(caught.exception.word, "TooLong")
+
+
+    def test_the_command_asks_by_a_page(self) -> None:
+        with tempfile.NamedTemporaryFile("w", suffix=".txt") as script:
+            script.write("table SEX\ntable NOSUCH\n")
+            script.flush()
+            words = [sys.executable, "-m", "tablebuilder", self.server.url, script.name]
+            told = subprocess.run(words, stdout=subprocess.PIPE, stderr=subprocess.PIPE, check=False)
+        self.assertEqual(told.returncode, 1)
+        self.assertEqual(
+            told.stdout.decode(), "release 0\nSEX,count\n1,1\n2,2\n.\nrefused 3 UnknownName 2\n"
+        )
 
 
 class WhatStandsInFront(unittest.TestCase):
