@@ -464,6 +464,10 @@ def look_at_an_office(checks, office):
 
 # ---- large tables, faults, and several at once
 
+# A label that is no HTML.
+HOSTILE = "<img src=x>&amp;"
+
+
 class Wide:
     """A voice with two variables of 100 categories and one of 3,000, whose counts are by rule."""
 
@@ -477,6 +481,8 @@ class Wide:
         if words[0] == "describe":
             codes = self.codes(words[1])
             rows = [f"{code},{words[1].title()} {code[1:]}" for code in codes]
+            if words[1] == "COLUMN":
+                rows[0] = f"{codes[0]},{HOSTILE}"
             return "\n".join([f"describe {words[1]}", "code,label", *rows, ".\n"]).encode()
         names = words[1:words.index("where") if "where" in words else None:2]
         places = [""]
@@ -521,6 +527,8 @@ def look_at_large_tables(checks):
         checks.same("many places", screen.ask("table ROW by COLUMN"), "Release 0: 10,000 counts.")
         checks.same("all are drawn", len(screen.all("#wide td")), PLACES)
         checks.same("the last one", screen.texts("#wide tr:last-child td:last-child"), ["993"])
+        checks.same("a label is text", screen.table()[0][1], f"COLUMN {HOSTILE}")
+        checks.same("and nothing else", screen.all("img"), [])
         for view in ("plain", "heat", "bars"):
             screen.click(f"[data-view={view}]")
             seconds = fastest(screen)

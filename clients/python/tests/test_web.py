@@ -126,7 +126,9 @@ class OverTheDoor(unittest.TestCase):
             script.write("table SEX\ntable NOSUCH\n")
             script.flush()
             words = [sys.executable, "-m", "tablebuilder", self.server.url, script.name]
-            told = subprocess.run(words, stdout=subprocess.PIPE, stderr=subprocess.PIPE, check=False)
+            told = subprocess.run(
+                words, cwd=os.path.dirname(HERE), stdout=subprocess.PIPE, stderr=subprocess.PIPE
+            )
         self.assertEqual(told.returncode, 1)
         self.assertEqual(
             told.stdout.decode(), "release 0\nSEX,count\n1,1\n2,2\n.\nrefused 3 UnknownName 2\n"
