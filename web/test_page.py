@@ -37,7 +37,7 @@ HEADS = [["AREA", "SEX Male", "Female", "Total"]]
 CELLS = [["North, rural", "2", "0", "2"], ["South", "1", "2", "1"], ["Total", "1", "2", "6"]]
 NARROW = (360, 740)
 # A table of so many places is drawn within so many seconds.
-PLACES, SECONDS, MOST_DRAWN = 10_000, 0.3, 30
+PLACES, SECONDS, DRAWN_SO_OFTEN = 10_000, 0.3, 10
 
 
 class Checks:
@@ -512,11 +512,20 @@ DRAWN = """
 
 
 def fastest(screen):
-    """How long it took at the fastest: on a machine that does other things too, more than once."""
+    """How long a drawing took at the fastest: of the processor, which other programs on the machine
+    don't change, and by the clock."""
     times = []
-    while len(times) < 5 or (min(times) > SECONDS and len(times) < MOST_DRAWN):
-        times.append(screen.run(DRAWN) / 1_000)
-    return min(times)
+    for _ in range(DRAWN_SO_OFTEN):
+        begin = processor_time(screen)
+        clock = screen.run(DRAWN) / 1_000
+        times.append((processor_time(screen) - begin, clock))
+    return tuple(map(min, zip(*times)))
+
+
+def processor_time(screen):
+    """The seconds of the processor that the page's thread took so far."""
+    told = screen.command("Performance.getMetrics")["metrics"]
+    return {it["name"]: it["value"] for it in told}["ThreadTime"]
 
 
 def look_at_large_tables(checks):
@@ -524,6 +533,7 @@ def look_at_large_tables(checks):
     server = Standin(0, Wide(), "Wide").begin()
     with Screen() as screen:
         screen.open(server.url + "/")
+        screen.command("Performance.enable")
         checks.same("many places", screen.ask("table ROW by COLUMN"), "Release 0: 10,000 counts.")
         checks.same("all are drawn", len(screen.all("#wide td")), PLACES)
         checks.same("the last one", screen.texts("#wide tr:last-child td:last-child"), ["993"])
@@ -531,9 +541,10 @@ def look_at_large_tables(checks):
         checks.same("and nothing else", screen.all("img"), [])
         for view in ("plain", "heat", "bars"):
             screen.click(f"[data-view={view}]")
-            seconds = fastest(screen)
-            print(f"{PLACES:,} cells drawn as {view}: {seconds:.3f} s")
-            checks.true(f"drawn as {view} in time", seconds <= SECONDS, f"{seconds:.3f} s")
+            seconds, clock = fastest(screen)
+            told = f"{seconds:.3f} s of the processor, {clock:.3f} s by the clock"
+            print(f"{PLACES:,} cells drawn as {view}: {told}")
+            checks.true(f"drawn as {view} in time", seconds <= SECONDS, told)
             checks.shoot(screen, f"11-large-{view}")
         screen.ask("table PARISH by ROW")
         checks.same("the first rows", screen.text("#which"),
