@@ -1,11 +1,14 @@
 -- Releases along what holders of a board's front have seen.
-use Rattle.std.proofs.Common.{◌≡◌, length, sym, subst}
+use Rattle.std.proofs.Common.{◌≡◌, ℕ, ◌+◌, ◌<◌, ◌≤◌, List, [], ◌∷◌, length, sym, subst, arith}
 use Rattle.std.specs.Prelude.{All}
 use Rattle.tb_core.specs.Desks.{DeskValue, IsRevised, IsSound}
 use Rattle.tb_core.proofs.ChainLemmas.{after_all, revised_on, revised_to}
 use Rattle.tb_front.specs.Holders.{Name, IsLater}
+use Rattle.tb_model.specs.Releases.{ReleaseValue}
 use Rattle.tb_release.specs.Batches.{BatchValue, Follows}
+use Rattle.tb_release.specs.Chains.{IsChain, after_batch}
 use Rattle.tb_release.specs.Results.{ChangeFits}
+use Rattle.tb_release.specs.declared.limits.TheConstants.{MOST_RELEASES}
 use Rattle.tb_board.specs.Holders.{HolderValue, holder_at, release_seen, with_batch, IsChainSeen}
 use Rattle.tb_board.specs.Starts.{StartValue}
 
@@ -28,3 +31,13 @@ chain_more seen batch chain follows fit = revised_on seen.start.shape seen.start
 -- the number of the release to which a chain leads is how many batches it has
 pub number_seen : (seen : HolderValue) → IsChainSeen seen → (release_seen seen).number ≡ length seen.list
 number_seen seen chain = (after_all seen.start.shape seen.start.base seen.list chain).number
+
+-- a chain has no more batches than there may be releases after the first
+few_from : (base : ReleaseValue) (chain : List BatchValue) → base.number ≤ MOST_RELEASES → IsChain base chain → base.number + length chain ≤ MOST_RELEASES
+few_from base [] low is = omega (arith, low)
+few_from base (batch ∷ chain) low is =
+    let more : base.number < MOST_RELEASES = is.0.can.releases in
+    omega (arith, few_from (after_batch base batch) chain (omega (arith, more)) is.1)
+
+pub few_batches : (shape : List ℕ) (base : ReleaseValue) (chain : List BatchValue) → IsRevised shape base chain → length chain ≤ MOST_RELEASES
+few_batches shape base chain revised = omega (arith, few_from base chain (omega (arith, revised.first)) revised.is_chain, revised.first)

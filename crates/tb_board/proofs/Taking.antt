@@ -1,5 +1,5 @@
 -- What is taken in a turn, and the cube of it that may be offered.
-use Rattle.std.proofs.Common.{◌≡◌, ℕ, ◌≤◌, List, length, Option, Some, None, sym, ap, ◌∙◌, subst, arith}
+use Rattle.std.proofs.Common.{◌≡◌, ℕ, ◌≤◌, List, length, take, Option, Some, None, sym, ap, ◌∙◌, subst, arith}
 use Rattle.std.specs.Prelude.{option_map, IfOk, Result, Ok, Err}
 use Rattle.std.specs.Arc.{arc_value}
 use Rattle.std.proofs.lemmas.List.{take_all}
@@ -15,7 +15,7 @@ use Rattle.tb_front.specs.Holders.{Name}
 use Rattle.tb_model.specs.Releases.{ReleaseValue}
 use Rattle.tb_release.specs.Chains.{release_after}
 use Rattle.tb_board.specs.Holders.{HolderValue, holder_at}
-use Rattle.tb_board.specs.Turns.{IsHitFor, IsTakenAt, IsWholeChain}
+use Rattle.tb_board.specs.Turns.{IsBeginning, IsHitFor, IsTakenAt}
 use Rattle.tb_board.specs.declared.chain.Chain.{Chain}
 use Rattle.tb_board.proofs.Chains.{number_seen}
 
@@ -60,11 +60,11 @@ if_taken pass name desk vars (Err error) is sound release hit = tt
 pub taken_for : (seen : HolderValue) (vars shape : List ℕ) (taken : Taken) → IsTakenAt seen (Some vars) taken → seen.start.shape ≡ shape → IsTaken shape seen.start.base seen.list vars taken
 taken_for seen vars shape taken t is = subst (λ s. IsTaken s seen.start.base seen.list vars taken) is t.hit
 
--- where the whole chain was handed out
-pub if_whole : (pass : HolderValue) (name : Name) (desk : DeskValue) (result : Result Chain Memory) → pass ≡ holder_at name desk
-    → IfOk result (λ chain. arc_value chain.base ≡ desk.base) → IfOk result (λ chain. chain.batches ≡ desk.chain) → IfOk result (IsWholeChain pass)
-if_whole pass name desk (Ok chain) is base batches = record {
+-- where the first batches were handed out
+pub if_begun : (pass : HolderValue) (name : Name) (desk : DeskValue) (most : ℕ) (result : Result Chain Memory) → pass ≡ holder_at name desk
+    → IfOk result (λ chain. arc_value chain.base ≡ desk.base) → IfOk result (λ chain. chain.batches ≡ take most desk.chain) → IfOk result (IsBeginning most pass)
+if_begun pass name desk most (Ok chain) is base batches = record {
   base = base ∙ sym (ap (λ (h : HolderValue). h.start.base) is);
-  batches = batches ∙ sym (ap (λ (h : HolderValue). h.list) is);
+  batches = batches ∙ ap (take most) (sym (ap (λ (h : HolderValue). h.list) is));
 }
-if_whole pass name desk (Err error) is base batches = tt
+if_begun pass name desk most (Err error) is base batches = tt

@@ -1,5 +1,5 @@
 -- What the turns of a board return.
-use Rattle.std.specs.Prelude.{◌≡◌, ℕ, List, length, Option, Some, None, option_map}
+use Rattle.std.specs.Prelude.{◌≡◌, ℕ, List, length, take, Option, Some, None, option_map}
 use Rattle.std.specs.Arc.{arc_value}
 use Rattle.tb_base.specs.Records.{AllFit}
 use Rattle.tb_core.specs.declared.desk.Taken.{Taken}
@@ -23,6 +23,11 @@ pub record IsTakenAt (seen : HolderValue) (vars : Option (List ℕ)) (taken : Ta
   pub number : number_of taken ≡ length seen.list
   pub fit : AllFit seen.start.shape (release_in taken).records
   pub hit : IsHitFor seen vars taken
+
+-- release 0 and so many of the first batches that were seen
+pub record IsBeginning (most : ℕ) (seen : HolderValue) (chain : Chain) : Type 0 where
+  pub base : arc_value chain.base ≡ seen.start.base
+  pub batches : chain.batches ≡ take most seen.list
 
 -- release 0 and the whole chain that was seen
 pub record IsWholeChain (seen : HolderValue) (chain : Chain) : Type 0 where

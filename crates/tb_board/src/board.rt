@@ -1,4 +1,5 @@
-ghost use Rattle.std.specs.Prelude.{◌≡◌, ◌<◌, ◌≤◌, All, IfOk, IfErr, OnOk, OnErr, length};
+ghost use Rattle.std.specs.Prelude.{◌≡◌, ◌+◌, ◌<◌, ◌≤◌, All, IfOk, IfErr, OnOk, OnErr, length};
+ghost use Rattle.std.specs.Prelude.{take};
 ghost use Rattle.std.specs.Option.{option_copied};
 ghost use Rattle.std.specs.Arc.{arc_value};
 ghost use mathlib.Core.List.{IsPrefix};
@@ -13,13 +14,16 @@ ghost use Rattle.tb_release.specs.Results.{IsWhy};
 ghost use Rattle.tb_board.specs.Custodians.{after_publication, after_publishing};
 ghost use Rattle.tb_board.specs.Custodians.{first_custodian, CanPublish, IsWhole};
 ghost use Rattle.tb_board.specs.Holders.{release_seen, IsChainSeen};
-ghost use Rattle.tb_board.specs.Turns.{IsTakenAt, IsWholeChain};
+ghost use Rattle.tb_board.specs.Turns.{IsBeginning, IsTakenAt, IsWholeChain};
+ghost use Rattle.tb_board.specs.declared.limits.TheConstants.{BATCHES_A_TURN};
 
 use crate::chain::Chain;
 use crate::custodian::Custodian;
+use crate::limits::{BATCHES_A_TURN, MOST_TURNS};
 use crate::locked::Locked;
 use crate::named::Named;
 use crate::opening::Opening;
+use crate::permits::{Permit, Permits};
 use crate::publishing::Publication;
 use crate::step::Step;
 use std::alloc::Global;
@@ -27,16 +31,18 @@ use std::sync::{Mutex, Wait};
 use tb_base::{Memory, VarSet};
 use tb_core::{Offer, Stats, Taken};
 use tb_front::{Front, Note, Pass};
-use tb_release::{EditFault, Edits};
+use tb_release::{Batches, EditFault, Edits};
 
-/// A desk behind a lock, beside the front of its chain, for any number of threads. Each call that
-/// takes `rt` waits for the lock and is one turn of it; the others take no lock. A pass and a
-/// custodian belong to one board. What becomes of the desk is told by the turns of `Locked`, and by
-/// no clause of these calls.
+/// A desk behind a lock, beside the front of its chain and permits to make cubes, for any number of
+/// threads. Each call that takes `rt` waits for the lock and is one turn of it, but for `chain`,
+/// which is as many as the chain is long, and for those of permits, which have a lock of their own;
+/// the others take no lock. A pass, a custodian and a permit belong to one board. What becomes of
+/// the desk is told by the turns of `Locked`, and by no clause of these calls.
 #[derive(Drop)]
 pub struct Board<B: Named> {
     front: Front<Step>,
     locked: Mutex<Locked<B>>,
+    permits: Permits,
     ghost named: { front ≡ B.name },
 }
 
@@ -54,8 +60,24 @@ impl<B: Named> Board<B> {
             desk,
             custodian,
         } = opening;
-        let locked = Mutex::new(Locked::of(desk, keeper));
-        (Board { front, locked }, custodian)
+        let board = Board {
+            front,
+            locked: Mutex::new(Locked::of(desk, keeper)),
+            permits: Permits::new(),
+        };
+        (board, custodian)
+    }
+
+    /// Takes a permit to make a cube: `MOST_CUBES_AT_ONCE` are held at the same time at most, and it
+    /// returns as soon as one is left. It takes no memory, and holds no lock while it waits, nor
+    /// when it returns. No clause says any of this but that a permit is had.
+    pub fn permit(&self, rt: &impl Wait) -> Permit<B> {
+        self.permits.take(rt)
+    }
+
+    /// Takes a permit back, so that one who waits for it gets one.
+    pub fn give_back(&self, rt: &impl Wait, permit: Permit<B>) {
+        self.permits.give_back(rt, permit);
     }
 
     /// A pass that has seen the chain of this turn.
@@ -86,16 +108,71 @@ impl<B: Named> Board<B> {
         guard.take(&self.front, pass, vars)
     }
 
-    /// Release 0 and the whole chain of this turn, which the pass sees, also where the call is out
-    /// of memory. It takes memory for a list of the batches, each of which is shared.
+    // Release 0 and the first part of the chain of this turn.
+    fn first_part(&self, rt: &impl Wait, pass: &mut Pass<Step>) -> Result<Chain, Memory>
+        requires { pass.old.name ≡ B.name }
+        ensures later { IsLater pass.old pass.new }
+        ensures seen { IsChainSeen pass.new }
+        ensures chain { IfOk result (IsBeginning BATCHES_A_TURN pass.new) }
+    {
+        let mut guard = self.locked.lock(rt);
+        guard.first_part(&self.front, pass)
+    }
+
+    // Lengthens a beginning of the chain by a part of the chain of this turn.
+    fn next_part(
+        &self,
+        rt: &impl Wait,
+        pass: &mut Pass<Step>,
+        batches: &mut Batches,
+    ) -> Result<(), Memory>
+        requires name { pass.old.name ≡ B.name }
+        requires begins { IsPrefix batches.old pass.old.list }
+        ensures later { IsLater pass.old pass.new }
+        ensures seen { IsChainSeen pass.new }
+        ensures longer { OnOk result (batches.new
+            ≡ take (length batches.old + BATCHES_A_TURN) pass.new.list) }
+    {
+        let mut guard = self.locked.lock(rt);
+        guard.next_part(&self.front, pass, batches)
+    }
+
+    // Lengthens the first part of the chain, part by part, until it is the whole chain. Fewer
+    // batches than there is room for are a whole chain.
+    fn lengthen(
+        &self,
+        rt: &impl Wait,
+        pass: &mut Pass<Step>,
+        batches: &mut Batches,
+    ) -> Result<(), Memory>
+        requires name { pass.old.name ≡ B.name }
+        requires seen { IsChainSeen pass.old }
+        requires first { batches.old ≡ take BATCHES_A_TURN pass.old.list }
+        ensures later { IsLater pass.old pass.new }
+        ensures seen { IsChainSeen pass.new }
+        ensures whole { OnOk result (batches.new ≡ pass.new.list) }
+    {
+        for turn in 1..MOST_TURNS {
+            if batches.len() < turn * BATCHES_A_TURN {
+                return Ok(());
+            }
+            self.next_part(rt, pass, batches)?;
+        }
+        Ok(())
+    }
+
+    /// Release 0 and the whole chain, which the pass sees, also where the call is out of memory. It
+    /// is copied part by part, in as many turns as it is long, each of so many batches at most; it
+    /// is that of the last turn. It takes memory for a list of the batches, each of which is shared.
     pub fn chain(&self, rt: &impl Wait, pass: &mut Pass<Step>) -> Result<Chain, Memory>
         requires { pass.old.name ≡ B.name }
         ensures later { IsLater pass.old pass.new }
         ensures seen { IsChainSeen pass.new }
         ensures chain { IfOk result (IsWholeChain pass.new) }
     {
-        let mut guard = self.locked.lock(rt);
-        guard.chain(&self.front, pass)
+        let mut chain = self.first_part(rt, pass)?;
+        self.lengthen(rt, pass, &mut chain.batches)?;
+        Ok(chain)
     }
 
     /// Offers the cube of a release that the pass has seen, over at most

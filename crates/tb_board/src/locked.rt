@@ -1,8 +1,9 @@
 // What stands behind the lock of a board, and its turns.
 
-ghost use Rattle.std.specs.Prelude.{◌≡◌, ◌<◌, ◌≤◌, IfOk, OnOk, OnErr, length};
+ghost use Rattle.std.specs.Prelude.{◌≡◌, ◌+◌, ◌<◌, ◌≤◌, IfOk, OnOk, OnErr, length, take};
 ghost use Rattle.std.specs.Option.{option_copied};
 ghost use Rattle.std.specs.Arc.{arc_value};
+ghost use mathlib.Core.List.{IsPrefix};
 ghost use Rattle.tb_base.specs.declared.var_set.TheConstants.{VARIABLES_IN_PLACE};
 ghost use Rattle.tb_cache.specs.declared.TheConstants.{MOST_ENTRIES};
 ghost use Rattle.tb_core.specs.Desks.{IsCubeAt};
@@ -10,10 +11,12 @@ ghost use Rattle.tb_core.specs.Turns.{after_clear, after_look, after_resize, Are
 ghost use Rattle.tb_front.specs.Holders.{IsLater};
 ghost use Rattle.tb_board.specs.Custodians.{IsWhole};
 ghost use Rattle.tb_board.specs.Holders.{holder_at, IsChainSeen};
-ghost use Rattle.tb_board.specs.Turns.{IsTakenAt, IsWholeChain};
+ghost use Rattle.tb_board.specs.Turns.{IsBeginning, IsTakenAt};
+ghost use Rattle.tb_board.specs.declared.limits.TheConstants.{BATCHES_A_TURN};
 
 use crate::chain::Chain;
 use crate::custodian::Custodian;
+use crate::limits::BATCHES_A_TURN;
 use crate::named::Named;
 use crate::step::Step;
 use std::marker::{Model, PhantomData};
@@ -21,6 +24,7 @@ use std::sync::Arc;
 use tb_base::{Memory, VarSet};
 use tb_core::{Desk, Offer, Offered, Stats, Taken};
 use tb_front::{Front, Keeper, Pass};
+use tb_release::Batches;
 
 /// A desk, and the keeper of its chain. It is seen as the desk: the keeper belongs to the front of
 /// the board's name, and has seen the desk's start and its whole chain.
@@ -45,13 +49,14 @@ impl<B: Named> Model for Locked<B> {
     ghost invariant = { λ l. l.keeper ≡ holder_at B.name l.desk };
 }
 
-// Release 0 of a desk and its whole chain.
-fn whole_chain(desk: &Desk) -> Result<Chain, Memory>
+// Release 0 of a desk and the first part of its chain.
+fn first_batches(desk: &Desk) -> Result<Chain, Memory>
     ensures base { IfOk result (λ chain. arc_value chain.base ≡ desk.now.base) }
-    ensures batches { IfOk result (λ chain. chain.batches ≡ desk.now.chain) }
+    ensures batches { IfOk result (λ chain. chain.batches
+        ≡ take BATCHES_A_TURN desk.now.chain) }
 {
     let base = Arc::try_clone(desk.base())?;
-    let batches = desk.chain()?;
+    let batches = desk.beginning(BATCHES_A_TURN)?;
     Ok(Chain { base, batches })
 }
 
@@ -99,8 +104,8 @@ impl<B: Named> Locked<B> {
         self.desk.take(vars)
     }
 
-    // The pass sees the chain, which is handed out whole, with release 0.
-    pub(crate) fn chain(
+    // The pass sees the chain, of which the first part is handed out, with release 0.
+    pub(crate) fn first_part(
         &mut self,
         front: &Front<Step>,
         pass: &mut Pass<Step>,
@@ -111,11 +116,33 @@ impl<B: Named> Locked<B> {
         ensures pass { pass.new ≡ holder_at B.name self.old }
         ensures later { IsLater pass.old pass.new }
         ensures seen { IsChainSeen pass.new }
-        ensures chain { IfOk result (IsWholeChain pass.new) }
+        ensures chain { IfOk result (IsBeginning BATCHES_A_TURN pass.new) }
     {
         self.desk.soundness();
         pass.catch_up(front, &mut self.keeper);
-        whole_chain(&self.desk)
+        first_batches(&self.desk)
+    }
+
+    // The pass sees the chain, by a part of which a beginning of what it saw before is lengthened.
+    pub(crate) fn next_part(
+        &mut self,
+        front: &Front<Step>,
+        pass: &mut Pass<Step>,
+        batches: &mut Batches,
+    ) -> Result<(), Memory>
+        requires front { front.now ≡ B.name }
+        requires pass { pass.old.name ≡ B.name }
+        requires begins { IsPrefix batches.old pass.old.list }
+        ensures same { self.new ≡ self.old }
+        ensures pass { pass.new ≡ holder_at B.name self.old }
+        ensures later { IsLater pass.old pass.new }
+        ensures seen { IsChainSeen pass.new }
+        ensures longer { OnOk result (batches.new
+            ≡ take (length batches.old + BATCHES_A_TURN) pass.new.list) }
+    {
+        self.desk.soundness();
+        pass.catch_up(front, &mut self.keeper);
+        self.desk.lengthen(batches, BATCHES_A_TURN)
     }
 
     // The pass is confirmed, and then the cube of a release that it has seen is offered.

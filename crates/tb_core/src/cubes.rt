@@ -1,7 +1,7 @@
 // The cube of a release that was taken.
 
 ghost use Rattle.std.specs.Prelude.{◌≡◌, ◌↔◌, ◌+◌, ◌≤◌, ℕ, List, [], true, false, length};
-ghost use Rattle.std.specs.Prelude.{Some, IfOk, OnOk};
+ghost use Rattle.std.specs.Prelude.{Some, IfOk, IfSome, OnOk, is_none};
 ghost use Rattle.tb_base.specs.declared.people.TheConstants.{MOST_PERSONS};
 ghost use Rattle.tb_base.specs.declared.records.Record.{Record};
 ghost use Rattle.tb_base.specs.Records.{AllFit};
@@ -45,6 +45,25 @@ impl CubeFor {
             CubeFor::Made(cube) => cube,
         }
     }
+}
+
+/// The cube that was found for some variables, where it is the one over these of the release that
+/// was taken. Where it isn't, one has to be made: it is built, or copied or narrowed from what was
+/// found. It takes no memory.
+pub fn kept_cube<'a>(vars: &VarSet, taken: &'a Taken) -> Option<&'a Cube>
+    ensures none { is_none result ≡ is_new (number_of taken.now) vars.now (found_in taken.now) }
+    ensures cube { IfSome result (λ cube. (shape : List ℕ) → (base : ReleaseValue)
+        → (chain : List BatchValue) → IsTaken shape base chain vars.now taken.now
+        → unpacked cube.now ≡ cube_over shape vars.now (release_in taken.now).records) }
+{
+    let Some(hit) = &taken.hit else {
+        return None;
+    };
+    if is_own(hit, vars, taken.release.number()) {
+        let cube: &Cube = &hit.cube;
+        return Some(cube);
+    }
+    None
 }
 
 /// The cube over some variables of the release that was taken: `lead_on` where one was found, and

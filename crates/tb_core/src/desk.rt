@@ -1,9 +1,11 @@
 // The desk: one chain of releases, and the cubes that are kept.
 
-ghost use Rattle.std.specs.Prelude.{◌≡◌, ◌<◌, ◌≤◌, [], All, drop, length, if◌then◌else◌};
+ghost use Rattle.std.specs.Prelude.{◌≡◌, ◌+◌, ◌++◌, ◌<◌, ◌≤◌, [], All, drop, length, take};
+ghost use Rattle.std.specs.Prelude.{if◌then◌else◌};
 ghost use Rattle.std.specs.Prelude.{Some, option_map, IfOk, OnOk, OnErr};
 ghost use Rattle.std.specs.Option.{ForSome, option_copied};
 ghost use Rattle.std.specs.Arc.{arc_value};
+ghost use mathlib.Core.List.{IsPrefix};
 ghost use Rattle.tb_base.specs.Records.{AllFit};
 ghost use Rattle.tb_base.specs.declared.var_set.TheConstants.{VARIABLES_IN_PLACE};
 ghost use Rattle.tb_cache.specs.declared.TheConstants.{MOST_ENTRIES};
@@ -180,11 +182,26 @@ impl Desk {
         &self.base
     }
 
-    /// The whole chain, in a list that takes memory.
-    pub fn chain(&self) -> Result<Batches, Memory>
-        ensures { IfOk result (λ chain. chain ≡ self.now.chain) }
+    /// So many of the chain's first batches, in a list that takes memory; the whole chain where it
+    /// has no more.
+    pub fn beginning(&self, most: usize) -> Result<Batches, Memory>
+        ensures { IfOk result (λ batches. batches ≡ take most self.now.chain) }
     {
-        batches_from(self.alloc, &self.chain, 0)
+        let mut batches = Batches::new(self.alloc);
+        self.lengthen(&mut batches, most)?;
+        Ok(batches)
+    }
+
+    /// Lengthens a beginning of the chain by so many of the batches that come next, or by all where
+    /// there are no more. It takes memory for references to them.
+    pub fn lengthen(&self, batches: &mut Batches, most: usize) -> Result<(), Memory>
+        requires begins { IsPrefix batches.old self.now.chain }
+        ensures { OnOk result (batches.new ≡ take (length batches.old + most) self.now.chain) }
+    {
+        let first = batches.len();
+        let left = self.chain.len() - first;
+        let end = first + left.min(most);
+        push_batches(batches, &self.chain, first, end)
     }
 
     /// The current release. For a set it also looks for its cube, or else for the first over a set
@@ -313,13 +330,30 @@ impl Desk {
     }
 }
 
+// Adds the batches from a place up to another to a list.
+fn push_batches(
+    batches: &mut Batches,
+    chain: &Batches,
+    first: usize,
+    end: usize,
+) -> Result<(), Memory>
+    requires order { first ≤ end }
+    requires there { end ≤ length chain.now }
+    ensures { OnOk result (batches.new ++ drop end chain.now
+        ≡ batches.old ++ drop first chain.now) }
+{
+    for i in first..end {
+        batches.push(Arc::try_clone(chain.at(i))?)?;
+    }
+    Ok(())
+}
+
 // The batches from a place on.
 fn batches_from(alloc: Global, chain: &Batches, first: u32) -> Result<Batches, Memory>
     ensures { IfOk result (λ batches. batches ≡ drop first chain.now) }
 {
     let mut batches = Batches::new(alloc);
-    for i in first as usize..chain.len() {
-        batches.push(Arc::try_clone(chain.at(i))?)?;
-    }
+    let end = chain.len();
+    push_batches(&mut batches, chain, end.min(first as usize), end)?;
     Ok(batches)
 }

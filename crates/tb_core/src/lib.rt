@@ -8,8 +8,8 @@
 //!
 //! Begin at `desk.rt`: a desk is seen without its current release and its cubes, since its
 //! invariant says that they are what the chain says; so each call is one equation. `cubes.rt`
-//! (`lead_on`) makes the cube of what was taken. A law over runs goes by a system without the cache
-//! (`bare_after`).
+//! finds the cube of what was taken (`kept_cube`) or makes it (`lead_on`). A law over runs goes by a
+//! system without the cache (`bare_after`).
 #![tactic(auto)]
 
 mod cubes;
@@ -21,7 +21,7 @@ mod publishing;
 mod running;
 mod system;
 
-pub use cubes::{CubeFor, cube_for, lead_on};
+pub use cubes::{CubeFor, cube_for, kept_cube, lead_on};
 pub use desk::{Desk, Hit, Offer, Offered, Stats, Taken};
 pub use events::{Cells, Event, InOrder, Offers, Outcome, Ran, Replies, Reply};
 pub use running::run;

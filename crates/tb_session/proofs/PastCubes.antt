@@ -1,5 +1,5 @@
 -- The cube of a release of a chain, over a plan's variables.
-use Rattle.std.proofs.Common.{◌≡◌, ◌∙◌, ℕ, ◌+◌, ◌<◌, ◌≤◌, List, [], ◌∷◌, length, take, sym, ap, subst, arith}
+use Rattle.std.proofs.Common.{◌≡◌, ◌∙◌, ℕ, ◌≤◌, List, length, take, sym, ap, subst}
 use Rattle.std.proofs.lemmas.List.{length-take-le}
 use Rattle.tb_base.specs.Rules.{RulesValue}
 use Rattle.tb_core.proofs.ChainLemmas.{after_all, revised_at}
@@ -8,8 +8,6 @@ use Rattle.tb_cube.specs.Cubes.{CubeValue, cube_over, unpacked}
 use Rattle.tb_model.specs.Releases.{ReleaseValue}
 use Rattle.tb_plan.specs.Plans.{PlanValue, vars_of}
 use Rattle.tb_release.specs.Batches.{BatchValue}
-use Rattle.tb_release.specs.Chains.{IsChain, after_batch, release_after}
-use Rattle.tb_release.specs.declared.limits.TheConstants.{MOST_RELEASES}
 use Rattle.tb_core.specs.Takes.{number_of, release_in}
 use Rattle.tb_core.specs.declared.desk.Taken.{Taken}
 use Rattle.tb_past.specs.Leading.{IsCubeOf}
@@ -51,13 +49,3 @@ module _ (plan : PlanValue) (base : ReleaseValue) (chain : List BatchValue) (tak
   pub led_to : (new : CubeValue) (n : ℕ) → IsTheirs → new ≡ cube_over cube.shape cube.vars (release_at base chain n).records → unpacked new ≡ cube_over plan.shape (vars_of plan) (release_at base chain n).records
   led_to new n is leads =
       ap unpacked (leads ∙ ap (λ (c : CubeValue). cube_over c.shape c.vars (release_at base chain n).records) is)
-
--- a chain has no more batches than there may be releases after the first
-few_from : (base : ReleaseValue) (chain : List BatchValue) → base.number ≤ MOST_RELEASES → IsChain base chain → base.number + length chain ≤ MOST_RELEASES
-few_from base [] low is = omega (arith, low)
-few_from base (batch ∷ chain) low is =
-    let more : base.number < MOST_RELEASES = is.0.can.releases in
-    omega (arith, few_from (after_batch base batch) chain (omega (arith, more)) is.1)
-
-pub few_batches : (shape : List ℕ) (base : ReleaseValue) (chain : List BatchValue) → IsRevised shape base chain → length chain ≤ MOST_RELEASES
-few_batches shape base chain revised = omega (arith, few_from base chain (omega (arith, revised.first)) revised.is_chain, revised.first)

@@ -227,7 +227,9 @@ fn reply_to<'a, B: Named, R: Threads + Wait + Sync, G: Gate, L: Ledger>(
 /// custodian's over its own current release; a line `at N QUERY` of either over release N. It takes
 /// memory for a table, a cube, an earlier release, an edit that is held and the next release, all
 /// before the first byte; where that is refused, the reply is `memory`. It waits for the board's
-/// lock, and holds none while a cube is built, led to another release or printed.
+/// lock, and holds none while a cube is built, led to another release or printed. Where a cube has
+/// to be built, copied or narrowed it also waits for a permit of the board, after it has taken its
+/// release, with no lock and no cube of its own.
 pub fn answer<B: Named, K: Sink, G: Gate, L: Ledger>(
     setup: &Setup,
     board: &Board<B>,

@@ -1,11 +1,13 @@
 // A query's table over the release that a pass takes.
 //
 // What was taken is the cut: `cube_of` has clauses on it alone (`IsTaken`), and knows neither desk
-// nor board.
+// nor board. It makes cubes, and so takes a permit: a caller looks for a kept cube first
+// (`kept_cube`), which needs none, and then holds one until what was made is offered or let go.
 
-ghost use Rattle.std.specs.Prelude.{◌≡◌, ◌≢◌, ◌+◌, ◌≤◌, IfOk, OnOk, List, None, length};
+ghost use Rattle.std.specs.Prelude.{◌≡◌, ◌≢◌, ◌+◌, ◌≤◌, IfOk, OnOk, List, None, Some, length};
 ghost use Rattle.tb_base.specs.declared.var_set.TheConstants.{VARIABLES_IN_PLACE};
 ghost use Rattle.tb_board.specs.Holders.{release_seen, IsChainSeen};
+ghost use Rattle.tb_board.specs.Turns.{IsTakenAt};
 ghost use Rattle.tb_core.specs.Desks.{HasCube};
 ghost use Rattle.tb_core.specs.Got.{cube_got};
 ghost use Rattle.tb_core.specs.Takes.{cost_of, cube_price, release_in, IsTaken};
@@ -15,7 +17,7 @@ ghost use Rattle.tb_front.specs.Holders.{IsLater};
 ghost use Rattle.tb_model.specs.Releases.{ReleaseValue};
 ghost use Rattle.tb_model.specs.Schemas.{shape_of};
 ghost use Rattle.tb_model.specs.Texts.{table_text as text_of_table};
-ghost use Rattle.tb_plan.specs.Plans.{cube_cells_of};
+ghost use Rattle.tb_plan.specs.Plans.{cube_cells_of, vars_of};
 ghost use Rattle.tb_query.specs.Over.{IsOver};
 ghost use Rattle.tb_release.specs.Batches.{BatchValue};
 ghost use Rattle.tb_session.specs.Parties.{IsPassOf, SawTurn};
@@ -27,9 +29,9 @@ use std::sync::ledger::Ledger;
 use std::sync::{Arc, Wait};
 use std::thread::Threads;
 use tb_base::{Memory, Shape, Steps, VarSet};
-use tb_board::{Board, Named, Step};
+use tb_board::{Board, Named, Permit, Step};
 use tb_build::{Gate, build};
-use tb_core::{CubeFor, Offer, Taken, lead_on};
+use tb_core::{CubeFor, Offer, Taken, kept_cube, lead_on};
 use tb_cube::Cube;
 use tb_front::Pass;
 use tb_plan::Plan;
@@ -40,12 +42,13 @@ use tb_text::{PreparedTable, Setup};
 /// The cube over some variables of the release that was taken: what is made of the one that was
 /// found, for which the changes that it is behind are lent, or one that is built, for which the
 /// records are. It takes memory for a cube that is made.
-pub(crate) fn cube_of<R: Threads + Sync, G: Gate, L: Ledger>(
+pub(crate) fn cube_of<B: Named, R: Threads + Sync, G: Gate, L: Ledger>(
     rt: &R,
     alloc: Global,
     shape: &Shape,
     vars: &VarSet,
     taken: &Taken,
+    _permit: &Permit<B>,
     gate: &mut G,
     steps: &mut Steps<L>,
 ) -> Result<CubeFor, Memory>
@@ -98,8 +101,42 @@ pub(crate) fn offer<B: Named>(
     }
 }
 
-// The cells of a plan's table over the release that the pass takes, from a cube that the board
-// keeps, or from one that is made and offered to it.
+// The cells of a plan's table over the release that was taken, from a cube that is made under a
+// permit and offered to the board.
+fn count_made<B: Named, R: Threads + Wait + Sync, G: Gate, L: Ledger>(
+    rt: &R,
+    alloc: Global,
+    board: &Board<B>,
+    shape: &Shape,
+    plan: &Plan,
+    pass: &mut Pass<Step>,
+    taken: &Taken,
+    permit: &Permit<B>,
+    gate: &mut G,
+    steps: &mut Steps<L>,
+) -> Result<Counted, Memory>
+    requires own { IsPassOf B.name shape.now pass.old }
+    requires shape { shape.now ≡ plan.now.shape }
+    requires cube { cube_cells_of plan.now ≢ None }
+    requires taken { IsTakenAt pass.old (Some (vars_of plan.now)) taken.now }
+    ensures same { pass.new ≡ pass.old }
+    ensures price { steps.new ≤ steps.old + cube_price (release_in taken.now) }
+    ensures counted { IfOk result (IsCounted plan.now (release_in taken.now)) }
+{
+    let vars = plan.vars();
+    let got = cube_of(rt, alloc, shape, vars, taken, permit, gate, steps)?;
+    let counted = roll_up(alloc, got.cube(), plan, &taken.release)?;
+    let number = taken.release.number();
+    match got {
+        CubeFor::Kept(_cube) => {}
+        CubeFor::Made(cube) => offer(rt, alloc, board, pass, vars, number, cube),
+    }
+    Ok(counted)
+}
+
+// The cells of a plan's table over the release that the pass takes, from the cube that the board
+// keeps. Where it keeps none, a permit is waited for, and one is made; who waits has what was
+// taken, and neither a lock nor a cube of its own.
 fn count_by_cube<B: Named, R: Threads + Wait + Sync, G: Gate, L: Ledger>(
     rt: &R,
     alloc: Global,
@@ -119,14 +156,15 @@ fn count_by_cube<B: Named, R: Threads + Wait + Sync, G: Gate, L: Ledger>(
     ensures counted { IfOk result (IsCounted plan.now (release_seen pass.new)) }
 {
     let taken = board.take(rt, pass, Some(plan.vars()))?;
-    let got = cube_of(rt, alloc, shape, plan.vars(), &taken, gate, steps)?;
-    let counted = roll_up(alloc, got.cube(), plan, &taken.release)?;
-    let number = taken.release.number();
-    match got {
-        CubeFor::Kept(_cube) => {}
-        CubeFor::Made(cube) => offer(rt, alloc, board, pass, plan.vars(), number, cube),
+    if let Some(cube) = kept_cube(plan.vars(), &taken) {
+        return roll_up(alloc, cube, plan, &taken.release);
     }
-    Ok(counted)
+    let permit = board.permit(rt);
+    let counted = count_made(
+        rt, alloc, board, shape, plan, pass, &taken, &permit, gate, steps,
+    );
+    board.give_back(rt, permit);
+    counted
 }
 
 // The same where the cube would have too many cells, counted from the records.
@@ -176,9 +214,9 @@ fn count<B: Named, R: Threads + Wait + Sync, G: Gate, L: Ledger>(
 /// A query's table over the release that the pass takes. It is rolled up from the cube of its
 /// variables: the one that the board keeps, narrowed where it has more variables and advanced where
 /// it is of an earlier release, or a new one, for which the records are lent once; a cube that is
-/// made is packed where that pays and offered to the board. Where a cube would have too many cells,
-/// the table is counted from the records, which are lent once. It takes memory for the plan, a cube
-/// that is made, the cells, and all that the writing needs.
+/// made is made under a permit of the board, packed where that pays and offered to it. Where a cube
+/// would have too many cells, the table is counted from the records, which are lent once. It takes
+/// memory for the plan, a cube that is made, the cells, and all that the writing needs.
 pub(crate) fn table_over_board<'a, B: Named, R: Threads + Wait + Sync, G: Gate, L: Ledger>(
     rt: &R,
     alloc: Global,

@@ -4,8 +4,9 @@
 // first is of any chain that goes on from that turn's, so both are of one chain (`IsPast`), and
 // what counts by them knows of no turn.
 //
-// The cube of what was taken is made and offered, and a copy of it is led to release N. Where a
-// cube would be too large, release N is made from release 0, and its records are counted.
+// The cube of what was taken is made and offered, and a copy of it is led to release N, both under
+// one permit; where the kept cube serves as it is, none is needed. Where a cube would be too large,
+// release N is made from release 0, and its records are counted.
 
 ghost use Rattle.std.specs.Prelude.{◌≡◌, ◌≢◌, ◌+◌, ◌≤◌, IfOk, None, length};
 ghost use Rattle.std.specs.Arc.{arc_value};
@@ -32,9 +33,9 @@ use std::sync::ledger::Ledger;
 use std::sync::{Arc, Wait};
 use std::thread::Threads;
 use tb_base::{Memory, Rules, Shape, Steps, VarSet};
-use tb_board::{Board, Chain, Named, Step};
+use tb_board::{Board, Chain, Named, Permit, Step};
 use tb_build::Gate;
-use tb_core::{CubeFor, Taken};
+use tb_core::{CubeFor, Taken, kept_cube};
 use tb_cube::Cube;
 use tb_front::Pass;
 use tb_past::{lead_to, release_at, rules_at};
@@ -147,7 +148,7 @@ fn rules_of(alloc: Global, chain: &Chain, number: u32) -> Result<Arc<Rules>, Mem
 }
 
 // The cells of a plan's table over release n of the chain, from the cube of the release that was
-// taken: it is led there by the batches between.
+// taken, a copy, which is led there by the batches between.
 fn count_from<L: Ledger>(
     alloc: Global,
     plan: &Plan,
@@ -188,6 +189,7 @@ fn count_got<B: Named, L: Ledger>(
     past: &Past,
     number: u32,
     got: CubeFor,
+    _permit: &Permit<B>,
     steps: &mut Steps<L>,
 ) -> Result<Counted, Memory>
     requires own { IsPassOf B.name plan.now.shape pass.old }
@@ -213,6 +215,38 @@ fn count_got<B: Named, L: Ledger>(
 }
 
 // The same, with the cube of the release that was taken made first.
+fn count_past_made<B: Named, R: Threads + Wait + Sync, G: Gate, L: Ledger>(
+    rt: &R,
+    alloc: Global,
+    board: &Board<B>,
+    shape: &Shape,
+    plan: &Plan,
+    pass: &mut Pass<Step>,
+    past: &Past,
+    number: u32,
+    permit: &Permit<B>,
+    gate: &mut G,
+    steps: &mut Steps<L>,
+) -> Result<Counted, Memory>
+    requires own { IsPassOf B.name shape.now pass.old }
+    requires shape { shape.now ≡ plan.now.shape }
+    requires cube { cube_cells_of plan.now ≢ None }
+    requires past { IsPastOf plan.now pass.old past.now }
+    requires there { number ≤ length (chain_in past.now) }
+    ensures same { pass.new ≡ pass.old }
+    ensures price { steps.new ≤ steps.old + past_price (base_in past.now) (chain_in past.now) }
+    ensures counted { IfOk result (IsCounted plan.now
+        (release_numbered (base_in past.now) (chain_in past.now) number)) }
+{
+    let vars = plan.vars();
+    let got = cube_of(rt, alloc, shape, vars, &past.taken, permit, gate, steps)?;
+    count_got(
+        rt, alloc, board, plan, pass, past, number, got, permit, steps,
+    )
+}
+
+// The same, from the kept cube where that is the one of release n, and else under a permit, which
+// is waited for with no lock and no cube of its own.
 fn count_past_by_cube<B: Named, R: Threads + Wait + Sync, G: Gate, L: Ledger>(
     rt: &R,
     alloc: Global,
@@ -235,9 +269,17 @@ fn count_past_by_cube<B: Named, R: Threads + Wait + Sync, G: Gate, L: Ledger>(
     ensures counted { IfOk result (IsCounted plan.now
         (release_numbered (base_in past.now) (chain_in past.now) number)) }
 {
-    let vars = plan.vars();
-    let got = cube_of(rt, alloc, shape, vars, &past.taken, gate, steps)?;
-    count_got(rt, alloc, board, plan, pass, past, number, got, steps)
+    if number == past.taken.release.number() {
+        if let Some(cube) = kept_cube(plan.vars(), &past.taken) {
+            return roll_up(alloc, cube, plan, &past.taken.release);
+        }
+    }
+    let permit = board.permit(rt);
+    let counted = count_past_made(
+        rt, alloc, board, shape, plan, pass, past, number, &permit, gate, steps,
+    );
+    board.give_back(rt, permit);
+    counted
 }
 
 // The same where the cube would have too many cells, counted from the records of release n.

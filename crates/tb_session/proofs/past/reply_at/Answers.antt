@@ -3,7 +3,7 @@ use Rattle.tb_plan.specs.Plans.{PlanValue}
 use Rattle.tb_release.specs.Revised.{release_at}
 use Rattle.tb_session.specs.PastTables.{oldest_of}
 use Rattle.tb_session.specs.PastTaken.{base_in, chain_in}
-use Rattle.tb_session.proofs.PastCubes.{few_batches}
+use Rattle.tb_board.proofs.Chains.{few_batches}
 use Rattle.tb_session.proofs.PastShown.{cost_here, none_here, text_here, withdrawn_here}
 use Rattle.tb_tables.specs.Counting.{IsCounted}
 use Rattle.tb_session.proofs.past.reply_at.Goals as goal

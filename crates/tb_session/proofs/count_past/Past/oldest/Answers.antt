@@ -5,7 +5,7 @@ use Rattle.tb_model.specs.Releases.{ReleaseValue}
 use Rattle.tb_release.specs.Revised.{release_at}
 use Rattle.tb_session.specs.PastTaken.{base_in, chain_in}
 use Rattle.tb_session.proofs.PastCounts.{oldest_last, oldest_taken}
-use Rattle.tb_session.proofs.PastCubes.{few_batches}
+use Rattle.tb_board.proofs.Chains.{few_batches}
 use Rattle.tb_session.proofs.count_past.Past.oldest.Goals as goal
 
 pub last-last-requires : goal.last-last-requires

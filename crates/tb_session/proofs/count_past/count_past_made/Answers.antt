@@ -5,7 +5,7 @@ use Rattle.tb_cube.specs.Cubes.{cube_over}
 use Rattle.tb_session.specs.PastTaken.{base_in, chain_in}
 use Rattle.tb_session.proofs.PastPrices.{led_within}
 use Rattle.tb_tables.proofs.Cubed.{has-cube}
-use Rattle.tb_session.proofs.count_past.count_past_by_cube.Goals as goal
+use Rattle.tb_session.proofs.count_past.count_past_made.Goals as goal
 
 pub cube_of-requires-clause-has : goal.cube_of-requires-clause-has
 cube_of-requires-clause-has g c = λ κs lives. rw c.vars-vars.ensures.vars (has-cube c.args.plan.now c.args.shape.now c.requires.shape c.requires.cube)
