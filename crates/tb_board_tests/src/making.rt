@@ -34,6 +34,18 @@ pub fn leaving(alloc: Global, shape: &Shape, person: u32) -> Result<Edits, Memor
     }
 }
 
+// The edit that takes no release back.
+pub fn taking_none_back(alloc: Global, shape: &Shape) -> Result<Edits, Memory>
+    ensures { IfOk result (All (EditFits shape.now)) }
+{
+    let _ = shape;
+    let mut edits = Edits::new(alloc);
+    match edits.push(Edit::Oldest { release: 0 }) {
+        Ok(()) => Ok(edits),
+        Err(_) => Err(Memory),
+    }
+}
+
 // The set of the first two variables, over which there is a cube.
 pub fn first_two(alloc: Global, shape: &Shape) -> Result<VarSet, Memory>
     ensures has { IfOk result (HasCube shape.now) }

@@ -8,8 +8,9 @@
 //!
 //! Begin at `answering.rt`, `answer`: by role, what the line asks for (`asks_of`), a reply without
 //! a sink (`Reply`), then its text. A query (`query.rt`, `count.rt`) takes one turn, counts what it
-//! took, and offers its cube in another; `past.rt` has `at N`, `homes.rt` dwellings. Only
-//! `answer_own` and `answer_own_past` lend the custodian's own pass, and settle it after.
+//! took, and offers its cube in another; where it makes one, that is under a permit of the board.
+//! `past.rt` has `at N`, `homes.rt` dwellings. Only `answer_own` and `answer_own_past` lend the
+//! custodian's own pass, and settle it after.
 #![tactic(auto)]
 
 mod answering;
