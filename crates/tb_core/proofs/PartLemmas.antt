@@ -15,10 +15,11 @@ one_more_added chain batches new all i there one at same is so_far =
     rw (is, same) (append_assoc batches (there ∷ []) (drop (i + 1) chain)) ∙ ap (λ rest. batches ++ rest) (sym (drop_here chain i there at)) ∙ so_far
 
 -- all from a place on were added to none
-pub rest_added : (chain new : List BatchValue) (first from : ℕ) → from ≡ min (length chain) first → new ++ drop (length chain) chain ≡ drop from chain → new ≡ drop first chain
-rest_added chain new first from low all =
-    let place : from ≡ min first (length chain) = omega (arith, low) in
-    sym (append-nil new) ∙ ap (λ none. new ++ none) (sym (drop_of_length-le chain (omega arith))) ∙ all ∙ ap (λ k. drop k chain) place ∙ drop_min first chain
+pub rest_added : (chain old new : List BatchValue) (first from end : ℕ) → old ≡ [] → end ≡ length chain → from ≡ min end first → new ++ drop end chain ≡ old ++ drop from chain → new ≡ drop first chain
+rest_added chain old new first from end none last low all =
+    let place : from ≡ min first (length chain) = omega (arith, low, last) in
+    let past : drop end chain ≡ [] = drop_of_length-le chain (omega (arith, last)) in
+    sym (append-nil new) ∙ ap (λ rest. new ++ rest) (sym past) ∙ all ∙ ap (λ xs. xs ++ drop from chain) none ∙ ap (λ k. drop k chain) place ∙ drop_min first chain
 
 -- a beginning was lengthened up to a place
 pub lengthened : (chain before new : List BatchValue) (end most : ℕ) → IsPrefix before chain → end ≡ length before + min (length chain - length before) most

@@ -67,6 +67,16 @@ own_told n vars e h =
 own_back : (n : ℕ) (vars : List ℕ) (e : List ℕ × ℕ) → e.0 ≡ vars → e.1 ≡ n → is_own n vars e ≡ true
 own_back n vars e set number = and_from (bytes_eq e.0 vars) (e.1 == n) ((bytes_eq-Decides e.0 vars).1 set) (eq-eqb e.1 n number)
 
+-- whether it has to be made, by what was found
+pub new_where : (vars : List ℕ) (taken : Taken) (hit : Hit) (b : Bool) → taken.hit ≡ Some hit → is_own (number_of taken) vars ((hit_of hit).cube.vars, hit.number) ≡ b
+    → is_new (number_of taken) vars (found_in taken) ≡ not b
+new_where vars taken hit b is own =
+    ap (λ (o : Option Hit). is_new (number_of taken) vars (option_map (λ (h : Hit). ((hit_of h).cube.vars, h.number)) o)) is ∙ ap not own
+
+pub new_where_none : (vars : List ℕ) (taken : Taken) → taken.hit ≡ None → is_new (number_of taken) vars (found_in taken) ≡ true
+new_where_none vars taken is =
+    ap (λ (o : Option Hit). is_new (number_of taken) vars (option_map (λ (h : Hit). ((hit_of h).cube.vars, h.number)) o)) is
+
 -- ---- of a chain
 nothing_after : {A : Type 0} (n : ℕ) (xs : List A) → drop n (take n xs) ≡ []
 nothing_after zero [] = refl
@@ -200,7 +210,7 @@ module _ (shape : List ℕ) (base : ReleaseValue) (chain : List BatchValue) (var
   IsOwn hit b = is_own (number_of taken) vars ((hit_of hit).cube.vars, hit.number) ≡ b
 
   pub new_by : (hit : Hit) (b : Bool) → taken.hit ≡ Some hit → IsOwn hit b → is_new (number_of taken) vars (found_in taken) ≡ not b
-  new_by hit b is own = ap (is_new (number_of taken) vars) (found_as hit is) ∙ ap not own
+  new_by hit b is own = new_where vars taken hit b is own
 
   pub cube_kept : (hit : Hit) → taken.hit ≡ Some hit → IsOwn hit true → unpacked (arc_value hit.cube) ≡ cube_over shape vars (release_in taken).records
   cube_kept hit is own =

@@ -269,7 +269,8 @@ fn count_past_by_cube<B: Named, R: Threads + Wait + Sync, G: Gate, L: Ledger>(
     ensures counted { IfOk result (IsCounted plan.now
         (release_numbered (base_in past.now) (chain_in past.now) number)) }
 {
-    if number == past.taken.release.number() {
+    let from = past.taken.release.number();
+    if number == from {
         if let Some(cube) = kept_cube(plan.vars(), &past.taken) {
             return roll_up(alloc, cube, plan, &past.taken.release);
         }

@@ -1,33 +1,35 @@
-use Rattle.std.proofs.Common.{◌≡◌, ◌∙◌, ap, sym, List, ℕ, Some}
+use Rattle.std.proofs.Common.{◌≡◌, ◌∙◌, ap, subst, sym, List, ℕ}
+use Rattle.std.specs.Prelude.{IfOk}
+use Rattle.tb_base.specs.Records.{AllFit}
 use Rattle.tb_board.specs.Starts.{StartValue}
-use Rattle.tb_board.proofs.Taking.{may_offer, taken_for}
-use Rattle.tb_core.specs.Got.{cube_got}
-use Rattle.tb_core.specs.Takes.{number_of, release_in}
-use Rattle.tb_cube.specs.Cubes.{cube_over, unpacked}
-use Rattle.tb_tables.proofs.Cubed.{has-cube}
+use Rattle.tb_board.proofs.Taking.{taken_for}
+use Rattle.tb_core.specs.Takes.{IsTaken, release_in}
+use Rattle.tb_cube.specs.Cubes.{cube_over}
+use Rattle.tb_model.specs.Releases.{ReleaseValue}
+use Rattle.tb_plan.specs.Plans.{vars_of}
+use Rattle.tb_tables.specs.Counting.{IsCounted}
 use Rattle.tb_session.proofs.count.count_by_cube.Goals as goal
 
-pub cube_of-requires-clause-has : goal.cube_of-requires-clause-has
-cube_of-requires-clause-has g c = λ κs lives. rw c.vars-2.ensures.vars (has-cube c.args.plan.now c.args.shape.now c.requires.shape c.requires.cube)
-
-pub cube_of-requires-clause-taken : goal.cube_of-requires-clause-taken
-cube_of-requires-clause-taken g c = λ κs lives.
-    let seen = c.take.new.pass in
-    let shape : seen.start.shape ≡ c.args.shape.now = ap (λ (s : StartValue). s.shape) c.in_ok-taken.ensures.later.base ∙ c.requires.own.fits in
-    let vars : c.vars-2.result.now ≡ c.vars.result.now = c.vars-2.ensures.vars ∙ sym c.vars.ensures.vars in
-    (seen.start.base, seen.list, rw vars (taken_for seen c.vars.result.now c.args.shape.now c.in_ok-taken.taken c.in_ok-taken.ensures.taken shape))
-
--- a cube that was made is one of the chain that the pass has seen
-pub offer-requires-clause-cube : goal.offer-requires-clause-cube
-offer-requires-clause-cube g c =
+-- the kept cube is that of the plan
+pub roll_up-requires-clause-cube : goal.roll_up-requires-clause-cube
+roll_up-requires-clause-cube g c =
+    let plan = c.args.plan.now in
     let seen = c.take.new.pass in
     let taken = c.in_ok-taken.taken in
-    let shape : seen.start.shape ≡ c.args.shape.now = ap (λ (s : StartValue). s.shape) c.in_ok-taken.ensures.later.base ∙ c.requires.own.fits in
-    let vars : c.vars-2.result.now ≡ c.vars-in-Made.result.now = c.vars-2.ensures.vars ∙ sym c.vars-in-Made.ensures.vars in
-    let number : c.number-number.result ≡ number_of taken = c.number-number.ensures ∙ ap (λ r. r.number) c.deref-2.ensures in
-    let cube : unpacked c.in-Made.cube ≡ cube_over seen.start.shape c.vars-in-Made.result.now (release_in taken).records =
-    sym (ap cube_got c.in-Made.is)
-    ∙ c.in_ok-got.ensures.cube
-    ∙ ap (λ (s : List ℕ). cube_over s c.vars-2.result.now (release_in taken).records) (sym shape)
-    ∙ ap (λ (vs : List ℕ). cube_over seen.start.shape vs (release_in taken).records) vars in
-    may_offer seen (Some c.vars.result.now) taken c.vars-in-Made.result.now c.number-number.result c.in-Made.cube c.in_ok-taken.ensures.taken number cube
+    let shape : seen.start.shape ≡ plan.shape = ap (λ (s : StartValue). s.shape) c.in_ok-taken.ensures.later.base ∙ c.requires.own.fits ∙ c.requires.shape in
+    let vars : c.vars.result.now ≡ c.vars-2.result.now = c.vars.ensures.vars ∙ sym c.vars-2.ensures.vars in
+    let is = subst (λ (vs : List ℕ). IsTaken plan.shape seen.start.base seen.list vs taken) vars (taken_for seen c.vars.result.now plan.shape taken c.in_ok-taken.ensures.taken shape) in
+    c.in-Some.ensures.cube plan.shape seen.start.base seen.list is
+    ∙ ap (λ (vs : List ℕ). cube_over plan.shape vs (release_in taken).records) c.vars-2.ensures.vars
+    ∙ ap (λ (r : ReleaseValue). cube_over plan.shape (vars_of plan) r.records) (sym c.deref.ensures)
+
+pub roll_up-requires-clause-fit : goal.roll_up-requires-clause-fit
+roll_up-requires-clause-fit g c =
+    let seen = c.take.new.pass in
+    let taken = c.in_ok-taken.taken in
+    let shape : seen.start.shape ≡ c.args.plan.now.shape = ap (λ (s : StartValue). s.shape) c.in_ok-taken.ensures.later.base ∙ c.requires.own.fits ∙ c.requires.shape in
+    rw c.deref.ensures (subst (λ (s : List ℕ). AllFit s (release_in taken).records) shape c.in_ok-taken.ensures.taken.fit)
+
+pub returns-in-Some-clause-counted : goal.returns-in-Some-clause-counted
+returns-in-Some-clause-counted g c =
+    subst (λ (r : ReleaseValue). IfOk c.roll_up.result (IsCounted c.args.plan.now r)) (c.deref.ensures ∙ c.in_ok-taken.ensures.taken.release) c.roll_up.ensures.counted
