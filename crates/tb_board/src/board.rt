@@ -139,6 +139,7 @@ impl<B: Named> Board<B> {
 
     // Lengthens the first part of the chain, part by part, until it is the whole chain. Fewer
     // batches than there is room for are a whole chain.
+    #[tactic(auto, using(tb_front::proofs::Holding::seen_more))]
     fn lengthen(
         &self,
         rt: &impl Wait,
@@ -164,6 +165,7 @@ impl<B: Named> Board<B> {
     /// Release 0 and the whole chain, which the pass sees, also where the call is out of memory. It
     /// is copied part by part, in as many turns as it is long, each of so many batches at most; it
     /// is that of the last turn. It takes memory for a list of the batches, each of which is shared.
+    #[tactic(auto, using(tb_front::proofs::Holding::seen_more))]
     pub fn chain(&self, rt: &impl Wait, pass: &mut Pass<Step>) -> Result<Chain, Memory>
         requires { pass.old.name ≡ B.name }
         ensures later { IsLater pass.old pass.new }

@@ -200,7 +200,8 @@ fn wrong_release<L: Ledger>(
     requires some { 0 < L.parts }
 {
     let mut steps = Steps::<L>::new(blank);
-    let chain = desk.chain()?;
+    let stats = desk.stats();
+    let chain = desk.beginning(stats.release as usize)?;
     if chain.len() != count as usize {
         return Err(Memory);
     }
