@@ -22,11 +22,11 @@ rest_added chain old new first from end none last low all =
     sym (append-nil new) ∙ ap (λ rest. new ++ rest) (sym past) ∙ all ∙ ap (λ xs. xs ++ drop from chain) none ∙ ap (λ k. drop k chain) place ∙ drop_min first chain
 
 -- a beginning was lengthened up to a place
-pub lengthened : (chain before new : List BatchValue) (end most : ℕ) → IsPrefix before chain → end ≡ length before + min (length chain - length before) most
-    → new ++ drop end chain ≡ before ++ drop (length before) chain → new ≡ take (length before + most) chain
-lengthened chain before new end most p up all =
-    let rest : drop (length before) chain ≡ p.0 = ap (drop (length before)) (sym p.1) ∙ drop-append_seam before p.0 in
+pub lengthened : (chain before new : List BatchValue) (first end most : ℕ) → IsPrefix before chain → first ≡ length before → end ≡ first + min (length chain - first) most
+    → new ++ drop end chain ≡ before ++ drop first chain → new ≡ take (length before + most) chain
+lengthened chain before new first end most p here up all =
+    let rest : drop first chain ≡ p.0 = ap (λ n. drop n chain) here ∙ ap (drop (length before)) (sym p.1) ∙ drop-append_seam before p.0 in
     let whole : new ++ drop end chain ≡ take end chain ++ drop end chain = all ∙ ap (λ r. before ++ r) rest ∙ p.1 ∙ sym (take-append-drop end chain) in
     let long : length before ≤ length chain = omega (arith, sym (ap length p.1) ∙ length-append before p.0) in
-    let place : end ≡ min (length before + most) (length chain) = omega (arith, up, long) in
+    let place : end ≡ min (length before + most) (length chain) = omega (arith, up, here, long) in
     append_cancel_right new (take end chain) (drop end chain) whole ∙ ap (λ k. take k chain) place ∙ take_min (length before + most) chain
