@@ -1,4 +1,4 @@
-use Rattle.std.proofs.Common.{◌≡◌, true, false, ◌∙◌, ap, refl, sym}
+use Rattle.std.proofs.Common.{true, false, ◌∙◌, ap, sym}
 use Rattle.tb_core.specs.Got.{is_own}
 use Rattle.tb_core.specs.Views.{hit_of}
 use Rattle.tb_cube.specs.Cubes.{unpacked}
