@@ -1,6 +1,7 @@
 -- What a request is answered.
-use Rattle.std.specs.Prelude.{◌≡◌, ◌⊎◌, ◌==◌, ◌+◌, ◌-◌, ◌&&◌, ◌||◌, ℕ, Bool, true, false, List, [], ◌∷◌, ◌++◌, Option, None, Some, codes}
-use Rattle.std.specs.Prelude.{bytes_eq, take, drop, length, nat_le, if◌then◌else◌}
+use Rattle.std.specs.Prelude.{◌≡◌, ◌⊎◌, ◌==◌, ◌+◌, ◌-◌, ◌&&◌, ℕ, Bool, true, false, List, [], ◌∷◌, ◌++◌, Option, None, Some, codes}
+use Rattle.std.specs.Prelude.{bytes_eq, take, drop, length, nat_eq, nat_le, if◌then◌else◌}
+use Rattle.std.specs.List.{ends_with}
 use Rattle.http.specs.declared.request.Request.{Request}
 use Rattle.http1.specs.Fields.{Header}
 use Rattle.http_server.specs.declared.response.Response.{Response}
@@ -19,9 +20,6 @@ use Rattle.tb_web.specs.declared.asked.Other.TheVariants as other
 
 abbrev pub begins_with : List ℕ → List ℕ → Bool
 begins_with front text = bytes_eq (take (length front) text) front
-
-abbrev pub ends_with : List ℕ → List ℕ → Bool
-ends_with back text = bytes_eq (drop (length text - length back) text) back
 
 -- The status of a reply: of none, of one that is out of memory, of a release that there isn't, of
 -- one that was taken back, of another refusal, and of a table or a description.
@@ -110,12 +108,19 @@ IsTold form last text response =
 
 -- ---- what the server says of itself
 
+-- the last line says that the journal is closed
+abbrev pub is_closed : List ℕ → Bool
+is_closed text = ends_with nat_eq text (codes "\njournal closed\n")
+
+-- a server that says so can't take edits any more
+abbrev pub well_status : About → List ℕ → ℕ
+well_status about.Health text = if is_closed text then 503 else 200
+well_status about.Catalogue text = 200
+well_status about.Metrics text = 200
+
 -- the status of such a text: nothing stands for want of memory
 abbrev pub account_status : About → List ℕ → ℕ
-account_status about.Health text =
-    if length text == 0 || ends_with (codes "\njournal closed\n") text then 503 else 200
-account_status about.Catalogue text = if length text == 0 then 503 else 200
-account_status about.Metrics text = if length text == 0 then 503 else 200
+account_status about text = if length text == 0 then 503 else well_status about text
 
 abbrev pub account_type : About → List ℕ
 account_type about.Health = plain_text
@@ -149,22 +154,31 @@ abbrev pub is_last : ℕ → Bool
 is_last rest = nat_le rest 1
 
 -- where it is given which reply leads from a state to which
-module _ {S : Type 0} (office : OfficeValue) (Step : S → Asked → ReplyValue → S → Type 0) where
-  -- a response tells the reply to what was asked
-  abbrev pub IsReplied : Asked → Bool → S → Request (List ℕ) → Response → S → Type 0
-  IsReplied asked last old request response new =
+module _ {S : Type 0} (Step : S → Asked → ReplyValue → S → Type 0) where
+  -- a response in such a form tells the reply to a line
+  abbrev pub IsLineAnswered : Form → Bool → S → List ℕ → Response → S → Type 0
+  IsLineAnswered form last old line response new =
+      (reply : ReplyValue) × Step old (Line line) reply new × IsTold form last reply.text response
+
+  -- a response tells what the server says of itself
+  abbrev pub IsAccountAnswered : About → Bool → S → Response → S → Type 0
+  IsAccountAnswered about last old response new =
+      (reply : ReplyValue) × Step old (Account about) reply new
+      × IsAccountTold about last reply.text response
+
+  -- a request is answered that asks this of the voice, of an office with this page, of which it is
+  -- known whether the request is for it
+  abbrev pub IsAnsweredAs : List ℕ → Bool → Option Asked → Bool → S → Request (List ℕ) → Response
+      → S → Type 0
+  IsAnsweredAs page ours (Some asked) last old request response new =
       (reply : ReplyValue) × Step old asked reply new
       × IsAskedTold asked request last reply.text response
-
-  abbrev pub IsAnsweredAs : Option Asked → Bool → S → Request (List ℕ) → Response → S → Type 0
-  IsAnsweredAs (Some asked) last old request response new =
-      IsReplied asked last old request response new
-  IsAnsweredAs None last old request response new =
-      (new ≡ old)
-      × IsOther office.page (other_of (is_for office.hosts request) request) last response
+  IsAnsweredAs page ours None last old request response new =
+      (new ≡ old) × IsOther page (other_of ours request) last response
 
   -- a request that asks something of the voice is answered by its reply, and every other one
   -- changes nothing
-  abbrev pub IsAnswered : Bool → S → Request (List ℕ) → Response → S → Type 0
-  IsAnswered last old request response new =
-      IsAnsweredAs (asked_of office.hosts request) last old request response new
+  abbrev pub IsAnswered : OfficeValue → Bool → S → Request (List ℕ) → Response → S → Type 0
+  IsAnswered office last old request response new =
+      IsAnsweredAs office.page (is_for office.hosts request) (asked_of office.hosts request) last
+      old request response new

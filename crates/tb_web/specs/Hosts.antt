@@ -6,20 +6,21 @@ use Rattle.std.specs.List.{list_all, list_any, prefix_len}
 
 use Rattle.http.specs.declared.request.Request.{Request}
 use Rattle.http.specs.Request.{head_of}
-use Rattle.http_header.specs.FieldValue.{FieldValue}
 use Rattle.http_header.specs.HeaderMap.{get}
 use Rattle.http_uri.specs.Grammar.{authority_host}
 use Rattle.http_uri.specs.Uri.{uri_authority}
 
 -- the host in a target that has one, and else the field's value
-abbrev pub host_in : Option (List ℕ) → Option FieldValue → Option (List ℕ)
+abbrev pub host_in : Option (List ℕ) → Option (List ℕ) → Option (List ℕ)
 host_in (Some authority) field = Some (authority_host authority)
-host_in None field = option_map (λ v. v.bytes) field
+host_in None field = field
+
+abbrev pub host_field : Request (List ℕ) → Option (List ℕ)
+host_field request = option_map (λ v. v.bytes) (get (head_of request).headers (codes "host"))
 
 -- the host for which a request is, maybe with a port
 abbrev pub host_of : Request (List ℕ) → Option (List ℕ)
-host_of request =
-    host_in (uri_authority (head_of request).uri) (get (head_of request).headers (codes "host"))
+host_of request = host_in (uri_authority (head_of request).uri) (host_field request)
 
 -- what stands before a port; of an address in brackets its beginning
 abbrev pub without_port : List ℕ → List ℕ
@@ -34,13 +35,13 @@ without_dot name = if is_last_a_dot name then take (length name - 1) name else n
 abbrev pub is_digit_or_dot : ℕ → Bool
 is_digit_or_dot b = is_ascii_digit b || (b == 46)
 
-abbrev pub is_in_brackets : List ℕ → Bool
-is_in_brackets name = not (length name == 0) && (slice_index name 0 == 91)
+abbrev pub are_digits_and_dots : List ℕ → Bool
+are_digits_and_dots name = list_all is_digit_or_dot name
 
--- No name has only digits and dots, or a bracket: these are addresses.
+-- No name has only digits and dots, or begins with a bracket: these are addresses.
 abbrev pub is_address : List ℕ → Bool
 is_address name =
-    is_in_brackets name || (not (length name == 0) && list_all is_digit_or_dot name)
+    not (length name == 0) && ((slice_index name 0 == 91) || are_digits_and_dots name)
 
 -- one of some names, which are in lower case
 abbrev pub is_one_of : List (List ℕ) → List ℕ → Bool

@@ -2,7 +2,7 @@
 use Rattle.std.specs.Prelude.{ℕ, ◌+◌, ◌&&◌, ◌||◌, Bool, true, false, not, List, [], ◌∷◌, ◌++◌, ◌==◌, length, map, take, drop, Option, None, Some, codes}
 use Rattle.std.specs.Prelude.{bytes_eq, is_some, nat_le, if◌then◌else◌}
 use Rattle.std.specs.Char.{is_ascii_hexdigit}
-use Rattle.std.specs.List.{list_all, prefix_len}
+use Rattle.std.specs.List.{prefix_len}
 use Rattle.http.specs.declared.request.Request.{Request}
 use Rattle.http.specs.Request.{head_of, body_of}
 use Rattle.http_uri.specs.Uri.{uri_path, uri_query}
@@ -62,14 +62,18 @@ has_two_digits (a ∷ b ∷ rest) = is_ascii_hexdigit a && is_ascii_hexdigit b
 abbrev pub is_value : List ℕ → Bool
 is_value [] = true
 is_value (b ∷ rest) =
-    not (b == 38) && ((not (b == 37) || has_two_digits rest) && is_value rest)
+    if (b == 38) || ((b == 37) && not (has_two_digits rest)) then false else is_value rest
+
+-- a text, and behind it what a value stands for
+abbrev pub with_form_text : List ℕ → List ℕ → List ℕ
+with_form_text front value = front ++ form_text value
 
 -- a text, and behind it the value of a query that has this field and no other
 abbrev pub with_value : List ℕ → List ℕ → Option (List ℕ) → Option (List ℕ)
 with_value front name None = None
 with_value front name (Some query) =
     if bytes_eq (take (length name) query) name && is_value (drop (length name) query)
-    then Some (front ++ form_text (drop (length name) query)) else None
+    then Some (with_form_text front (drop (length name) query)) else None
 
 -- ---- requests
 
@@ -88,15 +92,19 @@ is_reading request =
 abbrev pub form_of : Request (List ℕ) → Form
 form_of request = if has_path (codes "/table.csv") request then form.Csv else form.Plain
 
+-- the text that a request about a line asks about
+abbrev pub line_text : Request (List ℕ) → Option (List ℕ)
+line_text request =
+    if has_method (codes "POST") request then Some (body_of request)
+    else if is_reading request
+    then with_value (codes "") (codes "line=") (uri_query (head_of request).uri)
+    else None
+
 -- the text that a request to one of our names asks about: a body, or the value in a query
 abbrev pub asked_text : Bool → Request (List ℕ) → Option (List ℕ)
 asked_text ours request =
     if not ours then None
-    else if has_path (codes "/ask") request then
-    (if has_method (codes "POST") request then Some (body_of request)
-    else if is_reading request
-    then with_value [] (codes "line=") (uri_query (head_of request).uri)
-    else None)
+    else if has_path (codes "/ask") request then line_text request
     else if has_path (codes "/table.csv") request && is_reading request
     then with_value (codes "table ") (codes "query=") (uri_query (head_of request).uri)
     else None
@@ -113,6 +121,16 @@ about_path request =
 abbrev pub about_of : Bool → Request (List ℕ) → Option About
 about_of ours request = if ours && is_reading request then about_path request else None
 
+-- what a request to one of our names asks, where it asks for no line
+abbrev pub other_path : Request (List ℕ) → Other
+other_path request =
+    if has_path (codes "/table.csv") request then
+    (if is_reading request then other.NoLine else other.NotForReading)
+    else if has_path (codes "/") request then
+    (if is_reading request then other.Page else other.NotForReading)
+    else if is_some (about_path request) then other.NotForReading
+    else other.NoSuchPath
+
 -- what a request asks that asks for no line, and for nothing of the server
 abbrev pub other_of : Bool → Request (List ℕ) → Other
 other_of ours request =
@@ -120,12 +138,7 @@ other_of ours request =
     else if has_path (codes "/ask") request then
     (if has_method (codes "POST") request || is_reading request then other.NoLine
     else other.NotForLine)
-    else if has_path (codes "/table.csv") request then
-    (if is_reading request then other.NoLine else other.NotForReading)
-    else if has_path (codes "/") request then
-    (if is_reading request then other.Page else other.NotForReading)
-    else if is_some (about_path request) then other.NotForReading
-    else other.NoSuchPath
+    else other_path request
 
 -- the line whose reply a request asks for, where these are the names of the office
 abbrev pub line_of : List (List ℕ) → Request (List ℕ) → Option (List ℕ)

@@ -1,23 +1,79 @@
 // Responses.
 
-ghost use Rattle.std.specs.Prelude.{◌≡◌, ◌++◌, ◌∷◌, [], codes, Some, OnOk, Option, List, ℕ};
+ghost use Rattle.std.specs.Prelude.{◌≡◌, ◌++◌, ◌∷◌, [], codes, true, false, Some, OnOk, IfOk, Option, List, ℕ};
 ghost use Rattle.http_server.specs.Response.{IsBlank, IsResponse, fields_of};
 ghost use Rattle.tb_io.specs.Taken.{Took};
 ghost use Rattle.tb_web.specs.Answers as spec;
 
-use crate::asked::Other;
-use crate::page::PAGE;
+use crate::asked::{About, Form, Other, line_end};
+use crate::office::Office;
 use crate::text::Text;
-use bytes::Bytes;
+use bytes::{Bytes, BytesMut};
 use http::{HeaderName, HeaderValue, StatusCode, header};
 use http_server::Response;
-use std::alloc::AllocError;
+use std::alloc::{AllocError, Global};
 
 fn begins_with(text: &[u8], front: &[u8]) -> bool
     ensures { result ≡ spec.begins_with front.now text.now }
 {
     text.starts_with(front)
 }
+
+// Leaves nothing but a status, for want of memory.
+fn give_up(response: &mut Response)
+    ensures { IsResponse 503 [] [] response.new }
+{
+    response.clear();
+    response.status = StatusCode::SERVICE_UNAVAILABLE;
+}
+
+// ---- fields
+
+fn add_closing(response: &mut Response, last: bool) -> Result<(), AllocError>
+    ensures fields { OnOk result (fields_of response.new ≡ fields_of response.old
+        ++ spec.closing last) }
+    ensures status { response.new.status ≡ response.old.status }
+    ensures body { response.new.body ≡ response.old.body }
+{
+    if last {
+        response.add_header(header::CONNECTION, HeaderValue::from_static("close"))?;
+    }
+    Ok(())
+}
+
+fn add_base_fields(response: &mut Response, last: bool) -> Result<(), AllocError>
+    ensures fields { OnOk result (fields_of response.new ≡ fields_of response.old
+        ++ spec.base_fields last) }
+    ensures status { response.new.status ≡ response.old.status }
+    ensures body { response.new.body ≡ response.old.body }
+{
+    response.add_header(header::CACHE_CONTROL, HeaderValue::from_static("no-store"))?;
+    response.add_header(
+        header::X_CONTENT_TYPE_OPTIONS,
+        HeaderValue::from_static("nosniff"),
+    )?;
+    add_closing(response, last)?;
+    Ok(())
+}
+
+// Adds a field and then those of every response.
+fn add_with_base(
+    response: &mut Response,
+    name: HeaderName,
+    value: HeaderValue,
+    last: bool,
+) -> Result<(), AllocError>
+    ensures fields { OnOk result (fields_of response.new ≡ fields_of response.old
+        ++ (name, value.bytes) ∷ spec.base_fields last) }
+    ensures status { response.new.status ≡ response.old.status }
+    ensures body { response.new.body ≡ response.old.body }
+{
+    response.add_header(name, value)?;
+    add_base_fields(response, last)?;
+    Ok(())
+}
+
+// ---- the reply to a line
 
 // The status of a reply.
 #[tactic(auto, unfolding(crate::specs::Answers::status_of))]
@@ -39,76 +95,204 @@ fn status_of(text: &[u8]) -> StatusCode
     }
 }
 
-fn add_base_fields(response: &mut Response) -> Result<(), AllocError>
-    ensures fields { OnOk result (fields_of response.new ≡ fields_of response.old
-        ++ spec.base_fields) }
-    ensures status { response.new.status ≡ response.old.status }
-    ensures body { response.new.body ≡ response.old.body }
+fn is_table(text: &[u8]) -> bool
+    ensures { result ≡ spec.is_table text.now }
 {
-    response.add_header(header::CONNECTION, HeaderValue::from_static("close"))?;
-    response.add_header(header::CACHE_CONTROL, HeaderValue::from_static("no-store"))?;
-    response.add_header(
-        header::X_CONTENT_TYPE_OPTIONS,
-        HeaderValue::from_static("nosniff"),
-    )?;
-    Ok(())
+    begins_with(text, b"release ") && line_end(&text[8..]) + 11 <= text.len()
 }
 
-// Leaves nothing but a status, for want of memory.
-fn give_up(response: &mut Response)
-    ensures { IsResponse 503 [] [] response.new }
+fn is_csv(form: Form, text: &[u8]) -> bool
+    ensures { result ≡ spec.is_csv form text.now }
 {
-    response.clear();
-    response.status = StatusCode::SERVICE_UNAVAILABLE;
+    match form {
+        Form::Plain => false,
+        Form::Csv => is_table(text),
+    }
 }
 
-fn add_reply_fields(response: &mut Response) -> Result<(), AllocError>
-    ensures fields { OnOk result (fields_of response.new ≡ fields_of response.old
-        ++ spec.reply_fields) }
-    ensures status { response.new.status ≡ response.old.status }
-    ensures body { response.new.body ≡ response.old.body }
+// The number of the release, as the value of a field.
+fn release_of(alloc: Global, text: &[u8]) -> Result<HeaderValue, AllocError>
+    requires { spec.is_table text.now ≡ true }
+    ensures { IfOk result (λ value. value.bytes ≡ spec.release_of text.now) }
 {
+    let behind = &text[8..];
+    let end = line_end(behind);
+    match HeaderValue::from_bytes(alloc, &behind[..end]) {
+        Ok(value) => Ok(value),
+        Err(_) => Err(AllocError),
+    }
+}
+
+// The lines of a table without the first and the dot.
+fn csv_of(mut text: BytesMut) -> Result<Bytes, AllocError>
+    requires { spec.is_table text.items ≡ true }
+    ensures { IfOk result (λ csv. csv ≡ spec.csv_of text.items) }
+{
+    let front = line_end(&text.as_slice()[8..]) + 9;
+    let len = text.len();
+    let mut rest = text.freeze_to(len)?;
+    let _first_line = rest.split_to(front)?;
+    let count = rest.len() - 2;
+    rest.split_to(count)
+}
+
+fn tell_table(
+    alloc: Global,
+    text: BytesMut,
+    last: bool,
+    response: &mut Response,
+) -> Result<(), AllocError>
+    requires blank { IsBlank response.old }
+    requires table { spec.is_table text.items ≡ true }
+    ensures { OnOk result (IsResponse (spec.status_of text.items)
+        (spec.reply_fields true text.items last) (spec.reply_body true text.items) response.new) }
+{
+    response.status = status_of(text.as_slice());
+    let number = release_of(alloc, text.as_slice())?;
+    response.add_header(HeaderName::from_static("tb-release"), number)?;
+    let body = csv_of(text)?;
+    response.body.push(body)?;
+    let kind = HeaderValue::from_static("text/csv; charset=utf-8");
+    add_with_base(response, header::CONTENT_TYPE, kind, last)
+}
+
+fn tell_plain(
+    mut text: BytesMut,
+    last: bool,
+    response: &mut Response,
+) -> Result<(), AllocError>
+    requires blank { IsBlank response.old }
+    ensures { OnOk result (IsResponse (spec.status_of text.items)
+        (spec.reply_fields false text.items last) (spec.reply_body false text.items)
+        response.new) }
+{
+    response.status = status_of(text.as_slice());
+    let len = text.len();
+    let body = text.freeze_to(len)?;
+    response.body.push(body)?;
     let kind = HeaderValue::from_static("text/plain; charset=utf-8");
-    response.add_header(header::CONTENT_TYPE, kind)?;
-    add_base_fields(response)?;
-    Ok(())
+    add_with_base(response, header::CONTENT_TYPE, kind, last)
 }
 
-// Fills the response with a reply.
-fn try_tell(text: Text, response: &mut Response) -> Result<(), AllocError>
+fn try_tell(
+    alloc: Global,
+    text: Text,
+    form: Form,
+    last: bool,
+    response: &mut Response,
+) -> Result<(), AllocError>
     requires { IsBlank response.old }
     ensures { OnOk result ((bytes : List ℕ) × (text ≡ Some bytes)
-        × IsResponse (spec.status_of bytes) spec.reply_fields bytes response.new) }
+        × IsResponse (spec.status_of bytes)
+        (spec.reply_fields (spec.is_csv form bytes) bytes last)
+        (spec.reply_body (spec.is_csv form bytes) bytes) response.new) }
 {
-    let Ok(mut bytes) = text.bytes() else {
+    let Ok(bytes) = text.bytes() else {
         return Err(AllocError);
     };
-    response.status = status_of(bytes.as_slice());
-    let len = bytes.len();
-    let body = bytes.freeze_to(len)?;
-    response.body.push(body)?;
-    add_reply_fields(response)
+    if is_csv(form, bytes.as_slice()) {
+        tell_table(alloc, bytes, last, response)
+    } else {
+        tell_plain(bytes, last, response)
+    }
 }
 
-/// Fills the response with a reply.
-pub(crate) fn tell(text: Text, response: &mut Response)
+/// Fills the response with a reply, in such a form.
+pub(crate) fn tell(alloc: Global, text: Text, form: Form, last: bool, response: &mut Response)
     requires { IsBlank response.old }
     ensures told { (content : List ℕ) → Took (Some []) text content
-        → spec.IsTold content response.new }
+        → spec.IsTold form last content response.new }
 {
-    if try_tell(text, response).is_err() {
+    if try_tell(alloc, text, form, last, response).is_err() {
         give_up(response);
     }
 }
 
-fn add_page_fields(response: &mut Response) -> Result<(), AllocError>
+// ---- what the server says of itself
+
+fn is_closed(text: &[u8]) -> bool
+    ensures { result ≡ spec.is_closed text.now }
+{
+    text.ends_with(b"\njournal closed\n")
+}
+
+fn well_status(about: About, text: &[u8]) -> StatusCode
+    ensures { result ≡ spec.well_status about text.now }
+{
+    match about {
+        About::Health => {
+            if is_closed(text) {
+                StatusCode::SERVICE_UNAVAILABLE
+            } else {
+                StatusCode::OK
+            }
+        }
+        About::Catalogue => StatusCode::OK,
+        About::Metrics => StatusCode::OK,
+    }
+}
+
+fn account_status(about: About, text: &[u8]) -> StatusCode
+    ensures { result ≡ spec.account_status about text.now }
+{
+    if text.is_empty() {
+        StatusCode::SERVICE_UNAVAILABLE
+    } else {
+        well_status(about, text)
+    }
+}
+
+fn account_type(about: About) -> HeaderValue
+    ensures { result.bytes ≡ spec.account_type about }
+{
+    match about {
+        About::Health => HeaderValue::from_static("text/plain; charset=utf-8"),
+        About::Catalogue => HeaderValue::from_static("application/json"),
+        About::Metrics => HeaderValue::from_static("text/plain; version=0.0.4; charset=utf-8"),
+    }
+}
+
+fn try_account(
+    text: Text,
+    about: About,
+    last: bool,
+    response: &mut Response,
+) -> Result<(), AllocError>
+    requires { IsBlank response.old }
+    ensures { OnOk result ((bytes : List ℕ) × (text ≡ Some bytes)
+        × IsResponse (spec.account_status about bytes)
+        (spec.typed_fields (spec.account_type about) last) bytes response.new) }
+{
+    let Ok(mut bytes) = text.bytes() else {
+        return Err(AllocError);
+    };
+    response.status = account_status(about, bytes.as_slice());
+    let len = bytes.len();
+    let body = bytes.freeze_to(len)?;
+    response.body.push(body)?;
+    let kind = account_type(about);
+    add_with_base(response, header::CONTENT_TYPE, kind, last)
+}
+
+/// Fills the response with what the server says of itself.
+pub(crate) fn account(text: Text, about: About, last: bool, response: &mut Response)
+    requires { IsBlank response.old }
+    ensures told { (content : List ℕ) → Took (Some []) text content
+        → spec.IsAccountTold about last content response.new }
+{
+    if try_account(text, about, last, response).is_err() {
+        give_up(response);
+    }
+}
+
+// ---- the page and refusals
+
+fn add_page_fields(response: &mut Response, last: bool) -> Result<(), AllocError>
     ensures fields { OnOk result (fields_of response.new ≡ fields_of response.old
-        ++ spec.page_fields) }
+        ++ spec.page_fields last) }
     ensures status { response.new.status ≡ response.old.status }
     ensures body { response.new.body ≡ response.old.body }
 {
-    let kind = HeaderValue::from_static("text/html; charset=utf-8");
-    response.add_header(header::CONTENT_TYPE, kind)?;
     let policy = HeaderValue::from_static(
         "default-src 'none'; script-src 'unsafe-inline'; style-src 'unsafe-inline'; connect-src 'self'; img-src data:; base-uri 'none'; form-action 'none'; frame-ancestors 'none'",
     );
@@ -117,75 +301,67 @@ fn add_page_fields(response: &mut Response) -> Result<(), AllocError>
         header::REFERRER_POLICY,
         HeaderValue::from_static("no-referrer"),
     )?;
-    add_base_fields(response)?;
+    let kind = HeaderValue::from_static("text/html; charset=utf-8");
+    add_with_base(response, header::CONTENT_TYPE, kind, last)?;
     Ok(())
 }
 
-fn try_show(response: &mut Response) -> Result<(), AllocError>
+fn try_show(office: &Office, last: bool, response: &mut Response) -> Result<(), AllocError>
     requires { IsBlank response.old }
-    ensures { OnOk result (IsResponse 200 spec.page_fields PAGE.now response.new) }
+    ensures { OnOk result (IsResponse 200 (spec.page_fields last) office.now.page response.new) }
 {
-    response.body.push(Bytes::from_static(PAGE))?;
-    add_page_fields(response)
+    let page = office.page()?;
+    response.body.push(page)?;
+    add_page_fields(response, last)
 }
 
-fn show(response: &mut Response)
+fn show(office: &Office, last: bool, response: &mut Response)
     requires { IsBlank response.old }
-    ensures { spec.IsGiven 200 spec.page_fields PAGE.now response.new }
+    ensures { spec.IsGiven 200 (spec.page_fields last) office.now.page response.new }
 {
-    if try_show(response).is_err() {
+    if try_show(office, last, response).is_err() {
         give_up(response);
     }
 }
 
 // Refuses a request.
-fn refuse(response: &mut Response, status: StatusCode)
+fn refuse(response: &mut Response, status: StatusCode, last: bool)
     requires { IsBlank response.old }
-    ensures { spec.IsGiven status spec.base_fields [] response.new }
+    ensures { spec.IsGiven status (spec.base_fields last) [] response.new }
 {
     response.status = status;
-    if add_base_fields(response).is_err() {
+    if add_base_fields(response, last).is_err() {
         give_up(response);
     }
-}
-
-// Adds a field and then those of every response.
-fn add_before_base(
-    response: &mut Response,
-    name: HeaderName,
-    value: HeaderValue,
-) -> Result<(), AllocError>
-    ensures fields { OnOk result (fields_of response.new ≡ fields_of response.old
-        ++ (name, value.bytes) ∷ spec.base_fields) }
-    ensures status { response.new.status ≡ response.old.status }
-    ensures body { response.new.body ≡ response.old.body }
-{
-    response.add_header(name, value)?;
-    add_base_fields(response)?;
-    Ok(())
 }
 
 // Refuses a method, and says which there are.
-fn refuse_method(response: &mut Response, allowed: HeaderValue)
+fn refuse_method(response: &mut Response, allowed: HeaderValue, last: bool)
     requires { IsBlank response.old }
-    ensures { spec.IsGiven 405 ((codes "allow", allowed.bytes) ∷ spec.base_fields) [] response.new }
+    ensures { spec.IsGiven 405 ((codes "allow", allowed.bytes) ∷ spec.base_fields last) []
+        response.new }
 {
     response.status = StatusCode::METHOD_NOT_ALLOWED;
-    if add_before_base(response, header::ALLOW, allowed).is_err() {
+    if add_with_base(response, header::ALLOW, allowed, last).is_err() {
         give_up(response);
     }
 }
 
-/// Fills the response to a request that asks for no reply.
-pub(crate) fn fill_other(other: Other, response: &mut Response)
+/// Fills the response to a request that asks for no line, and for nothing of the server.
+pub(crate) fn fill_other(other: Other, office: &Office, last: bool, response: &mut Response)
     requires { IsBlank response.old }
-    ensures { spec.IsOther other response.new }
+    ensures { spec.IsOther office.now.page other last response.new }
 {
     match other {
-        Other::Page => show(response),
-        Other::NoSuchPath => refuse(response, StatusCode::NOT_FOUND),
-        Other::NotForPage => refuse_method(response, HeaderValue::from_static("GET, HEAD")),
-        Other::NotForLine => refuse_method(response, HeaderValue::from_static("GET, HEAD, POST")),
-        Other::NoLine => refuse(response, StatusCode::BAD_REQUEST),
+        Other::Page => show(office, last, response),
+        Other::Misdirected => refuse(response, StatusCode::MISDIRECTED_REQUEST, last),
+        Other::NoSuchPath => refuse(response, StatusCode::NOT_FOUND, last),
+        Other::NotForReading => {
+            refuse_method(response, HeaderValue::from_static("GET, HEAD"), last)
+        }
+        Other::NotForLine => {
+            refuse_method(response, HeaderValue::from_static("GET, HEAD, POST"), last)
+        }
+        Other::NoLine => refuse(response, StatusCode::BAD_REQUEST, last),
     }
 }
