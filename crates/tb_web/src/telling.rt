@@ -275,7 +275,7 @@ fn try_account(
 }
 
 /// Fills the response with what the server says of itself.
-pub(crate) fn account(text: Text, about: About, last: bool, response: &mut Response)
+pub(crate) fn tell_account(text: Text, about: About, last: bool, response: &mut Response)
     requires { IsBlank response.old }
     ensures told { (content : List ℕ) → Took (Some []) text content
         → spec.IsAccountTold about last content response.new }

@@ -10,6 +10,6 @@ returns-clause-answered g c =
     let took = said.written.all all in (
       said.reply,
       said.step,
-      c.account-2.ensures.told said.reply.text
+      c.tell_account.ensures.told said.reply.text
           (subst (λ (t : Option (List ℕ)). Took t c.account.new.sink said.reply.text) c.new-text.ensures took),
     )
