@@ -1,0 +1,4 @@
+pub mod Accounts
+pub mod Ready
+pub mod Sharing
+pub mod Transcripts
