@@ -20,6 +20,7 @@ use tb_web::{About, Voice};
 
 /// An analyst, who asks over a setting and counts the steps. It is never a custodian. What workers
 /// count is told by `counters`.
+#[derive(Drop)]
 pub struct Analyst<'a, B: Named, R: Threads + Wait + Sync, C: Counters, L: Ledger> {
     pub setting: &'a Setting<'a, B, R>,
     pub counters: &'a C,

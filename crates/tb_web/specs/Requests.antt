@@ -1,6 +1,6 @@
 -- What a request asks.
 use Rattle.std.specs.Prelude.{ℕ, ◌+◌, ◌&&◌, ◌||◌, Bool, true, false, not, List, [], ◌∷◌, ◌++◌, ◌==◌, length, map, take, drop, Option, None, Some, codes}
-use Rattle.std.specs.Prelude.{bytes_eq, is_some, nat_le, if◌then◌else◌}
+use Rattle.std.specs.Prelude.{bytes_eq, is_some, nat_le, slice_index, if◌then◌else◌}
 use Rattle.std.specs.Char.{is_ascii_hexdigit}
 use Rattle.std.specs.List.{prefix_len}
 use Rattle.http.specs.declared.request.Request.{Request}
@@ -54,9 +54,9 @@ form_text value = percent_decode (with_blanks value)
 
 -- two hexadecimal digits come first
 abbrev pub has_two_digits : List ℕ → Bool
-has_two_digits [] = false
-has_two_digits (a ∷ []) = false
-has_two_digits (a ∷ b ∷ rest) = is_ascii_hexdigit a && is_ascii_hexdigit b
+has_two_digits text =
+    nat_le 2 (length text)
+    && (is_ascii_hexdigit (slice_index text 0) && is_ascii_hexdigit (slice_index text 1))
 
 -- no `&` follows, and two digits come behind each `%`
 abbrev pub is_value : List ℕ → Bool

@@ -104,10 +104,7 @@ fn with_blanks(alloc: Global, value: &[u8]) -> Result<Vec<u8>, AllocError>
 fn has_two_digits(text: &[u8]) -> bool
     ensures { result ≡ spec.has_two_digits text.now }
 {
-    match text {
-        [a, b, ..] => a.is_ascii_hexdigit() && b.is_ascii_hexdigit(),
-        _ => false,
-    }
+    text.len() >= 2 && (text[0].is_ascii_hexdigit() && text[1].is_ascii_hexdigit())
 }
 
 // Whether no other field follows, and two digits come behind each `%`.

@@ -98,7 +98,7 @@ fn status_of(text: &[u8]) -> StatusCode
 fn is_table(text: &[u8]) -> bool
     ensures { result ≡ spec.is_table text.now }
 {
-    begins_with(text, b"release ") && line_end(&text[8..]) + 11 <= text.len()
+    text.starts_with(b"release ") && line_end(&text[8..]) + 11 <= text.len()
 }
 
 fn is_csv(form: Form, text: &[u8]) -> bool
