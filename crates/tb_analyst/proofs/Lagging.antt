@@ -47,8 +47,8 @@ module _ (setup : SetupValue) (base : ReleaseValue) (line : List ℕ) (reply : R
   described at after early is reply_is =
       let other : Asks = asks_at_or (past_number (words_of line)) (asks_by role.Analyst (words_of line)) in
       subst (λ b. IsReplyTo (if is_passed_over line then asks.Nothing else if b then asks.Description else other) setup base early line reply early) (sym is)
-          (anywhere (is_passed_over line) other at after early
-          (subst (λ b. IsReplyTo (if is_passed_over line then asks.Nothing else if b then asks.Description else other) setup base at line reply after) is reply_is))
+      (anywhere (is_passed_over line) other at after early
+      (subst (λ b. IsReplyTo (if is_passed_over line then asks.Nothing else if b then asks.Description else other) setup base at line reply after) is reply_is))
 
   -- one that sees at most what the later state sees leads on, to a state that lags
   abbrev Led : StateValue → StateValue → Type 0

@@ -1,11 +1,13 @@
 -- What a server says of itself beside the lines of an analyst.
-use Rattle.std.specs.Prelude.{◌≡◌, ◌⊎◌, ◌≤◌, ◌++◌, ℕ, List, [], ◌∷◌, codes, decimal, is_some, length}
+use Rattle.std.specs.Prelude.{◌≡◌, ◌⊎◌, ◌++◌, ℕ, List, [], Option, codes, decimal, is_some, length}
 use mathlib.Core.List.{IsPrefix}
 use Rattle.tb_catalogue.specs.Catalogues.{catalogue_text}
-use Rattle.tb_lines.specs.Outputs.{AtPrice, Charged, ReplyValue}
+use Rattle.tb_io.specs.Taken.{IsWritten}
+use Rattle.tb_io.specs.declared.answers.Wrote.{Wrote}
+use Rattle.tb_lines.specs.Outputs.{ReplyValue}
 use Rattle.tb_model.specs.Setups.{SetupValue}
 use Rattle.tb_model.specs.Texts.{line_text}
-use Rattle.tb_session.specs.Parties.{GoesOn, held_by, seen_by, state_of}
+use Rattle.tb_session.specs.Parties.{GoesOn, held_by, seen_by}
 use Rattle.tb_session.specs.PartySessions.{IsPartyStep}
 use Rattle.tb_session.specs.PastTables.{oldest_of}
 use Rattle.tb_session.specs.declared.party.Party.{Party}
@@ -45,16 +47,23 @@ IsTextOr content text = (text ≡ content) ⊎ (text ≡ [])
 
 -- The server says something of itself. Of whether the journal is live, and of what was counted, no
 -- clause speaks.
-abbrev pub IsAccount : SetupValue → Party → About → ReplyValue → Party → Type 0
-IsAccount setup old about.Health reply new =
+abbrev pub IsAccount : SetupValue → Party → About → List ℕ → Party → Type 0
+IsAccount setup old about.Health text new =
     SawMore old new
-    × ((journal : Journal) × IsTextOr (health_text (number_seen new) journal) reply.text)
-IsAccount setup old about.Catalogue reply new =
+    × ((journal : Journal) × IsTextOr (health_text (number_seen new) journal) text)
+IsAccount setup old about.Catalogue text new =
     SawMore old new
-    × IsTextOr (catalogue_text setup.schema (is_some setup.units) (oldest_seen new)) reply.text
-IsAccount setup old about.Metrics reply new = new ≡ old
+    × IsTextOr (catalogue_text setup.schema (is_some setup.units) (oldest_seen new)) text
+IsAccount setup old about.Metrics text new = new ≡ old
 
 -- a reply to what an analyst asks leads from what it is to what it is then
 abbrev pub IsAskedStep : SetupValue → Party → Asked → ReplyValue → Party → Type 0
 IsAskedStep setup old (Line line) reply new = IsPartyStep setup old line reply new
-IsAskedStep setup old (Account about) reply new = IsAccount setup old about reply new
+IsAskedStep setup old (Account about) reply new = IsAccount setup old about reply.text new
+
+-- such a text was written, or a part of it where the write failed
+abbrev pub Tells : SetupValue → Party → About → Party → Wrote → ℕ → ℕ → Option (List ℕ)
+    → Option (List ℕ) → Type 0
+Tells setup old about new result faults faults' taken taken' =
+    (text : List ℕ) × IsAccount setup old about text new
+    × IsWritten result faults faults' taken taken' text

@@ -1,14 +1,14 @@
 // What a server says of itself.
 
-ghost use Rattle.std.specs.Prelude.{◌≡◌, ◌⊎◌, [], ℕ, List, IfOk, IsOkAnd, is_some, length};
-ghost use Rattle.tb_analyst.specs.Accounts.{SawMore, health_text, number_seen};
+ghost use Rattle.std.specs.Prelude.{◌≡◌, IfOk, IfSome, IsOkAnd, is_some, length, string_bytes};
+ghost use Rattle.tb_analyst.specs.Accounts.{SawMore, Tells, health_text, number_seen};
 ghost use Rattle.tb_analyst.specs.Accounts.{oldest_seen};
 ghost use Rattle.tb_catalogue.specs.Catalogues.{catalogue_text};
 ghost use Rattle.tb_front.specs.Holders.{IsLater};
-ghost use Rattle.tb_io.specs.Taken.{IsWritten};
 ghost use Rattle.tb_model.specs.Schemas.{shape_of};
 ghost use Rattle.tb_session.specs.Parties.{IsAnalystOf};
 ghost use Rattle.tb_session.specs.PastTables.{oldest_of};
+ghost use Rattle.tb_web.specs.declared.asked.About.TheVariants as about;
 
 use crate::counters::Journal;
 use itoa::Buffer;
@@ -22,12 +22,12 @@ use tb_io::{Sink, Wrote};
 use tb_session::Party;
 use tb_text::Setup;
 
-/// What a turn of the lock shows: the number of the current release, and of the oldest that may be
-/// asked.
+// What a turn of the lock shows: the number of the current release, and of the oldest that may be
+// asked.
 #[derive(Clone, Copy, Debug, PartialEq, Eq)]
-pub(crate) struct Look {
-    pub(crate) release: u32,
-    pub(crate) oldest: u32,
+struct Look {
+    release: u32,
+    oldest: u32,
 }
 
 fn look_by<B: Named>(
@@ -47,9 +47,9 @@ fn look_by<B: Named>(
     })
 }
 
-/// What a turn of the lock shows an analyst, who has then seen its chain, also where the call is out
-/// of memory.
-pub(crate) fn look<B: Named>(
+// What a turn of the lock shows an analyst, who has then seen its chain, also where the call is out
+// of memory.
+fn look<B: Named>(
     rt: &impl Wait,
     board: &Board<B>,
     setup: &Setup,
@@ -67,8 +67,8 @@ pub(crate) fn look<B: Named>(
     }
 }
 
-/// The text of a server's health.
-pub(crate) fn health(alloc: Global, number: u32, journal: Journal) -> Result<Vec<u8>, AllocError>
+// The text of a server's health.
+fn health(alloc: Global, number: u32, journal: Journal) -> Result<Vec<u8>, AllocError>
     ensures { IfOk result (λ text. text.items ≡ health_text number journal) }
 {
     let mut digits = Buffer::new();
@@ -79,45 +79,75 @@ pub(crate) fn health(alloc: Global, number: u32, journal: Journal) -> Result<Vec
     Ok(text)
 }
 
-/// Writes a server's health, or nothing where there is no memory for it.
-pub(crate) fn write_health<K: Sink>(
-    alloc: Global,
-    look: Result<Look, Memory>,
-    journal: Journal,
-    sink: &mut K,
-) -> Wrote
-    ensures { (text : List ℕ)
-        × IsWritten result (K.faults sink.old) (K.faults sink.new) (K.taken sink.old)
-        (K.taken sink.new) text
-        × ((text ≡ []) ⊎ IsOkAnd look (λ seen. text ≡ health_text seen.release journal)) }
+// Its text, or none where there is no memory for it.
+fn health_if(alloc: Global, look: Result<Look, Memory>, journal: Journal) -> Option<Vec<u8>>
+    ensures { IfSome result (λ text. IsOkAnd look
+        (λ seen. text.items ≡ health_text seen.release journal)) }
 {
     let Ok(seen) = look else {
-        return Wrote::All;
+        return None;
     };
     match health(alloc, seen.release, journal) {
-        Ok(text) => sink.write(text.as_slice()),
-        Err(_) => Wrote::All,
+        Ok(text) => Some(text),
+        Err(_) => None,
     }
 }
 
-/// Writes what may be asked, or nothing where there is no memory for it.
-pub(crate) fn write_catalogue<K: Sink>(
-    alloc: Global,
-    setup: &Setup,
-    look: Result<Look, Memory>,
-    sink: &mut K,
-) -> Wrote
-    ensures { (text : List ℕ)
-        × IsWritten result (K.faults sink.old) (K.faults sink.new) (K.taken sink.old)
-        (K.taken sink.new) text
-        × ((text ≡ []) ⊎ IsOkAnd look (λ seen. text
+// What may be asked, or none where there is no memory for it.
+fn catalogue_if(alloc: Global, setup: &Setup, look: Result<Look, Memory>) -> Option<String>
+    ensures { IfSome result (λ text. IsOkAnd look (λ seen. string_bytes text
         ≡ catalogue_text setup.now.schema (is_some setup.now.units) seen.oldest)) }
 {
     let Ok(seen) = look else {
-        return Wrote::All;
+        return None;
     };
     match catalogue(alloc, &setup.schema, setup.units.is_some(), seen.oldest) {
-        Ok(text) => sink.write(text.as_bytes()),
-        Err(_) => Wrote::All,
+        Ok(text) => Some(text),
+        Err(_) => None,
+    }
+}
+
+/// Tells an analyst the server's health after a turn of the lock, or nothing where there is no memory
+/// for it.
+pub(crate) fn tell_health<B: Named, K: Sink>(
+    rt: &impl Wait,
+    alloc: Global,
+    board: &Board<B>,
+    setup: &Setup,
+    journal: Journal,
+    party: &mut Party,
+    sink: &mut K,
+) -> Wrote
+    requires { IsAnalystOf B.name (shape_of setup.now.schema) party.old }
+    ensures analyst { IsAnalystOf B.name (shape_of setup.now.schema) party.new }
+    ensures tells { Tells setup.now party.old about.Health party.new result
+        (K.faults sink.old) (K.faults sink.new) (K.taken sink.old) (K.taken sink.new) }
+{
+    let seen = look(rt, board, setup, party);
+    match health_if(alloc, seen, journal) {
+        Some(text) => sink.write(text.as_slice()),
+        None => sink.write(b""),
+    }
+}
+
+/// Tells an analyst what may be asked after a turn of the lock, or nothing where there is no memory
+/// for it.
+pub(crate) fn tell_catalogue<B: Named, K: Sink>(
+    rt: &impl Wait,
+    alloc: Global,
+    board: &Board<B>,
+    setup: &Setup,
+    party: &mut Party,
+    sink: &mut K,
+) -> Wrote
+    requires { IsAnalystOf B.name (shape_of setup.now.schema) party.old }
+    ensures analyst { IsAnalystOf B.name (shape_of setup.now.schema) party.new }
+    ensures tells { Tells setup.now party.old about.Catalogue party.new result
+        (K.faults sink.old) (K.faults sink.new) (K.taken sink.old) (K.taken sink.new) }
+{
+    let seen = look(rt, board, setup, party);
+    match catalogue_if(alloc, setup, seen) {
+        Some(text) => sink.write(text.as_bytes()),
+        None => sink.write(b""),
     }
 }

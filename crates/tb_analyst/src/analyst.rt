@@ -6,7 +6,7 @@ ghost use Rattle.tb_session.specs.Parties.{IsAnalystOf};
 ghost use Rattle.tb_analyst.specs.Ready.{analyst-prop};
 ghost use Rattle.tb_analyst.specs.Sharing.{IsSync-prop};
 
-use crate::accounts::{look, write_catalogue, write_health};
+use crate::accounts::{tell_catalogue, tell_health};
 use crate::counters::Counters;
 use std::sync::Wait;
 use std::sync::ledger::Ledger;
@@ -29,8 +29,7 @@ pub struct Analyst<'a, B: Named, R: Threads + Wait + Sync, C: Counters, L: Ledge
 }
 
 impl<'a, B: Named, R: Threads + Wait + Sync, C: Counters, L: Ledger> Voice
-    for Analyst<'a, B, R, C, L>
-{
+    for Analyst<'a, B, R, C, L> {
     ghost use Rattle.std.specs.Thread.{IsSync};
     ghost use Rattle.tb_analyst.specs.Accounts.{IsAskedStep};
     ghost use Rattle.tb_lines.specs.Outputs.{AtPrice, Charged, charged};
@@ -71,15 +70,25 @@ impl<'a, B: Named, R: Threads + Wait + Sync, C: Counters, L: Ledger> Voice
 
     fn account<K: Sink>(&mut self, about: About, sink: &mut K) -> Wrote {
         let setting = self.setting;
+        let party = &mut self.party;
         match about {
-            About::Health => {
-                let seen = look(setting.rt, setting.board, setting.setup, &mut self.party);
-                write_health(setting.alloc, seen, self.counters.journal(), sink)
-            }
-            About::Catalogue => {
-                let seen = look(setting.rt, setting.board, setting.setup, &mut self.party);
-                write_catalogue(setting.alloc, setting.setup, seen, sink)
-            }
+            About::Health => tell_health(
+                setting.rt,
+                setting.alloc,
+                setting.board,
+                setting.setup,
+                self.counters.journal(),
+                party,
+                sink,
+            ),
+            About::Catalogue => tell_catalogue(
+                setting.rt,
+                setting.alloc,
+                setting.board,
+                setting.setup,
+                party,
+                sink,
+            ),
             About::Metrics => self.counters.write(sink),
         }
     }

@@ -22,39 +22,147 @@ const fn refused(request: &'static str, status: &'static str, fields: &'static s
 
 static ROWS: [Row; 27] = [
     // No line.
-    refused("GET /ask HTTP/1.1\r\nHost: localhost\r\n\r\n", "400 Bad Request", ""),
-    refused("GET /ask? HTTP/1.1\r\nHost: localhost\r\n\r\n", "400 Bad Request", ""),
-    refused("GET /ask?line= HTTP/1.1\r\nHost: localhost\r\n\r\n", "400 Bad Request", ""),
-    refused("GET /table.csv HTTP/1.1\r\nHost: localhost\r\n\r\n", "400 Bad Request", ""),
-    refused("POST /ask HTTP/1.1\r\nHost: localhost\r\nContent-Length: 0\r\n\r\n", "400 Bad Request", ""),
+    refused(
+        "GET /ask HTTP/1.1\r\nHost: localhost\r\n\r\n",
+        "400 Bad Request",
+        "",
+    ),
+    refused(
+        "GET /ask? HTTP/1.1\r\nHost: localhost\r\n\r\n",
+        "400 Bad Request",
+        "",
+    ),
+    refused(
+        "GET /ask?line= HTTP/1.1\r\nHost: localhost\r\n\r\n",
+        "400 Bad Request",
+        "",
+    ),
+    refused(
+        "GET /table.csv HTTP/1.1\r\nHost: localhost\r\n\r\n",
+        "400 Bad Request",
+        "",
+    ),
+    refused(
+        "POST /ask HTTP/1.1\r\nHost: localhost\r\nContent-Length: 0\r\n\r\n",
+        "400 Bad Request",
+        "",
+    ),
     // Another field, or the field twice.
-    refused("GET /ask?x=1 HTTP/1.1\r\nHost: localhost\r\n\r\n", "400 Bad Request", ""),
-    refused("GET /ask?line=a&x=1 HTTP/1.1\r\nHost: localhost\r\n\r\n", "400 Bad Request", ""),
-    refused("GET /ask?x=1&line=a HTTP/1.1\r\nHost: localhost\r\n\r\n", "400 Bad Request", ""),
-    refused("GET /ask?line=a&line=a HTTP/1.1\r\nHost: localhost\r\n\r\n", "400 Bad Request", ""),
-    refused("GET /table.csv?line=a HTTP/1.1\r\nHost: localhost\r\n\r\n", "400 Bad Request", ""),
+    refused(
+        "GET /ask?x=1 HTTP/1.1\r\nHost: localhost\r\n\r\n",
+        "400 Bad Request",
+        "",
+    ),
+    refused(
+        "GET /ask?line=a&x=1 HTTP/1.1\r\nHost: localhost\r\n\r\n",
+        "400 Bad Request",
+        "",
+    ),
+    refused(
+        "GET /ask?x=1&line=a HTTP/1.1\r\nHost: localhost\r\n\r\n",
+        "400 Bad Request",
+        "",
+    ),
+    refused(
+        "GET /ask?line=a&line=a HTTP/1.1\r\nHost: localhost\r\n\r\n",
+        "400 Bad Request",
+        "",
+    ),
+    refused(
+        "GET /table.csv?line=a HTTP/1.1\r\nHost: localhost\r\n\r\n",
+        "400 Bad Request",
+        "",
+    ),
     // A `%` without two digits.
-    refused("GET /ask?line=a% HTTP/1.1\r\nHost: localhost\r\n\r\n", "400 Bad Request", ""),
-    refused("GET /ask?line=a%4 HTTP/1.1\r\nHost: localhost\r\n\r\n", "400 Bad Request", ""),
-    refused("GET /ask?line=a%4g HTTP/1.1\r\nHost: localhost\r\n\r\n", "400 Bad Request", ""),
+    refused(
+        "GET /ask?line=a% HTTP/1.1\r\nHost: localhost\r\n\r\n",
+        "400 Bad Request",
+        "",
+    ),
+    refused(
+        "GET /ask?line=a%4 HTTP/1.1\r\nHost: localhost\r\n\r\n",
+        "400 Bad Request",
+        "",
+    ),
+    refused(
+        "GET /ask?line=a%4g HTTP/1.1\r\nHost: localhost\r\n\r\n",
+        "400 Bad Request",
+        "",
+    ),
     // Several lines.
-    refused("GET /ask?line=a%0Ab HTTP/1.1\r\nHost: localhost\r\n\r\n", "400 Bad Request", ""),
-    refused("GET /ask?line=%0A%0A HTTP/1.1\r\nHost: localhost\r\n\r\n", "400 Bad Request", ""),
-    refused("POST /ask HTTP/1.1\r\nHost: localhost\r\nContent-Length: 3\r\n\r\na\nb", "400 Bad Request", ""),
+    refused(
+        "GET /ask?line=a%0Ab HTTP/1.1\r\nHost: localhost\r\n\r\n",
+        "400 Bad Request",
+        "",
+    ),
+    refused(
+        "GET /ask?line=%0A%0A HTTP/1.1\r\nHost: localhost\r\n\r\n",
+        "400 Bad Request",
+        "",
+    ),
+    refused(
+        "POST /ask HTTP/1.1\r\nHost: localhost\r\nContent-Length: 3\r\n\r\na\nb",
+        "400 Bad Request",
+        "",
+    ),
     // Another method.
-    refused("PUT /ask HTTP/1.1\r\nHost: localhost\r\nContent-Length: 1\r\n\r\na", "405 Method Not Allowed", ASKING),
-    refused("OPTIONS /ask HTTP/1.1\r\nHost: localhost\r\n\r\n", "405 Method Not Allowed", ASKING),
-    refused("POST / HTTP/1.1\r\nHost: localhost\r\nContent-Length: 1\r\n\r\na", "405 Method Not Allowed", READING),
-    refused("POST /table.csv HTTP/1.1\r\nHost: localhost\r\nContent-Length: 1\r\n\r\na", "405 Method Not Allowed", READING),
-    refused("DELETE /metrics HTTP/1.1\r\nHost: localhost\r\n\r\n", "405 Method Not Allowed", READING),
+    refused(
+        "PUT /ask HTTP/1.1\r\nHost: localhost\r\nContent-Length: 1\r\n\r\na",
+        "405 Method Not Allowed",
+        ASKING,
+    ),
+    refused(
+        "OPTIONS /ask HTTP/1.1\r\nHost: localhost\r\n\r\n",
+        "405 Method Not Allowed",
+        ASKING,
+    ),
+    refused(
+        "POST / HTTP/1.1\r\nHost: localhost\r\nContent-Length: 1\r\n\r\na",
+        "405 Method Not Allowed",
+        READING,
+    ),
+    refused(
+        "POST /table.csv HTTP/1.1\r\nHost: localhost\r\nContent-Length: 1\r\n\r\na",
+        "405 Method Not Allowed",
+        READING,
+    ),
+    refused(
+        "DELETE /metrics HTTP/1.1\r\nHost: localhost\r\n\r\n",
+        "405 Method Not Allowed",
+        READING,
+    ),
     // Another path.
-    refused("GET /other HTTP/1.1\r\nHost: localhost\r\n\r\n", "404 Not Found", ""),
-    refused("PUT /ask/ HTTP/1.1\r\nHost: localhost\r\n\r\n", "404 Not Found", ""),
+    refused(
+        "GET /other HTTP/1.1\r\nHost: localhost\r\n\r\n",
+        "404 Not Found",
+        "",
+    ),
+    refused(
+        "PUT /ask/ HTTP/1.1\r\nHost: localhost\r\n\r\n",
+        "404 Not Found",
+        "",
+    ),
     // Another host, before the path, the method and the line are looked at.
-    refused("GET /ask?line=a HTTP/1.1\r\nHost: evil.example\r\n\r\n", "421 Misdirected Request", ""),
-    refused("PUT /other HTTP/1.1\r\nHost: evil.example:47312\r\n\r\n", "421 Misdirected Request", ""),
-    refused("GET / HTTP/1.1\r\nHost: tables.example.evil\r\n\r\n", "421 Misdirected Request", ""),
-    refused("GET http://evil.example/ HTTP/1.1\r\nHost: localhost\r\n\r\n", "421 Misdirected Request", ""),
+    refused(
+        "GET /ask?line=a HTTP/1.1\r\nHost: evil.example\r\n\r\n",
+        "421 Misdirected Request",
+        "",
+    ),
+    refused(
+        "PUT /other HTTP/1.1\r\nHost: evil.example:47312\r\n\r\n",
+        "421 Misdirected Request",
+        "",
+    ),
+    refused(
+        "GET / HTTP/1.1\r\nHost: tables.example.evil\r\n\r\n",
+        "421 Misdirected Request",
+        "",
+    ),
+    refused(
+        "GET http://evil.example/ HTTP/1.1\r\nHost: localhost\r\n\r\n",
+        "421 Misdirected Request",
+        "",
+    ),
 ];
 
 fn rows() -> &'static [Row] {
@@ -71,14 +179,23 @@ fn requests_that_ask_for_nothing_are_refused(rt: HostRuntime) -> Result<(), Fail
 static UNREADABLE: [(&'static str, &'static str); 8] = [
     ("table SEX\r\n\r\n", "400"),
     ("GET / HTTP/1.1\r\n\r\n", "400"),
-    ("GET / HTTP/1.1\r\nHost: localhost\r\nHost: localhost\r\n\r\n", "400"),
+    (
+        "GET / HTTP/1.1\r\nHost: localhost\r\nHost: localhost\r\n\r\n",
+        "400",
+    ),
     ("GET / HTTP/1.1\r\nHost: a b\r\n\r\n", "400"),
     (
         "POST /ask HTTP/1.1\r\nHost: localhost\r\nContent-Length: 1\r\nTransfer-Encoding: chunked\r\n\r\n0\r\n\r\n",
         "400",
     ),
-    ("POST /ask HTTP/1.1\r\nHost: localhost\r\nTransfer-Encoding: gzip, chunked\r\n\r\n0\r\n\r\n", "501"),
-    ("POST /ask HTTP/1.1\r\nHost: localhost\r\nContent-Length: 4099\r\n\r\n", "413"),
+    (
+        "POST /ask HTTP/1.1\r\nHost: localhost\r\nTransfer-Encoding: gzip, chunked\r\n\r\n0\r\n\r\n",
+        "501",
+    ),
+    (
+        "POST /ask HTTP/1.1\r\nHost: localhost\r\nContent-Length: 4099\r\n\r\n",
+        "413",
+    ),
     ("GET /ask?line=a", "400"),
 ];
 

@@ -11,7 +11,8 @@ const PLAIN: &str = "content-type: text/plain; charset=utf-8\r\n";
 
 const CSV: &str = "tb-release: 7\r\ncontent-type: text/csv; charset=utf-8\r\n";
 
-const HTML: &str = "content-security-policy: default-src 'none'; script-src 'unsafe-inline'; style-src 'unsafe-inline'; connect-src 'self'; img-src data:; base-uri 'none'; form-action 'none'; frame-ancestors 'none'\r\nreferrer-policy: no-referrer\r\ncontent-type: text/html; charset=utf-8\r\n";
+const HTML: &str =
+    "content-security-policy: default-src 'none'; script-src 'unsafe-inline'; style-src 'unsafe-inline'; connect-src 'self'; img-src data:; base-uri 'none'; form-action 'none'; frame-ancestors 'none'\r\nreferrer-policy: no-referrer\r\ncontent-type: text/html; charset=utf-8\r\n";
 
 /// A request; then the status, the fields before those of every response, the length of the body,
 /// and the body.

@@ -3,7 +3,7 @@
 use super::parrot::Parrot;
 use bytes::Bytes;
 use std::alloc::Global;
-use std::hash::{RandomSource, RandomState};
+use std::hash::RandomState;
 use std::test::Fail;
 use tb_base::Memory;
 use tb_io::{MemSink, MemSource};
