@@ -6,7 +6,6 @@ use Rattle.tb_io.specs.Taken.{IsWritten}
 use Rattle.tb_io.specs.declared.answers.Wrote.{Wrote}
 use Rattle.tb_lines.specs.Outputs.{ReplyValue}
 use Rattle.tb_model.specs.Setups.{SetupValue}
-use Rattle.tb_model.specs.Texts.{line_text}
 use Rattle.tb_session.specs.Parties.{GoesOn, held_by, seen_by}
 use Rattle.tb_session.specs.PartySessions.{IsPartyStep}
 use Rattle.tb_session.specs.PastTables.{oldest_of}

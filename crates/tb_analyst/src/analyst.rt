@@ -1,6 +1,4 @@
 // An analyst of the board, as a voice.
-
-ghost use Rattle.std.specs.Prelude.{◌≡◌};
 ghost use Rattle.tb_model.specs.Schemas.{shape_of};
 ghost use Rattle.tb_session.specs.Parties.{IsAnalystOf};
 ghost use Rattle.tb_analyst.specs.Ready.{analyst-prop};

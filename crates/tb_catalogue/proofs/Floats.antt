@@ -1,11 +1,10 @@
 -- A catalogue has no float, so its text is stated.
 use Rattle.std.proofs.Common.{◌≡◌, ◌∙◌, ◌∷◌, ◌||◌, ℕ, Bool, false, List, [], ap, map, refl}
-use Rattle.std.specs.List.{range_with_len}
 use Rattle.serde_json.specs.Data.{Data}
 use Rattle.serde_json.specs.View.{items_of}
 use Rattle.serde_json.specs.Written.{has_float, items_have_float}
 use Rattle.tb_model.specs.Schemas.{SchemaValue}
-use Rattle.tb_catalogue.specs.Catalogues.{catalogue_data, category_data, categories_data, code_data, group_codes, group_data, groups_data, recode_data, recodes_data, variable_data, variables_data}
+use Rattle.tb_catalogue.specs.Catalogues.{catalogue_data, category_data, code_data, group_data, recode_data, variable_data, variables_data}
 
 -- a list of values that have none
 none_in : (data_of : ℕ → Data) (ns : List ℕ) → ((n : ℕ) → has_float (data_of n) ≡ false)

@@ -1,5 +1,5 @@
 -- What one value more makes of a list.
-use Rattle.std.proofs.Common.{◌≡◌, ◌∙◌, ◌++◌, ◌∷◌, ◌+◌, ◌==◌, ℕ, Bool, true, false, List, [], ap, sym, map, refl, if◌then◌else◌, append-nil, arith}
+use Rattle.std.proofs.Common.{◌≡◌, ◌∙◌, ◌++◌, ◌∷◌, ◌+◌, ℕ, Bool, true, false, List, [], ap, sym, map, refl, if◌then◌else◌, append-nil, arith}
 use Rattle.std.proofs.lemmas.Grind.{filter-append, map-append}
 use Rattle.std.proofs.lemmas.List.FromFn.{map-range_with_len_more}
 use Rattle.std.specs.List.{filter, range_with_len}

@@ -1,6 +1,6 @@
 // The recodes of a catalogue.
 
-ghost use Rattle.std.specs.Prelude.{◌≡◌, ◌<◌, ◌∷◌, [], ◌++◌, map, IfOk, OnOk, length};
+ghost use Rattle.std.specs.Prelude.{◌≡◌, ◌<◌, ◌∷◌, [], ◌++◌, map, IfOk, OnOk};
 ghost use Rattle.serde_json.specs.View.{view};
 ghost use Rattle.tb_catalogue.specs.Catalogues.{code_data, codes_below, group_codes, group_data};
 ghost use Rattle.tb_catalogue.specs.Catalogues.{groups_data, recode_data, recodes_data, variable_of};

@@ -1,6 +1,6 @@
 // The variables of a catalogue.
 
-ghost use Rattle.std.specs.Prelude.{◌≡◌, ◌<◌, ◌∷◌, [], ◌++◌, map, IfOk, OnOk, length};
+ghost use Rattle.std.specs.Prelude.{◌≡◌, ◌<◌, ◌∷◌, [], ◌++◌, map, IfOk, OnOk};
 ghost use Rattle.serde_json.specs.View.{view};
 ghost use Rattle.tb_catalogue.specs.Catalogues.{categories_data, category_data};
 ghost use Rattle.tb_catalogue.specs.Catalogues.{variable_data, variables_data};

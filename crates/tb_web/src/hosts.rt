@@ -1,6 +1,6 @@
 // For which server a request is.
 
-ghost use Rattle.std.specs.Prelude.{◌≡◌, ◌≤◌, bytes_eq, length, map, option_copied, IfOk};
+ghost use Rattle.std.specs.Prelude.{◌≡◌, bytes_eq, option_copied, IfOk};
 ghost use Rattle.std.specs.List.{list_any};
 ghost use Rattle.tb_web.specs.Hosts as spec;
 

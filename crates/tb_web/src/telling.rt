@@ -1,6 +1,6 @@
 // Responses.
 
-ghost use Rattle.std.specs.Prelude.{◌≡◌, ◌++◌, ◌∷◌, [], codes, true, false, Some, OnOk, IfOk, Option, List, ℕ};
+ghost use Rattle.std.specs.Prelude.{◌≡◌, ◌++◌, ◌∷◌, [], codes, true, false, Some, OnOk, IfOk, List, ℕ};
 ghost use Rattle.http_server.specs.Response.{IsBlank, IsResponse, fields_of};
 ghost use Rattle.tb_io.specs.Taken.{Took};
 ghost use Rattle.tb_web.specs.Answers as spec;

@@ -2,7 +2,6 @@
 // of the guide and by the small setup's files.
 
 ghost use Rattle.std.specs.Prelude.{◌≡◌, ◌<◌};
-ghost use Rattle.tb_io.specs.Taken.{IsWritten};
 ghost use Rattle.tb_model.specs.Schemas.{shape_of};
 ghost use Rattle.tb_session.specs.Parties.{IsAnalystOf};
 
@@ -17,7 +16,7 @@ use std::sync::ledger::{Blank, Ledger};
 use std::test::Fail;
 use std::thread::Threads;
 use tb_analyst::{Analyst, Counters, Journal};
-use tb_base::{Memory, Steps};
+use tb_base::{Steps};
 use tb_board::{Board, Named, Opening};
 use tb_io::{MemSink, MemSource, Sink, Wrote};
 use tb_session::{Party, Setting, analyst_of};
