@@ -1,4 +1,5 @@
 pub mod Accounts
+pub mod Laws
 pub mod Ready
 pub mod Sharing
 pub mod Transcripts

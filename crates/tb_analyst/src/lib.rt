@@ -4,12 +4,13 @@
 //! That it may answer has one proof at most, so that a service may keep it: also that threads may
 //! share what waits (`specs/Sharing`), and that the party is an analyst (`specs/Ready`). What may be
 //! said beside lines is `specs/Accounts`; that the replies to the lines are those of a legal session
-//! is `transcript_is_legal` of `proofs/Legal`.
+//! is the law `lines_are_legal`.
 #![tactic(auto)]
 
 mod accounts;
 mod analyst;
 mod counters;
+pub mod laws;
 
 pub use analyst::Analyst;
 pub use counters::{Counters, Journal};
