@@ -4,11 +4,11 @@
 //! It goes by the schema, by whether there are dwellings, and by the oldest release that may be
 //! asked. `serde_json` spells it, so the members of an object stand in the order of their names.
 //!
-//! Begin at `specs/Catalogues`, then `catalogue.rt`. Each loop adds to a list that is lent to it.
+//! Begin at `specs/Catalogues`, then `whole.rt`. Each loop adds to a list that is lent to it.
 #![tactic(auto)]
 
-mod catalogue;
 mod recodes;
 mod variables;
+mod whole;
 
-pub use catalogue::catalogue;
+pub use whole::catalogue;

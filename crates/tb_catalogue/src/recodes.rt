@@ -130,7 +130,7 @@ fn add_recode(
 }
 
 /// The recodes with their groups, in the schema's order.
-pub(crate) fn recodes(alloc: Global, schema: &Schema) -> Result<Vec<Value>, AllocError>
+pub(crate) fn recode_list(alloc: Global, schema: &Schema) -> Result<Vec<Value>, AllocError>
     ensures { IfOk result (λ list. map view list.items ≡ recodes_data schema.now) }
 {
     let mut list = Vec::new(alloc);

@@ -75,7 +75,7 @@ fn add_variable(
 }
 
 /// The variables with their categories, in the schema's order.
-pub(crate) fn variables(alloc: Global, schema: &Schema) -> Result<Vec<Value>, AllocError>
+pub(crate) fn variable_list(alloc: Global, schema: &Schema) -> Result<Vec<Value>, AllocError>
     ensures { IfOk result (λ list. map view list.items ≡ variables_data schema.now) }
 {
     let mut list = Vec::new(alloc);

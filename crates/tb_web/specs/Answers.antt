@@ -1,6 +1,6 @@
 -- What a request is answered.
 use Rattle.std.specs.Prelude.{◌≡◌, ◌⊎◌, ◌==◌, ◌+◌, ◌-◌, ◌&&◌, ℕ, Bool, true, false, List, [], ◌∷◌, Option, None, Some, codes}
-use Rattle.std.specs.Prelude.{bytes_eq, take, drop, length, nat_eq, nat_le, if◌then◌else◌}
+use Rattle.std.specs.Prelude.{take, drop, length, nat_eq, nat_le, if◌then◌else◌}
 use Rattle.std.specs.List.{ends_with}
 use Rattle.http.specs.declared.request.Request.{Request}
 use Rattle.http1.specs.Fields.{Header}
@@ -10,16 +10,13 @@ use Rattle.tb_lines.specs.Outputs.{ReplyValue}
 use Rattle.tb_web.specs.Asked.{Asked, Line, Account, asked_of}
 use Rattle.tb_web.specs.Hosts.{is_for}
 use Rattle.tb_web.specs.Offices.{OfficeValue}
-use Rattle.tb_web.specs.Requests.{form_of, line_end, other_of}
+use Rattle.tb_web.specs.Requests.{begins_with, form_of, line_end, other_of}
 use Rattle.tb_web.specs.declared.asked.About.{About}
 use Rattle.tb_web.specs.declared.asked.About.TheVariants as about
 use Rattle.tb_web.specs.declared.asked.Form.{Form}
 use Rattle.tb_web.specs.declared.asked.Form.TheVariants as form
 use Rattle.tb_web.specs.declared.asked.Other.{Other}
 use Rattle.tb_web.specs.declared.asked.Other.TheVariants as other
-
-abbrev pub begins_with : List ℕ → List ℕ → Bool
-begins_with front text = bytes_eq (take (length front) text) front
 
 -- The status of a reply: of none, of one that is out of memory, of a release that there isn't, of
 -- one that was taken back, of another refusal, and of a table or a description.

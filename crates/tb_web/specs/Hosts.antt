@@ -22,9 +22,12 @@ host_field request = option_map (λ v. v.bytes) (get (head_of request).headers (
 abbrev pub host_of : Request (List ℕ) → Option (List ℕ)
 host_of request = host_in (uri_authority (head_of request).uri) (host_field request)
 
--- what stands before a port; of an address in brackets its beginning
+-- how many bytes come before a port; of an address in brackets before its first colon
+abbrev pub port_at : List ℕ → ℕ
+port_at text = prefix_len (λ b. not (b == 58)) text
+
 abbrev pub without_port : List ℕ → List ℕ
-without_port text = take (prefix_len (λ b. not (b == 58)) text) text
+without_port text = take (port_at text) text
 
 abbrev pub is_last_a_dot : List ℕ → Bool
 is_last_a_dot name = not (length name == 0) && (slice_index name (length name - 1) == 46)

@@ -1,5 +1,5 @@
 -- What a request asks.
-use Rattle.std.specs.Prelude.{ℕ, ◌+◌, ◌&&◌, ◌||◌, Bool, true, false, not, List, [], ◌∷◌, ◌++◌, ◌==◌, length, map, take, drop, Option, None, Some, codes}
+use Rattle.std.specs.Prelude.{ℕ, ◌+◌, ◌&&◌, ◌||◌, Bool, true, false, not, List, [], ◌∷◌, ◌++◌, ◌==◌, length, map, take, drop, Option, None, Some, option_map, codes}
 use Rattle.std.specs.Prelude.{bytes_eq, is_some, nat_le, slice_index, if◌then◌else◌}
 use Rattle.std.specs.Char.{is_ascii_hexdigit}
 use Rattle.std.specs.List.{prefix_len}
@@ -68,12 +68,20 @@ is_value (b ∷ rest) =
 abbrev pub with_form_text : List ℕ → List ℕ → List ℕ
 with_form_text front value = front ++ form_text value
 
--- a text, and behind it the value of a query that has this field and no other
+-- a text begins with another
+abbrev pub begins_with : List ℕ → List ℕ → Bool
+begins_with front text = bytes_eq (take (length front) text) front
+
+-- the value of a query that has this field and no other
+abbrev pub value_in : List ℕ → List ℕ → Option (List ℕ)
+value_in name query =
+    if begins_with name query && is_value (drop (length name) query)
+    then Some (drop (length name) query) else None
+
+-- a text, and behind it what such a value stands for
 abbrev pub with_value : List ℕ → List ℕ → Option (List ℕ) → Option (List ℕ)
 with_value front name None = None
-with_value front name (Some query) =
-    if bytes_eq (take (length name) query) name && is_value (drop (length name) query)
-    then Some (with_form_text front (drop (length name) query)) else None
+with_value front name (Some query) = option_map (with_form_text front) (value_in name query)
 
 -- ---- requests
 

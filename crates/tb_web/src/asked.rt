@@ -1,6 +1,6 @@
 // What a request asks.
 
-ghost use Rattle.std.specs.Prelude.{◌≡◌, ◌≤◌, option_copied, option_map, IfOk, IfSome, length};
+ghost use Rattle.std.specs.Prelude.{◌≡◌, ◌≤◌, option_copied, option_map, IfOk, IfSome, IsTrue, length};
 ghost use Rattle.tb_io.specs.Lines.{without_return};
 ghost use Rattle.tb_io.specs.declared.limits.TheConstants.{MOST_LINE_BYTES};
 ghost use Rattle.tb_web.specs.Requests as spec;
@@ -131,7 +131,26 @@ fn with_form_text(alloc: Global, front: &[u8], value: &[u8]) -> Result<Vec<u8>, 
     Ok(text)
 }
 
-// A text, and behind it the value of a query that has this field and no other.
+/// Whether a text begins with another.
+pub(crate) fn begins_with(text: &[u8], front: &[u8]) -> bool
+    ensures value { result ≡ spec.begins_with front.now text.now }
+    ensures within { IsTrue result → length front.now ≤ length text.now }
+{
+    text.starts_with(front)
+}
+
+// The value of a query that has this field and no other.
+fn value_in<'a>(name: &[u8], query: &'a [u8]) -> Option<&'a [u8]>
+    ensures { option_copied result ≡ spec.value_in name.now query.now }
+{
+    if !begins_with(query, name) {
+        return None;
+    }
+    let value = &query[name.len()..];
+    if is_value(value) { Some(value) } else { None }
+}
+
+// A text, and behind it what such a value stands for.
 fn with_value(
     alloc: Global,
     front: &[u8],
@@ -144,15 +163,10 @@ fn with_value(
     let Some(query) = query else {
         return Ok(None);
     };
-    let query = query.as_bytes();
-    if !query.starts_with(name) {
-        return Ok(None);
+    match value_in(name, query.as_bytes()) {
+        Some(value) => Ok(Some(with_form_text(alloc, front, value)?)),
+        None => Ok(None),
     }
-    let value = &query[name.len()..];
-    if !is_value(value) {
-        return Ok(None);
-    }
-    Ok(Some(with_form_text(alloc, front, value)?))
 }
 
 fn has_method(request: &Request<Bytes>, name: &str) -> bool

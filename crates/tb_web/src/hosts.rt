@@ -1,6 +1,6 @@
 // For which server a request is.
 
-ghost use Rattle.std.specs.Prelude.{◌≡◌, bytes_eq, option_copied, IfOk};
+ghost use Rattle.std.specs.Prelude.{◌≡◌, ◌≤◌, bytes_eq, length, option_copied, IfOk};
 ghost use Rattle.std.specs.List.{list_any};
 ghost use Rattle.tb_web.specs.Hosts as spec;
 
@@ -10,8 +10,8 @@ use http::{Request, header};
 use std::alloc::{AllocError, Global};
 
 /// Whether a name is one of these.
-pub(crate) fn is_among(hosts: &[Vec<u8>], name: &[u8]) -> bool
-    ensures { result ≡ list_any (λ host. bytes_eq host.items name.now) hosts.now }
+pub(crate) fn is_among(hosts: &Vec<Vec<u8>>, name: &[u8]) -> bool
+    ensures { result ≡ list_any (λ host. bytes_eq host.items name.now) hosts.now.items }
 {
     hosts.iter().any(|host| host.as_slice() == name)
 }
@@ -36,11 +36,19 @@ fn host_of(request: &Request<Bytes>) -> Option<&[u8]>
     }
 }
 
+// How many bytes come before a port.
+fn port_at(text: &[u8]) -> usize
+    ensures value { result ≡ spec.port_at text.now }
+    ensures within { result ≤ length text.now }
+{
+    text.iter().take_while(|b| **b != b':').count()
+}
+
 fn without_port(text: &[u8]) -> &[u8]
     ensures { result.now ≡ spec.without_port text.now }
 {
-    let len = text.iter().take_while(|b| **b != b':').count();
-    &text[..len]
+    let end = port_at(text);
+    &text[..end]
 }
 
 fn without_dot(name: &[u8]) -> &[u8]

@@ -51,7 +51,7 @@ impl Office {
     pub(crate) fn has_host(&self, name: &[u8]) -> bool
         ensures { result ≡ is_one_of self.now.hosts name.now }
     {
-        is_among(self.hosts.as_slice(), name)
+        is_among(&self.hosts, name)
     }
 
     // The page. It copies no byte.

@@ -1,23 +1,17 @@
 // Responses.
 
-ghost use Rattle.std.specs.Prelude.{◌≡◌, ◌++◌, ◌∷◌, [], codes, true, false, Some, OnOk, IfOk, List, ℕ};
+ghost use Rattle.std.specs.Prelude.{◌≡◌, ◌≤◌, ◌++◌, ◌∷◌, [], codes, true, false, Some, OnOk, IfOk, List, ℕ, length};
 ghost use Rattle.http_server.specs.Response.{IsBlank, IsResponse, fields_of};
 ghost use Rattle.tb_io.specs.Taken.{Took};
 ghost use Rattle.tb_web.specs.Answers as spec;
 
-use crate::asked::{About, Form, Other, line_end};
+use crate::asked::{About, Form, Other, begins_with, line_end};
 use crate::office::Office;
 use crate::text::Text;
 use bytes::{Bytes, BytesMut};
 use http::{HeaderName, HeaderValue, StatusCode, header};
 use http_server::Response;
 use std::alloc::{AllocError, Global};
-
-fn begins_with(text: &[u8], front: &[u8]) -> bool
-    ensures { result ≡ spec.begins_with front.now text.now }
-{
-    text.starts_with(front)
-}
 
 // Leaves nothing but a status, for want of memory.
 fn give_up(response: &mut Response)
@@ -123,17 +117,28 @@ fn release_of(alloc: Global, text: &[u8]) -> Result<HeaderValue, AllocError>
     }
 }
 
-// The lines of a table without the first and the dot.
-fn csv_of(mut text: BytesMut) -> Result<Bytes, AllocError>
+// What stands behind a table's first line.
+fn behind_release(mut text: BytesMut) -> Result<Bytes, AllocError>
     requires { spec.is_table text.items ≡ true }
-    ensures { IfOk result (λ csv. csv ≡ spec.csv_of text.items) }
+    ensures rest { IfOk result (λ rest. rest ≡ spec.behind_release text.items) }
+    ensures long { IfOk result (λ rest. 2 ≤ length rest) }
 {
     let front = line_end(&text.as_slice()[8..]) + 9;
     let len = text.len();
     let mut rest = text.freeze_to(len)?;
     let _first_line = rest.split_to(front)?;
+    Ok(rest)
+}
+
+// The lines of a table without the first and the dot.
+fn csv_of(text: BytesMut) -> Result<Bytes, AllocError>
+    requires { spec.is_table text.items ≡ true }
+    ensures { IfOk result (λ csv. csv ≡ spec.csv_of text.items) }
+{
+    let mut rest = behind_release(text)?;
     let count = rest.len() - 2;
-    rest.split_to(count)
+    let csv = rest.split_to(count)?;
+    Ok(csv)
 }
 
 fn tell_table(

@@ -4,8 +4,8 @@ ghost use Rattle.std.specs.Prelude.{◌≡◌, IfOk, string_bytes};
 ghost use Rattle.serde_json.specs.View.{view};
 ghost use Rattle.tb_catalogue.specs.Catalogues.{catalogue_data, catalogue_text, limits_data};
 
-use crate::recodes::recodes;
-use crate::variables::variables;
+use crate::recodes::recode_list;
+use crate::variables::variable_list;
 use serde_json::{Value, json};
 use std::alloc::{AllocError, Global};
 use tb_base::Memory;
@@ -34,8 +34,8 @@ fn value(
     let keys = schema.keys().size();
     let persons = schema.persons();
     let limits = limits(alloc)?;
-    let recodes = recodes(alloc, schema)?;
-    let variables = variables(alloc, schema)?;
+    let recodes = recode_list(alloc, schema)?;
+    let variables = variable_list(alloc, schema)?;
     json!(in alloc; {
         "dwellings": dwellings,
         "keys": keys,

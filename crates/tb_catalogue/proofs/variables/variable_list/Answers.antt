@@ -2,7 +2,7 @@ use Rattle.std.proofs.Common.{map}
 use Rattle.serde_json.specs.View.{view}
 use Rattle.tb_catalogue.specs.Catalogues.{variable_data}
 use Rattle.tb_catalogue.proofs.OneMore.{one_more}
-use Rattle.tb_catalogue.proofs.variables.variables.Goals as goal
+use Rattle.tb_catalogue.proofs.variables.variable_list.Goals as goal
 
 pub loop-v-preserved : goal.loop-v-preserved
 loop-v-preserved c =

@@ -2,7 +2,7 @@ use Rattle.std.proofs.Common.{map}
 use Rattle.serde_json.specs.View.{view}
 use Rattle.tb_catalogue.specs.Catalogues.{recode_data}
 use Rattle.tb_catalogue.proofs.OneMore.{one_more}
-use Rattle.tb_catalogue.proofs.recodes.recodes.Goals as goal
+use Rattle.tb_catalogue.proofs.recodes.recode_list.Goals as goal
 
 pub loop-r-preserved : goal.loop-r-preserved
 loop-r-preserved c =
