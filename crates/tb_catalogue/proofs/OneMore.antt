@@ -1,10 +1,11 @@
 -- What one value more makes of a list.
 use Rattle.std.proofs.Common.{◌≡◌, ◌∙◌, ◌++◌, ◌∷◌, ◌+◌, ℕ, Bool, true, false, List, [], ap, sym, map, refl, if◌then◌else◌, append-nil, arith}
-use Rattle.std.proofs.lemmas.Grind.{filter-append, map-append}
+use Rattle.std.proofs.lemmas.List.Elements.{filter-append}
 use Rattle.std.proofs.lemmas.List.FromFn.{map-range_with_len_more}
 use Rattle.std.specs.List.{filter, range_with_len}
 use Rattle.serde_json.specs.Data.{Data}
-use Rattle.tb_catalogue.specs.Catalogues.{data_below}
+use Rattle.tb_model.specs.Schemas.{SchemaValue}
+use Rattle.tb_catalogue.specs.Catalogues.{code_data, codes_below, data_below, is_in_group}
 
 -- the values of the numbers below k, and that of k
 pub one_more : (data_of : ℕ → Data) (k : ℕ) (old new : List Data) → old ≡ data_below data_of k
@@ -13,33 +14,41 @@ one_more data_of k old new so_far grown =
     grown ∙ ap (λ ds. ds ++ data_of k ∷ []) so_far
     ∙ sym (map-range_with_len_more data_of 0 k k (omega arith))
 
+map_same : (ns : List ℕ) → map (λ n. n) ns ≡ ns
+map_same [] = refl
+map_same (n ∷ ns) = ap (λ ms. n ∷ ms) (map_same ns)
+
+-- what is made of some and of others, one after the other
+map-append : {X Y : Type 0} (f : X → Y) (xs ys : List X) → map f (xs ++ ys) ≡ map f xs ++ map f ys
+map-append f [] ys = refl
+map-append f (x ∷ xs) ys = ap (λ zs. f x ∷ zs) (map-append f xs ys)
+
 -- the numbers below k, and k
 range_more : (k : ℕ) → range_with_len 0 (k + 1) ≡ range_with_len 0 k ++ k ∷ []
-range_more k = sym (map_same (range_with_len 0 (k + 1))) ∙ map-range_with_len_more (λ n. n) 0 k k (omega arith)
+range_more k =
+    sym (map_same (range_with_len 0 (k + 1))) ∙ map-range_with_len_more (λ n. n) 0 k k (omega arith)
     ∙ ap (λ ns. ns ++ k ∷ []) (map_same (range_with_len 0 k))
-  where
-    map_same : (ns : List ℕ) → map (λ n. n) ns ≡ ns
-    map_same [] = refl
-    map_same (n ∷ ns) = ap (λ ms. n ∷ ms) (map_same ns)
 
 last_kept : (is : ℕ → Bool) (k : ℕ) (b : Bool) → is k ≡ b → filter is (k ∷ []) ≡ (if b then k ∷ [] else [])
 last_kept is k true h = rw h refl
 last_kept is k false h = rw h refl
 
--- the values of the numbers below k that pass, and of k, which does
-pub one_more_kept : (data_of : ℕ → Data) (is : ℕ → Bool) (k : ℕ) → is k ≡ true
-    → map data_of (filter is (range_with_len 0 (k + 1))) ≡ map data_of (filter is (range_with_len 0 k)) ++ data_of k ∷ []
-one_more_kept data_of is k passes =
-    ap (λ ns. map data_of (filter is ns)) (range_more k)
-    ∙ ap (map data_of) (filter-append is (range_with_len 0 k) (k ∷ []))
-    ∙ map-append data_of (filter is (range_with_len 0 k)) (filter is (k ∷ []))
-    ∙ ap (λ ns. map data_of (filter is (range_with_len 0 k)) ++ map data_of ns) (last_kept is k true passes)
+-- the codes of the categories below c in a group, and that of c, which is in it
+pub code_added : (schema : SchemaValue) (r g c : ℕ) → is_in_group schema r g c ≡ true
+    → codes_below schema r g (c + 1) ≡ codes_below schema r g c ++ code_data schema r c ∷ []
+code_added schema r g c passes =
+    let is = is_in_group schema r g in
+    ap (λ ns. map (code_data schema r) (filter is ns)) (range_more c)
+    ∙ ap (map (code_data schema r)) (filter-append is (range_with_len 0 c) (c ∷ []))
+    ∙ map-append (code_data schema r) (filter is (range_with_len 0 c)) (filter is (c ∷ []))
+    ∙ ap (λ ns. map (code_data schema r) (filter is (range_with_len 0 c)) ++ map (code_data schema r) ns) (last_kept is c true passes)
 
--- where k doesn't pass
-pub one_more_left : (data_of : ℕ → Data) (is : ℕ → Bool) (k : ℕ) → is k ≡ false
-    → map data_of (filter is (range_with_len 0 (k + 1))) ≡ map data_of (filter is (range_with_len 0 k))
-one_more_left data_of is k fails =
-    ap (λ ns. map data_of (filter is ns)) (range_more k)
-    ∙ ap (map data_of) (filter-append is (range_with_len 0 k) (k ∷ []))
-    ∙ ap (λ ns. map data_of (filter is (range_with_len 0 k) ++ ns)) (last_kept is k false fails)
-    ∙ ap (map data_of) (append-nil (filter is (range_with_len 0 k)))
+-- where c isn't
+pub code_left : (schema : SchemaValue) (r g c : ℕ) → is_in_group schema r g c ≡ false
+    → codes_below schema r g (c + 1) ≡ codes_below schema r g c
+code_left schema r g c fails =
+    let is = is_in_group schema r g in
+    ap (λ ns. map (code_data schema r) (filter is ns)) (range_more c)
+    ∙ ap (map (code_data schema r)) (filter-append is (range_with_len 0 c) (c ∷ []))
+    ∙ ap (λ ns. map (code_data schema r) (filter is (range_with_len 0 c) ++ ns)) (last_kept is c false fails)
+    ∙ ap (map (code_data schema r)) (append-nil (filter is (range_with_len 0 c)))

@@ -1,6 +1,6 @@
 // The recodes of a catalogue.
 
-ghost use Rattle.std.specs.Prelude.{◌≡◌, ◌<◌, ◌∷◌, [], ◌++◌, map, IfOk, OnOk};
+ghost use Rattle.std.specs.Prelude.{◌≡◌, ◌<◌, ◌+◌, ◌∷◌, [], ◌++◌, map, IfOk, OnOk};
 ghost use Rattle.serde_json.specs.View.{view};
 ghost use Rattle.tb_catalogue.specs.Catalogues.{code_data, codes_below, group_codes, group_data};
 ghost use Rattle.tb_catalogue.specs.Catalogues.{groups_data, recode_data, recodes_data, variable_of};
@@ -32,6 +32,7 @@ fn add_code(
 }
 
 // Adds the code of a category, where it is in a group.
+#[tactic(auto, using(crate::proofs::OneMore::code_added, crate::proofs::OneMore::code_left))]
 fn add_code_if(
     alloc: Global,
     list: &mut Vec<Value>,
