@@ -1,4 +1,5 @@
 -- What one value more makes of a list.
+use mathlib.Core.List.{map-append, map-id}
 use Rattle.std.proofs.Common.{◌≡◌, ◌∙◌, ◌++◌, ◌∷◌, ◌+◌, ℕ, Bool, true, false, List, [], ap, sym, map, refl, if◌then◌else◌, append-nil, arith}
 use Rattle.std.proofs.lemmas.List.Elements.{filter-append}
 use Rattle.std.proofs.lemmas.List.FromFn.{map-range_with_len_more}
@@ -14,20 +15,11 @@ one_more data_of k old new so_far grown =
     grown ∙ ap (λ ds. ds ++ data_of k ∷ []) so_far
     ∙ sym (map-range_with_len_more data_of 0 k k (omega arith))
 
-map_same : (ns : List ℕ) → map (λ n. n) ns ≡ ns
-map_same [] = refl
-map_same (n ∷ ns) = ap (λ ms. n ∷ ms) (map_same ns)
-
--- what is made of some and of others, one after the other
-map-append : {X Y : Type 0} (f : X → Y) (xs ys : List X) → map f (xs ++ ys) ≡ map f xs ++ map f ys
-map-append f [] ys = refl
-map-append f (x ∷ xs) ys = ap (λ zs. f x ∷ zs) (map-append f xs ys)
-
 -- the numbers below k, and k
 range_more : (k : ℕ) → range_with_len 0 (k + 1) ≡ range_with_len 0 k ++ k ∷ []
 range_more k =
-    sym (map_same (range_with_len 0 (k + 1))) ∙ map-range_with_len_more (λ n. n) 0 k k (omega arith)
-    ∙ ap (λ ns. ns ++ k ∷ []) (map_same (range_with_len 0 k))
+    sym (map-id (range_with_len 0 (k + 1))) ∙ map-range_with_len_more (λ n. n) 0 k k (omega arith)
+    ∙ ap (λ ns. ns ++ k ∷ []) (map-id (range_with_len 0 k))
 
 last_kept : (is : ℕ → Bool) (k : ℕ) (b : Bool) → is k ≡ b → filter is (k ∷ []) ≡ (if b then k ∷ [] else [])
 last_kept is k true h = rw h refl
