@@ -1,7 +1,7 @@
 // Requests that ask for nothing: the request, the status, and the fields before those of every
 // response. None has a body.
 
-use super::routes::{Row, wrong_row};
+use super::routes::{Row, is_row};
 use super::talking::{PIECES, ROOM, talk_by};
 use std::test::Fail;
 use tb_web::TalkEnd;
@@ -10,168 +10,175 @@ const READING: &str = "allow: GET, HEAD\r\n";
 
 const ASKING: &str = "allow: GET, HEAD, POST\r\n";
 
-const fn refused(request: &'static str, status: &'static str, fields: &'static str) -> Row {
-    Row {
-        request,
-        status,
-        fields,
-        len: "0",
-        body: "",
-    }
-}
-
-static ROWS: [Row; 27] = [
+static ROWS: [(&'static str, &'static str, &'static str); 27] = [
     // No line.
-    refused(
+    (
         "GET /ask HTTP/1.1\r\nHost: localhost\r\n\r\n",
         "400 Bad Request",
         "",
     ),
-    refused(
+    (
         "GET /ask? HTTP/1.1\r\nHost: localhost\r\n\r\n",
         "400 Bad Request",
         "",
     ),
-    refused(
+    (
         "GET /ask?line= HTTP/1.1\r\nHost: localhost\r\n\r\n",
         "400 Bad Request",
         "",
     ),
-    refused(
+    (
         "GET /table.csv HTTP/1.1\r\nHost: localhost\r\n\r\n",
         "400 Bad Request",
         "",
     ),
-    refused(
+    (
         "POST /ask HTTP/1.1\r\nHost: localhost\r\nContent-Length: 0\r\n\r\n",
         "400 Bad Request",
         "",
     ),
     // Another field, or the field twice.
-    refused(
+    (
         "GET /ask?x=1 HTTP/1.1\r\nHost: localhost\r\n\r\n",
         "400 Bad Request",
         "",
     ),
-    refused(
+    (
         "GET /ask?line=a&x=1 HTTP/1.1\r\nHost: localhost\r\n\r\n",
         "400 Bad Request",
         "",
     ),
-    refused(
+    (
         "GET /ask?x=1&line=a HTTP/1.1\r\nHost: localhost\r\n\r\n",
         "400 Bad Request",
         "",
     ),
-    refused(
+    (
         "GET /ask?line=a&line=a HTTP/1.1\r\nHost: localhost\r\n\r\n",
         "400 Bad Request",
         "",
     ),
-    refused(
+    (
         "GET /table.csv?line=a HTTP/1.1\r\nHost: localhost\r\n\r\n",
         "400 Bad Request",
         "",
     ),
     // A `%` without two digits.
-    refused(
+    (
         "GET /ask?line=a% HTTP/1.1\r\nHost: localhost\r\n\r\n",
         "400 Bad Request",
         "",
     ),
-    refused(
+    (
         "GET /ask?line=a%4 HTTP/1.1\r\nHost: localhost\r\n\r\n",
         "400 Bad Request",
         "",
     ),
-    refused(
+    (
         "GET /ask?line=a%4g HTTP/1.1\r\nHost: localhost\r\n\r\n",
         "400 Bad Request",
         "",
     ),
     // Several lines.
-    refused(
+    (
         "GET /ask?line=a%0Ab HTTP/1.1\r\nHost: localhost\r\n\r\n",
         "400 Bad Request",
         "",
     ),
-    refused(
+    (
         "GET /ask?line=%0A%0A HTTP/1.1\r\nHost: localhost\r\n\r\n",
         "400 Bad Request",
         "",
     ),
-    refused(
+    (
         "POST /ask HTTP/1.1\r\nHost: localhost\r\nContent-Length: 3\r\n\r\na\nb",
         "400 Bad Request",
         "",
     ),
     // Another method.
-    refused(
+    (
         "PUT /ask HTTP/1.1\r\nHost: localhost\r\nContent-Length: 1\r\n\r\na",
         "405 Method Not Allowed",
         ASKING,
     ),
-    refused(
+    (
         "OPTIONS /ask HTTP/1.1\r\nHost: localhost\r\n\r\n",
         "405 Method Not Allowed",
         ASKING,
     ),
-    refused(
+    (
         "POST / HTTP/1.1\r\nHost: localhost\r\nContent-Length: 1\r\n\r\na",
         "405 Method Not Allowed",
         READING,
     ),
-    refused(
+    (
         "POST /table.csv HTTP/1.1\r\nHost: localhost\r\nContent-Length: 1\r\n\r\na",
         "405 Method Not Allowed",
         READING,
     ),
-    refused(
+    (
         "DELETE /metrics HTTP/1.1\r\nHost: localhost\r\n\r\n",
         "405 Method Not Allowed",
         READING,
     ),
     // Another path.
-    refused(
+    (
         "GET /other HTTP/1.1\r\nHost: localhost\r\n\r\n",
         "404 Not Found",
         "",
     ),
-    refused(
+    (
         "PUT /ask/ HTTP/1.1\r\nHost: localhost\r\n\r\n",
         "404 Not Found",
         "",
     ),
     // Another host, before the path, the method and the line are looked at.
-    refused(
+    (
         "GET /ask?line=a HTTP/1.1\r\nHost: evil.example\r\n\r\n",
         "421 Misdirected Request",
         "",
     ),
-    refused(
+    (
         "PUT /other HTTP/1.1\r\nHost: evil.example:47312\r\n\r\n",
         "421 Misdirected Request",
         "",
     ),
-    refused(
+    (
         "GET / HTTP/1.1\r\nHost: tables.example.evil\r\n\r\n",
         "421 Misdirected Request",
         "",
     ),
-    refused(
+    (
         "GET http://evil.example/ HTTP/1.1\r\nHost: localhost\r\n\r\n",
         "421 Misdirected Request",
         "",
     ),
 ];
 
-fn rows() -> &'static [Row] {
+fn rows() -> &'static [(&'static str, &'static str, &'static str)] {
     &ROWS
+}
+
+// The place of the first row that is wrong.
+fn wrong_row(rt: &HostRuntime) -> Result<Option<usize>, Fail> {
+    for (i, (request, status, fields)) in rows().iter().enumerate() {
+        let row = Row {
+            request,
+            status,
+            fields,
+            len: "0",
+            body: "",
+        };
+        if !is_row(rt, &row)? {
+            return Ok(Some(i));
+        }
+    }
+    Ok(None)
 }
 
 #[test]
 fn requests_that_ask_for_nothing_are_refused(rt: HostRuntime) -> Result<(), Fail> {
-    assert_eq!(rt; wrong_row(&rt, rows())?, None);
+    assert_eq!(rt; wrong_row(&rt)?, None);
     Ok(())
 }
 

@@ -193,11 +193,16 @@ pub fn response_of(rt: &HostRuntime, row: &Row) -> Result<String, AllocError> {
     Ok(text)
 }
 
-/// The place of the first row that is wrong.
-pub fn wrong_row(rt: &HostRuntime, rows: &[Row]) -> Result<Option<usize>, Fail> {
-    for (i, row) in rows.iter().enumerate() {
-        let text = response_of(rt, row)?;
-        if !is_told(rt, row.request.as_bytes(), text.as_bytes())? {
+/// Whether the request of a row gets its response, in pieces of each size.
+pub fn is_row(rt: &HostRuntime, row: &Row) -> Result<bool, Fail> {
+    let text = response_of(rt, row)?;
+    is_told(rt, row.request.as_bytes(), text.as_bytes())
+}
+
+// The place of the first row that is wrong.
+fn wrong_row(rt: &HostRuntime) -> Result<Option<usize>, Fail> {
+    for (i, row) in rows().iter().enumerate() {
+        if !is_row(rt, row)? {
             return Ok(Some(i));
         }
     }
@@ -206,6 +211,6 @@ pub fn wrong_row(rt: &HostRuntime, rows: &[Row]) -> Result<Option<usize>, Fail> 
 
 #[test]
 fn each_route_has_its_response(rt: HostRuntime) -> Result<(), Fail> {
-    assert_eq!(rt; wrong_row(&rt, rows())?, None);
+    assert_eq!(rt; wrong_row(&rt)?, None);
     Ok(())
 }
